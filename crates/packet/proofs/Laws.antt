@@ -1,0 +1,20 @@
+-- A built packet holds bytes, and a refused builder leaves the buffer as it stood.
+use Prim.Native.Nat.{ℕ, _<_, _≤_}
+use mathlib.Core.List.{List, [], _∷_}
+use native.Mathlib.Omega.{arith}
+use lib.Dec.{ltb}
+use lib.ListN.{length}
+use Rattle.wire.specs.Buffer.{refused, place}
+use Rattle.wire.specs.Change.{AllBytes}
+use Rattle.wire.specs.declared.refusal.Refusal.the-variants.{Range}
+use Rattle.packet.specs.Build.{headOf, packetOf, buildOf}
+use Rattle.wire.proofs.Bytes.{with-sum-bytes}
+use Rattle.wire.proofs.Refusals.{Spares, place-spares, test-spares}
+
+pub packet-bytes : (a c : ℕ) (d : List ℕ) → a < 256 → c < 16 → length d ≤ 15 → AllBytes d → AllBytes (packetOf a c d)
+packet-bytes a c d ha hc hn h = (omega arith, with-sum-bytes (a ∷ headOf c d ∷ d) (ha, (omega arith, h)))
+
+pub build-spares : (a c : ℕ) (d out : List ℕ) → Spares out (buildOf a c d out)
+unfolding buildOf
+build-spares a c d out =
+    test-spares (ltb 15 (length d)) Range out _ (test-spares (ltb 15 c) Range out _ (place-spares (packetOf a c d) out))

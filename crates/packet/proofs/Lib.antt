@@ -1,0 +1,4 @@
+pub mod Packets
+pub mod Laws
+pub mod Examples
+pub mod Unique

@@ -1,0 +1,42 @@
+-- The part that is cut off is `count` bytes from the fourth on, or as many as there are.
+use borrow.Author.Needs.{needs}
+use native.Mathlib.Omega.{arith}
+use native.Mathlib.Nat.{add-sub-cancel-left}
+use Prim.Native.Nat.{ℕ, _+_, _-_, _<_, _≤_}
+use mathlib.Core.Path.{_≡_, refl, sym, ap, _∙_}
+use mathlib.Core.List.{List, []}
+use lib.ListN.{length, take, drop, length-drop, drop-of-length-le}
+use lib.Seq.{take-all, take-nil}
+use Rattle.packet.specs.Packet.{countOf, dataOf}
+use Rattle.packet.proofs.data_part.Statement.{statement}
+use Rattle.packet.proofs.data_part.Tie as tie
+
+none : (s : List ℕ) → length s < 3 → [] ≡ dataOf s
+unfolding dataOf
+none s h = sym (ap (take (countOf s)) (drop-of-length-le s {i = 3} (omega arith)) ∙ take-nil (countOf s))
+
+cut : (s : List ℕ) → length s < 3 + countOf s → take (length s - 3) (drop 3 s) ≡ dataOf s
+unfolding dataOf
+cut s h = take-all (length s - 3) (drop 3 s) (omega (arith, length-drop 3 s)) ∙ sym (take-all (countOf s) (drop 3 s) (omega (arith, length-drop 3 s)))
+
+whole : (s : List ℕ) → take (3 + countOf s - 3) (drop 3 s) ≡ dataOf s
+unfolding dataOf
+whole s = rw add-sub-cancel-left
+
+pub data-part-spec : {M : Type 1} → statement M
+data-part-spec =
+    tie.close
+    (tie.spec
+    (λ c. search needs)
+    (λ c. search none)
+    (λ c. search needs)
+    (λ c. omega (arith, c .shared-slice-known .given 2))
+    (λ c. omega (arith, c .shared-slice-known .given 2))
+    (λ c. search needs)
+    (λ c. search needs)
+    (λ c. search needs)
+    (λ c. search cut)
+    (λ c. search needs)
+    (λ c. search needs)
+    (λ c. search needs)
+    (λ c. search whole))

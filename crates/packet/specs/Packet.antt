@@ -1,0 +1,54 @@
+-- Document 01, "Packets": reading one whole command packet.
+use Prim.Native.Nat.{ℕ, _+_, _/_, _%_}
+use mathlib.Core.Bool.{Bool, not, cond}
+use mathlib.Core.List.{List}
+use lib.ListN.{length, getD, take, drop}
+use lib.Dec.{ltb, eqb}
+use Rattle.wire.specs.Numbers.{done, numberOf}
+use Rattle.wire.specs.Sum.{endsInSum}
+use Rattle.wire.specs.Address.{addressOf}
+use Rattle.wire.specs.declared.refusal.Refusal.the-variants.{Short, Header, Long, Sum}
+use Rattle.packet.specs.declared.Framed.{Framed}
+use Rattle.packet.specs.declared.Framed.the-variants.{Whole, Refused}
+
+-- "The low nibble of the command byte is the command, the high nibble the number of data bytes"
+abbrev pub commandOf : List ℕ → ℕ
+commandOf s = getD s 2 0 % 16
+
+abbrev pub countOf : List ℕ → ℕ
+countOf s = getD s 2 0 / 16
+
+-- the parts that a packet's bytes name
+abbrev pub partsOf : List ℕ → Framed
+partsOf s = Whole (addressOf (getD s 1 0)) (commandOf s) (countOf s)
+
+-- "the data bytes as the part of the input that starts at its fourth byte"
+unfoldable pub dataOf : List ℕ → List ℕ
+dataOf s = take (countOf s) (drop 3 s)
+
+-- "empty, 1; first byte not 0xAA, 2; fewer than 4 bytes or fewer than 4 + count, 1; more, 3"
+unfoldable pub frameOf : List ℕ → Framed
+frameOf s =
+    cond (ltb (length s) 1) (Refused Short)
+    (cond (not (eqb (getD s 0 0) 0xAA)) (Refused Header)
+    (cond (ltb (length s) 4) (Refused Short)
+    (cond (ltb (length s) (4 + countOf s)) (Refused Short)
+    (cond (ltb (4 + countOf s) (length s)) (Refused Long)
+    (partsOf s)))))
+
+-- the sum is right; "the header isn't in it"
+unfoldable pub intactOf : List ℕ → Bool
+intactOf s = endsInSum (drop 1 s)
+
+-- "sum, 4", the last of the checks
+abbrev pub checked : List ℕ → Framed → Framed
+checked s (Whole a c n) = cond (intactOf s) (Whole a c n) (Refused Sum)
+checked s (Refused why) = Refused why
+
+unfoldable pub readOf : List ℕ → Framed
+readOf s = checked s (frameOf s)
+
+-- the number of what reading finds
+abbrev pub framedNumber : Framed → ℕ
+framedNumber (Whole a c n) = done
+framedNumber (Refused why) = numberOf why

@@ -1,0 +1,135 @@
+// Command packets: 0xAA; address; command byte; 0 to 15 data bytes; sum.
+use wire::Address;
+use wire::Built;
+use wire::Refusal;
+ghost use mathlib.Core.Path.{_≡_};
+ghost use mathlib.Core.List.{_++_};
+ghost use lib.ListN.{length, drop};
+ghost use Prim.Native.Nat.{_+_, _≤_};
+ghost use Rattle.wire.specs.Promise.{Promise, Lending};
+ghost use Rattle.packet.specs.Packet.{frameOf, framedNumber, intactOf, readOf, dataOf};
+ghost use Rattle.wire.specs.Buffer.{builtNumber};
+ghost use Rattle.packet.specs.Build.{packetWith, buildOf};
+
+// The first byte of every command packet.
+const HEADER: u8 = 0xAA;
+
+// What reading a command packet finds: its parts, or the refusal. The data bytes are `data_part`.
+pub enum Framed {
+    Whole {
+        address: Address,
+        command: u8,
+        count: usize,
+    },
+    Refused(Refusal),
+}
+
+// One whole command packet, whatever its sum: the chain takes a wrong sum too.
+pub fn frame(s: &[u8]) -> Framed
+    ensures { λ r. ⌜ Promise framedNumber r (frameOf (now (s .entry))) ⌝ }
+{
+    if s.len() < 1 {
+        return Framed::Refused(Refusal::Short);
+    }
+    if s[0] != HEADER {
+        return Framed::Refused(Refusal::Header);
+    }
+    if s.len() < 4 {
+        return Framed::Refused(Refusal::Short);
+    }
+    let head = s[2];
+    let count = (head / 16) as usize;
+    if s.len() < 4 + count {
+        return Framed::Refused(Refusal::Short);
+    }
+    if 4 + count < s.len() {
+        return Framed::Refused(Refusal::Long);
+    }
+    Framed::Whole {
+        address: Address::of(s[1]),
+        command: head % 16,
+        count,
+    }
+}
+
+// Whether a packet's sum is right: the header isn't in it.
+pub fn is_intact(s: &[u8]) -> bool
+    ensures { λ r. ⌜ r ≡ intactOf (now (s .entry)) ⌝ }
+{
+    if s.len() < 1 {
+        return false;
+    }
+    wire::ends_in_sum(&s[1..])
+}
+
+// One whole command packet with a right sum.
+pub fn read(s: &[u8]) -> Framed
+    ensures { λ r. ⌜ Promise framedNumber r (readOf (now (s .entry))) ⌝ }
+{
+    match frame(s) {
+        Framed::Whole {
+            address,
+            command,
+            count,
+        } => {
+            if is_intact(s) {
+                Framed::Whole {
+                    address,
+                    command,
+                    count,
+                }
+            } else {
+                Framed::Refused(Refusal::Sum)
+            }
+        }
+        Framed::Refused(why) => Framed::Refused(why),
+    }
+}
+
+// The data bytes of a packet: the part of the input that starts at its fourth byte.
+pub fn data_part(s: &[u8]) -> &[u8]
+    ensures { λ r. ⌜ now r ≡ dataOf (now (s .entry)) ⌝ }
+{
+    if s.len() < 3 {
+        return &s[..0];
+    }
+    let end = 3 + (s[2] / 16) as usize;
+    if s.len() < end {
+        return &s[3..];
+    }
+    &s[3..end]
+}
+
+// Writes a packet that fits.
+fn lay(address: u8, head: u8, bytes: &[u8], out: &mut [u8])
+    requires { ⌜ 4 + length (now bytes) ≤ length (now out) ⌝ }
+    ensures { λ _. ⌜ now (out .exit) ≡ packetWith address head (now (bytes .entry)) ++ drop (4 + length (now (bytes .entry))) (now (out .entry)) ⌝ }
+{
+    let end = 3 + bytes.len();
+    let start = std::num::wrapping_add_u8(address, head);
+    let total = std::num::wrapping_add_u8(start, wire::sum(bytes));
+    out[0] = HEADER;
+    out[1] = address;
+    out[2] = head;
+    wire::put(out, 3, bytes);
+    out[end] = total;
+}
+
+// Builds a command packet at the start of `out`, whose rest stays. Any address byte is taken; 6 comes before 5.
+pub fn build(address: u8, command: u8, bytes: &[u8], out: &mut [u8]) -> Built
+    ensures { λ r. ⌜ Lending builtNumber r (now (out .exit)) (buildOf address command (now (bytes .entry)) (now (out .entry))) ⌝ }
+{
+    let n = bytes.len();
+    if 15 < n {
+        return Built::Refused(Refusal::Range);
+    }
+    if 15 < command {
+        return Built::Refused(Refusal::Range);
+    }
+    if out.len() < 4 + n {
+        return Built::Refused(Refusal::Room);
+    }
+    let head = command + (n as u8) * 16;
+    lay(address, head, bytes, out);
+    Built::Bytes(4 + n)
+}

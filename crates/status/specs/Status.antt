@@ -1,0 +1,57 @@
+-- Document 01, "Packets": status packets, and the host's judgement of a reply.
+use Prim.Native.Nat.{ℕ, _+_, _-_, _/_, _%_}
+use mathlib.Core.Bool.{cond}
+use mathlib.Core.List.{List, _∷_}
+use lib.ListN.{length, getD, take, drop}
+use lib.Dec.{ltb, eqb}
+use Rattle.wire.specs.Promise.{Outcome}
+use Rattle.wire.specs.Numbers.{done, numberOf}
+use Rattle.wire.specs.Sum.{withSum, endsInSum}
+use Rattle.wire.specs.Buffer.{place}
+use Rattle.wire.specs.declared.refusal.Refusal.the-variants.{Short, Long, Sum}
+use Rattle.wire.specs.declared.buffer.Built.{Built}
+use Rattle.status.specs.declared.Status.{Status}
+use Rattle.status.specs.declared.Status.the-variants.{Whole, Refused}
+use Rattle.status.specs.declared.Answer.{Answer}
+use Rattle.status.specs.declared.Answer.the-variants.{Clear, Marked, Silent}
+
+-- "status byte; the items asked for; 8-bit sum of all bytes before it"
+abbrev pub statusPacket : ℕ → List ℕ → List ℕ
+statusPacket b d = withSum (b ∷ d)
+
+-- built at the start of the lent buffer, the rest stays; 5 where there is no room
+unfoldable pub statusBuilt : ℕ → List ℕ → List ℕ → Outcome Built (List ℕ)
+statusBuilt b d out = place (statusPacket b d) out
+
+-- "Reading a status packet under a mask: too short, 1; too long, 3; wrong sum, 4"; k is how many item bytes the mask asks for
+unfoldable pub statusOf : List ℕ → ℕ → Status
+statusOf s k =
+    cond (ltb (length s) (2 + k)) (Refused Short)
+    (cond (ltb (2 + k) (length s)) (Refused Long)
+    (cond (endsInSum s) (Whole (getD s 0 0))
+    (Refused Sum)))
+
+-- the items: all between status byte and sum
+unfoldable pub itemsOf : List ℕ → List ℕ
+itemsOf s = take (length s - 2) (drop 1 s)
+
+-- the number of what reading finds
+abbrev pub statusNumber : Status → ℕ
+statusNumber (Whole b) = done
+statusNumber (Refused why) = numberOf why
+
+-- "Let T be the total of all item counts"
+abbrev pub T : ℕ
+T = 17
+
+-- "clear if bit 1 is 0"
+abbrev pub cleared : ℕ → Answer
+cleared b = cond (eqb (b / 2 % 2) 0) Clear Marked
+
+-- "A reply is good if it has 2 to T + 2 bytes and its sum is right"; "All else counts as silence"
+unfoldable pub judged : List ℕ → Answer
+judged s =
+    cond (ltb (length s) 2) Silent
+    (cond (ltb (T + 2) (length s)) Silent
+    (cond (endsInSum s) (cleared (getD s 0 0))
+    Silent))

@@ -1,0 +1,97 @@
+// Status packets: status byte; the items asked for; sum.
+use wire::Built;
+use wire::Refusal;
+ghost use mathlib.Core.Path.{_≡_};
+ghost use Rattle.wire.specs.Promise.{Promise, Lending};
+ghost use Rattle.wire.specs.Buffer.{builtNumber};
+ghost use Rattle.status.specs.Status.{statusOf, statusNumber, itemsOf, statusBuilt, judged};
+
+// The total of all item counts.
+pub const T: usize = 17;
+
+// What reading a status packet finds: its status byte, or the refusal. The items are `items_part`.
+pub enum Status {
+    Whole(u8),
+    Refused(Refusal),
+}
+
+// One whole status packet with so many item bytes.
+pub fn read(s: &[u8], items: usize) -> Status
+    ensures { λ r. ⌜ Promise statusNumber r (statusOf (now (s .entry)) items) ⌝ }
+{
+    if s.len() < 2 {
+        return Status::Refused(Refusal::Short);
+    }
+    let found = s.len() - 2;
+    if found < items {
+        return Status::Refused(Refusal::Short);
+    }
+    if items < found {
+        return Status::Refused(Refusal::Long);
+    }
+    if wire::ends_in_sum(s) {
+        Status::Whole(s[0])
+    } else {
+        Status::Refused(Refusal::Sum)
+    }
+}
+
+// The item bytes of a status packet: all between its status byte and its sum.
+pub fn items_part(s: &[u8]) -> &[u8]
+    ensures { λ r. ⌜ now r ≡ itemsOf (now (s .entry)) ⌝ }
+{
+    if s.len() < 2 {
+        return &s[..0];
+    }
+    let end = s.len() - 1;
+    &s[1..end]
+}
+
+// Builds a status packet at the start of `out`, whose rest stays.
+pub fn build(status: u8, items: &[u8], out: &mut [u8]) -> Built
+    ensures { λ r. ⌜ Lending builtNumber r (now (out .exit)) (statusBuilt status (now (items .entry)) (now (out .entry))) ⌝ }
+{
+    let n = items.len();
+    if out.len() < 2 {
+        return Built::Refused(Refusal::Room);
+    }
+    if out.len() - 2 < n {
+        return Built::Refused(Refusal::Room);
+    }
+    let total = std::num::wrapping_add_u8(status, wire::sum(items));
+    out[0] = status;
+    wire::put(out, 1, items);
+    out[1 + n] = total;
+    Built::Bytes(2 + n)
+}
+
+// How the host takes what it received for a command.
+pub enum Answer {
+    // Good and clear: confirmed.
+    Clear,
+    // Good, and bit 1 says that the command had a wrong sum.
+    Marked,
+    // All else.
+    Silent,
+}
+
+// A reply is good if it has 2 to T + 2 bytes and its sum is right; clear if bit 1 of its status byte is 0.
+pub fn judge(s: &[u8]) -> Answer
+    ensures { λ r. ⌜ r ≡ judged (now (s .entry)) ⌝ }
+{
+    if s.len() < 2 {
+        return Answer::Silent;
+    }
+    if T + 2 < s.len() {
+        return Answer::Silent;
+    }
+    if wire::ends_in_sum(s) {
+        if s[0] / 2 % 2 == 0 {
+            Answer::Clear
+        } else {
+            Answer::Marked
+        }
+    } else {
+        Answer::Silent
+    }
+}

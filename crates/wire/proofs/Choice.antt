@@ -1,0 +1,13 @@
+-- What a choice by a test tells where one of its branches is ruled out.
+use mathlib.Core.Bool.{Bool, true, false, cond}
+use mathlib.Core.Path.{_≡_, refl}
+
+-- the second branch is ruled out: the test held
+pub chose-first : {A : Type 0} (t : Bool) {x y z : A} → cond t x y ≡ z → (y ≡ z → ⊥) → (t ≡ true) × (x ≡ z)
+chose-first true e n = (refl, e)
+chose-first false e n = absurd (n e)
+
+-- the first branch is ruled out: the test failed
+pub chose-second : {A : Type 0} (t : Bool) {x y z : A} → cond t x y ≡ z → (x ≡ z → ⊥) → (t ≡ false) × (y ≡ z)
+chose-second true e n = absurd (n e)
+chose-second false e n = (refl, e)

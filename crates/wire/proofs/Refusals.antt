@@ -1,0 +1,30 @@
+-- Any number but 0 leaves the lent buffer as it stood.
+use mathlib.Core.Bool.{Bool, true, false, cond}
+use mathlib.Core.List.{List}
+use mathlib.Core.Path.{_≡_, refl}
+use Prim.Native.Nat.{ℕ}
+use lib.Dec.{ltb}
+use lib.ListN.{length}
+use Rattle.wire.specs.Promise.{Outcome}
+use Rattle.wire.specs.Numbers.{done}
+use Rattle.wire.specs.Buffer.{written, refused, place, builtNumber}
+use Rattle.wire.specs.declared.refusal.Refusal.{Refusal}
+use Rattle.wire.specs.declared.refusal.Refusal.the-variants.{Room}
+use Rattle.wire.specs.declared.buffer.Built.{Built}
+
+-- o leaves `out` as it stood, unless its number is 0
+abbrev pub Spares : List ℕ → Outcome Built (List ℕ) → Type 0
+Spares out o = (builtNumber (o .answer) ≡ done → ⊥) → o .left ≡ out
+
+chosen : (t : Bool) (p out : List ℕ) → Spares out (cond t (refused Room out) (written p out))
+chosen true p out n = refl
+chosen false p out n = absurd (n refl)
+
+pub place-spares : (p out : List ℕ) → Spares out (place p out)
+unfolding place
+place-spares p out = chosen (ltb (length out) (length p)) p out
+
+-- a refusal by a test that comes before
+pub test-spares : (t : Bool) (why : Refusal) (out : List ℕ) (o : Outcome Built (List ℕ)) → Spares out o → Spares out (cond t (refused why out) o)
+test-spares true why out o h n = refl
+test-spares false why out o h n = h n

@@ -1,0 +1,60 @@
+-- A packet laid out by stores: what `build` and `build_status` leave in the buffer.
+use Prim.Native.Nat.{ℕ, suc, _+_, _≤_, _<_}
+use mathlib.Core.Path.{_≡_, refl, ap, _∙_}
+use mathlib.Core.List.{List, [], _∷_, _++_}
+use native.Mathlib.Omega.{arith}
+use native.Mathlib.Nat.{le-of-suc-le-suc, not-suc-le-zero, zero-add, suc-add}
+use lib.ListN.{length, take, drop, set, length-drop}
+use lib.Seq.{paste, sets, sets-eq, length-sets, length-paste, take-length, drop-drop}
+use borrow.Author.Tests.{lt-ltb, le-ltb}
+use Rattle.wire.specs.Promise.{Lending, lent}
+use Rattle.wire.specs.Buffer.{putAt, place, builtNumber}
+use Rattle.wire.specs.declared.refusal.Refusal.the-variants.{Room}
+use Rattle.wire.specs.declared.buffer.Built.the-variants.{Bytes, Refused}
+
+laid-tail : (d r : List ℕ) (m : ℕ) → length d < length r
+    → set (take (length d) d ++ drop (length d) r) (length d) m ≡ (d ++ (m ∷ [])) ++ drop (suc (length d)) r
+laid-tail [] [] m h = absurd (not-suc-le-zero h)
+laid-tail [] (x ∷ r) m h = refl
+laid-tail (y ∷ d) [] m h = absurd (not-suc-le-zero h)
+laid-tail (y ∷ d) (x ∷ r) m h = ap (λ (l : List ℕ). y ∷ l) (laid-tail d r m (le-of-suc-le-suc h))
+
+laid-behind : (p d r : List ℕ) (m : ℕ) → length d < length r
+    → set (paste (p ++ r) (length p) d (length d)) (length p + length d) m ≡ (p ++ (d ++ (m ∷ []))) ++ drop (suc (length d)) r
+laid-behind [] d r m h = rw zero-add (laid-tail d r m h)
+laid-behind (x ∷ p) d r m h = rw suc-add (ap (λ (l : List ℕ). x ∷ l) (laid-behind p d r m h))
+
+-- d has room, from `at` on
+pub put-fits : (out : List ℕ) (at : ℕ) (d : List ℕ) → at + length d ≤ length out → putAt out at d ≡ paste out at d (length d)
+unfolding putAt
+put-fits out at d h = rw (le-ltb (length out) (at + length d) h, take-length)
+
+-- it has none
+pub put-not : (out : List ℕ) (at : ℕ) (d : List ℕ) → length out < at + length d → out ≡ putAt out at d
+unfolding putAt
+put-not out at d h = rw (lt-ltb (length out) (at + length d) h)
+
+pub length-put : (out : List ℕ) (at : ℕ) (d : List ℕ) → at + length d ≤ length out → length (putAt out at d) ≡ length out
+length-put out at d h = ap length (put-fits out at d h) ∙ length-paste out at d (length d) h (omega arith)
+
+-- p by single stores, d put behind it, and m behind that
+pub laid : (p d out o : List ℕ) (m e : ℕ) → o ≡ putAt (sets out 0 p) (length p) d → e ≡ suc (length p + length d) → e ≤ length out
+    → set o (length p + length d) m ≡ (p ++ (d ++ (m ∷ []))) ++ drop e out
+laid p d out o m e f g k =
+    let w : length p + suc (length d) ≡ e = omega arith in
+    let q : sets out 0 p ≡ p ++ drop (length p) out = rw zero-add at (sets-eq p out 0 (rw zero-add (omega arith))) in
+    let r : putAt (sets out 0 p) (length p) d ≡ paste (sets out 0 p) (length p) d (length d) =
+    put-fits (sets out 0 p) (length p) d (omega (arith, length-sets out 0 p)) in
+    ap (λ (l : List ℕ). set l (length p + length d) m) (f ∙ r ∙ ap (λ (l : List ℕ). paste l (length p) d (length d)) q)
+    ∙ laid-behind p d (drop (length p) out) m (rw length-drop (omega arith))
+    ∙ ap (λ (l : List ℕ). (p ++ (d ++ (m ∷ []))) ++ l) (drop-drop (suc (length d)) (length p) out ∙ ap (λ (n : ℕ). drop n out) w)
+
+-- a packet p that is longer than the buffer
+pub no-room : (p out : List ℕ) → length out < length p → Lending builtNumber (Refused Room) out (place p out)
+unfolding place
+no-room p out h = lent (rw (lt-ltb (length out) (length p) h))
+
+-- a packet p of n bytes that fits, and stands at the start of what is left
+pub has-room : (p out : List ℕ) (n : ℕ) (o : List ℕ) → length p ≡ n → n ≤ length out → o ≡ p ++ drop n out → Lending builtNumber (Bytes n) o (place p out)
+unfolding place
+has-room p out n o e h f = lent (rw (le-ltb (length out) (length p) (omega arith), e, f))

@@ -1,0 +1,44 @@
+-- The invariant: the sum so far is the whole sum of the bytes passed, modulo 256.
+use Prim.Native.Nat.{ℕ, _+_, _≤_, _-_, _%_}
+use native.Mathlib.Omega.{arith}
+use native.Mathlib.Numerals.{add-one}
+use mathlib.Core.Path.{_≡_}
+use borrow.Author.Needs.{needs}
+use lib.ListN.{length, take}
+use lib.Seq.{take-all}
+use Rattle.wire.specs.Sum.{total, sumOf}
+use Rattle.wire.proofs.Sums.{total-take}
+use Rattle.wire.proofs.checksum.sum.Statement.{statement}
+use Rattle.wire.proofs.checksum.sum.Tie as tie
+
+abbrev Inv-loop : tie.InvT-loop
+Inv-loop s r₀ i₀ r i = (i ≤ length s) × (r ≡ sumOf (take i s))
+
+abbrev μ-loop : tie.MeasureT-loop
+μ-loop s r₀ i₀ r i = length s - i
+
+loop-holds : tie.Need-loop-holds Inv-loop μ-loop
+unfolding total
+loop-holds c = search needs
+
+loop-again : tie.Need-loop-again Inv-loop μ-loop
+loop-again c =
+    let b = c .before .before .before in
+    (omega arith, rw add-one (omega (arith, total-take (b .before .before .args .s .now) (b .loop .i) (omega arith))))
+
+returns : tie.Need-returns Inv-loop μ-loop
+returns c = rw (take-all, c .loop-test .left) at (c .before .loop .inv .1)
+
+pub sum-spec : {M : Type 1} → statement M
+sum-spec =
+    tie.close
+    (tie.spec
+    Inv-loop
+    μ-loop
+    loop-holds
+    (λ c. search needs)
+    (λ c κs. search needs)
+    (λ c. search needs)
+    (λ c. search needs)
+    loop-again
+    returns)

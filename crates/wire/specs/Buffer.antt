@@ -1,0 +1,33 @@
+-- Document 01: "A packet sent or built goes to the start of the lent buffer, the rest stays".
+use Prim.Native.Nat.{ℕ, _+_}
+use mathlib.Core.Bool.{cond}
+use mathlib.Core.List.{List, _++_}
+use lib.ListN.{length, take, drop}
+use lib.Dec.{ltb}
+use Rattle.wire.specs.Promise.{Outcome}
+use Rattle.wire.specs.Numbers.{done, numberOf}
+use Rattle.wire.specs.declared.refusal.Refusal.{Refusal}
+use Rattle.wire.specs.declared.refusal.Refusal.the-variants.{Room}
+use Rattle.wire.specs.declared.buffer.Built.{Built}
+use Rattle.wire.specs.declared.buffer.Built.the-variants.{Bytes, Refused}
+
+-- d from `at` on, if all of it has room there; the rest stays
+unfoldable pub putAt : List ℕ → ℕ → List ℕ → List ℕ
+putAt out at d = cond (ltb (length out) (at + length d)) out (take at out ++ d ++ drop (at + length d) out)
+
+-- packet p at the start of the buffer, the rest stays
+abbrev pub written : List ℕ → List ℕ → Outcome Built (List ℕ)
+written p out = record { answer = Bytes (length p); left = p ++ drop (length p) out }
+
+-- a refusal leaves the buffer as it stood
+abbrev pub refused : Refusal → List ℕ → Outcome Built (List ℕ)
+refused why out = record { answer = Refused why; left = out }
+
+-- "output buffer too small", or written
+unfoldable pub place : List ℕ → List ℕ → Outcome Built (List ℕ)
+place p out = cond (ltb (length out) (length p)) (refused Room out) (written p out)
+
+-- the number of what building answers
+abbrev pub builtNumber : Built → ℕ
+builtNumber (Bytes n) = done
+builtNumber (Refused why) = numberOf why

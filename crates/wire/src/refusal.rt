@@ -1,0 +1,58 @@
+// Document 01, "Numbers returned". specs/Numbers.antt has the number of each case.
+ghost use mathlib.Core.Path.{_≡_};
+ghost use Rattle.wire.specs.Numbers.{numberOf};
+
+// Why a call is refused. A refused call changes nothing.
+pub enum Refusal {
+    // Packet short.
+    Short,
+    // No header.
+    Header,
+    // Packet too long.
+    Long,
+    // Wrong sum.
+    Sum,
+    // Output buffer too small.
+    Room,
+    // Argument off its range.
+    Range,
+    // An exchange is open.
+    Busy,
+    // Nothing to report on.
+    Idle,
+    // Walk not ended; "next" or "ask" not due.
+    NotDue,
+    // Node not 1 to n.
+    NoNode,
+    // Leader wish, while another node leads that group or has its place in doubt.
+    Led,
+    // Session closed.
+    Closed,
+}
+
+// A call that is done.
+pub const DONE: u8 = 0;
+
+// Several nodes replied: no refusal, the nodes keep their changes.
+pub const COLLISION: u8 = 13;
+
+impl Refusal {
+    pub fn number(self) -> u8
+        ensures { λ r. ⌜ r ≡ numberOf self ⌝ }
+    {
+        match self {
+            Refusal::Short => 1,
+            Refusal::Header => 2,
+            Refusal::Long => 3,
+            Refusal::Sum => 4,
+            Refusal::Room => 5,
+            Refusal::Range => 6,
+            Refusal::Busy => 7,
+            Refusal::Idle => 8,
+            Refusal::NotDue => 9,
+            Refusal::NoNode => 10,
+            Refusal::Led => 11,
+            Refusal::Closed => 12,
+        }
+    }
+}

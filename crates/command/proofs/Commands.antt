@@ -1,0 +1,149 @@
+-- Commands: a built packet reads back as the same command, an accepted packet is the one built from its parts, a refused builder leaves the buffer as it stood.
+use Prim.Native.Nat.{ℕ, zero, suc, _+_, _%_, _/_, _<_, _≤_}
+use mathlib.Core.Bool.{Bool, true, false, cond, _&&_}
+use mathlib.Core.List.{List, [], _∷_}
+use mathlib.Core.Path.{_≡_, refl, sym, ap, _∙_}
+use native.Mathlib.Omega.{arith}
+use lib.Dec.{ltb, leb}
+use lib.ListN.{length, take, drop, getD}
+use borrow.Author.Tests.{lt-ltb, le-ltb, leb-true}
+use Rattle.wire.specs.Promise.{Outcome}
+use Rattle.wire.specs.Address.{isIndividual, isGroup, inRange, addressOf, byteOf}
+use Rattle.wire.specs.Buffer.{refused, place}
+use Rattle.wire.specs.Change.{AllBytes}
+use Rattle.wire.specs.declared.address.Address.{Address}
+use Rattle.wire.specs.declared.refusal.Refusal.{Refusal}
+use Rattle.wire.specs.declared.refusal.Refusal.the-variants.{Range}
+use Rattle.wire.specs.declared.buffer.Built.{Built}
+use Rattle.wire.proofs.Addresses.{address-back, address-in-range}
+use Rattle.wire.proofs.Refusals.{Spares, place-spares}
+use Rattle.packet.specs.Packet.{readOf, dataOf, countOf}
+use Rattle.packet.specs.Build.{packetOf}
+use Rattle.packet.proofs.Packets as packets
+use Rattle.packet.proofs.Laws as packet
+use Rattle.command.specs.Command.{wordOf, placeOf, rowsOf, readingOf, ReadsAs}
+use Rattle.command.specs.Build.{codeOf, bytesOf, fitsOf, Typed, packetTo, packetFor, buildFor, commandBuilt}
+use Rattle.command.specs.declared.Place.{Place}
+use Rattle.command.specs.declared.Command.{Command}
+use Rattle.command.specs.declared.Command.the-variants.{SetAddress, DefineStatus, ReadStatus, SetPwm, SynchOutput, SetOutputs, SetSynchOutput, SetTimerMode, SynchInput, Nop, HardReset}
+use Rattle.command.specs.declared.Reading.the-variants.{Known}
+use Rattle.command.proofs.Rows.{sized, says}
+
+-- ---- a command's number and data bytes read back as the command
+
+both : (t u : Bool) → (t && u) ≡ true → (t ≡ true) × (u ≡ true)
+both true true e = (refl, refl)
+both true false e = (refl, e)
+both false u e = absurd (let z : _≡_ {A = ℕ} 0 1 = cc in omega arith)
+
+-- the two data bytes of Set Address give the place
+place-back : (a g : ℕ) (l : Bool) → 0x80 ≤ g → g < 256
+    → placeOf a (cond l (g % 0x80) (g % 0x80 + 0x80)) ≡ record { address = record { 0 = a }; group = record { 0 = g }; leader = l }
+place-back a g true h k =
+    let e : g % 0x80 % 0x80 + 0x80 ≡ g = omega arith in
+    rw (e, lt-ltb (g % 0x80) 0x80 (omega arith))
+place-back a g false h k =
+    let e : (g % 0x80 + 0x80) % 0x80 + 0x80 ≡ g = omega arith in
+    rw (e, le-ltb (g % 0x80 + 0x80) 0x80 (omega arith))
+
+word-back : (w : ℕ) → wordOf (w % 256) (w / 256) ≡ w
+word-back w = omega arith
+
+pub read-back : (c : Command) → fitsOf c ≡ true → Typed c → readingOf (codeOf c) (bytesOf c) ≡ Known c
+unfolding readingOf rowsOf
+read-back (SetAddress p) h t =
+    let f = both (isIndividual (p .address .0)) (isGroup (p .group .0)) h in
+    rw (f .0, place-back (p .address .0) (p .group .0) (p .leader) (leb-true 0x80 (p .group .0) (f .1)) t)
+read-back (DefineStatus m) h t = refl
+read-back (ReadStatus m) h t = refl
+read-back (SetPwm w) h t = refl
+read-back SynchOutput h t = refl
+read-back (SetOutputs w) h t = rw (word-back w)
+read-back (SetSynchOutput s) h t = rw (word-back (s .outputs))
+read-back (SetTimerMode m) h t = refl
+read-back SynchInput h t = refl
+read-back Nop h t = refl
+read-back HardReset h t = refl
+
+-- and a command that is read comes from its own number and data bytes, and is of its range
+pub read-from : (k : ℕ) (d : List ℕ) (c : Command) → AllBytes d → readingOf k d ≡ Known c → (codeOf c ≡ k) × (bytesOf c ≡ d) × (fitsOf c ≡ true)
+read-from k d c h e = let s = says k d c e in (s .code, s .bytes h, s .fits)
+
+-- ---- from bytes to bytes
+
+-- a built packet reads back as the same command
+pub built-reads : (a : Address) (c : Command) → inRange a ≡ true → fitsOf c ≡ true → Typed c → ReadsAs (packetFor a c) a c
+built-reads a c h f t =
+    let z = sized c in
+    let small : codeOf c < 16 = omega arith in
+    record {
+      command = codeOf c;
+      count = length (bytesOf c);
+      whole = rw (address-back a h) at (packets.built-reads (byteOf a) (codeOf c) (bytesOf c) small);
+      known = rw (packets.built-data (byteOf a) (codeOf c) (bytesOf c) small) (read-back c f t);
+    }
+
+take-bytes : (n : ℕ) (l : List ℕ) → AllBytes l → AllBytes (take n l)
+take-bytes zero l h = tt
+take-bytes (suc n) [] h = tt
+take-bytes (suc n) (x ∷ l) h = (h .0, take-bytes n l (h .1))
+
+drop-bytes : (n : ℕ) (l : List ℕ) → AllBytes l → AllBytes (drop n l)
+drop-bytes zero l h = h
+drop-bytes (suc n) [] h = tt
+drop-bytes (suc n) (x ∷ l) h = drop-bytes n l (h .1)
+
+-- the data part of bytes holds bytes
+pub data-bytes : (s : List ℕ) → AllBytes s → AllBytes (dataOf s)
+unfolding dataOf
+data-bytes s h = take-bytes (countOf s) (drop 3 s) (drop-bytes 3 s h)
+
+-- an accepted packet is the one that we would build from its parts
+pub reads-built : (s : List ℕ) (a : Address) (c : Command) → AllBytes s → ReadsAs s a c → s ≡ packetFor a c
+reads-built s a c h r =
+    let e = read-from (r .command) (dataOf s) c (data-bytes s h) (r .known) in
+    rw (e .0, e .1) (packets.accepted-built s a (r .command) (r .count) (r .whole))
+
+-- whose address and command are of their ranges
+pub reads-in-range : (s : List ℕ) (a : Address) (c : Command) → ReadsAs s a c → (inRange a ≡ true) × (fitsOf c ≡ true)
+reads-in-range s a c r =
+    let f = packets.framing s a (r .command) (r .count) (packets.read-says s a (r .command) (r .count) (r .whole) .0) in
+    (rw (← (f .address)) (address-in-range (getD s 1 0)), says (r .command) (dataOf s) c (r .known) .fits)
+
+-- ---- what building answers
+
+pub built-written : (to : Address) (c : Command) (out : List ℕ) → inRange to ≡ true → fitsOf c ≡ true → commandBuilt to c out ≡ place (packetFor to c) out
+unfolding commandBuilt buildFor
+built-written to c out h f = rw (h, f)
+
+-- 6, whatever the room
+off-range : (t u : Bool) (o r : Outcome Built (List ℕ)) → (t && u) ≡ false → cond t (cond u o r) r ≡ r
+off-range true true o r h = absurd (let z : _≡_ {A = ℕ} 0 1 = cc in omega arith)
+off-range true false o r h = refl
+off-range false u o r h = refl
+
+pub built-refused : (to : Address) (c : Command) (out : List ℕ) → (inRange to && fitsOf c) ≡ false → commandBuilt to c out ≡ refused Range out
+unfolding commandBuilt buildFor
+built-refused to c out h = off-range (inRange to) (fitsOf c) (place (packetFor to c) out) (refused Range out) h
+
+-- any number but 0 leaves the buffer as it stood
+or-spares : (t : Bool) (why : Refusal) (out : List ℕ) (o : Outcome Built (List ℕ)) → Spares out o → Spares out (cond t o (refused why out))
+or-spares true why out o h n = h n
+or-spares false why out o h n = refl
+
+pub command-spares : (to : Address) (c : Command) (out : List ℕ) → Spares out (commandBuilt to c out)
+unfolding commandBuilt buildFor
+command-spares to c out = or-spares (inRange to) Range out _ (or-spares (fitsOf c) Range out _ (place-spares (packetFor to c) out))
+
+-- ---- the packet
+
+pub packet-length : (a : Address) (c : Command) → (4 ≤ length (packetFor a c)) × (length (packetFor a c) ≤ 8)
+packet-length a c =
+    let e = packets.built-length (byteOf a) (codeOf c) (bytesOf c) in
+    let z = sized c in
+    (omega arith, omega arith)
+
+pub packet-bytes : (a : Address) (c : Command) → byteOf a < 256 → AllBytes (bytesOf c) → AllBytes (packetFor a c)
+packet-bytes a c h d =
+    let z = sized c in
+    packet.packet-bytes (byteOf a) (codeOf c) (bytesOf c) h (omega arith) (omega arith) d

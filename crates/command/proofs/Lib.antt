@@ -1,0 +1,4 @@
+pub mod Rows
+pub mod Building
+pub mod Commands
+pub mod Unique

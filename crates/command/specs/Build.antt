@@ -1,0 +1,92 @@
+-- A command's number and data bytes, and what building its packet answers and leaves.
+use Prim.Native.Nat.{ℕ, _+_, _%_, _/_, _<_}
+use mathlib.Core.Bool.{Bool, true, cond, _&&_}
+use mathlib.Core.List.{List, [], _∷_}
+use Rattle.wire.specs.Promise.{Outcome}
+use Rattle.wire.specs.Address.{isIndividual, isGroup, inRange, byteOf}
+use Rattle.wire.specs.Buffer.{refused, place}
+use Rattle.wire.specs.declared.address.Address.{Address}
+use Rattle.wire.specs.declared.refusal.Refusal.the-variants.{Range}
+use Rattle.wire.specs.declared.buffer.Built.{Built}
+use Rattle.packet.specs.Build.{packetOf}
+use Rattle.command.specs.declared.Place.{Place}
+use Rattle.command.specs.declared.Command.{Command}
+use Rattle.command.specs.declared.Command.the-variants.{SetAddress, DefineStatus, ReadStatus, SetPwm, SynchOutput, SetOutputs, SetSynchOutput, SetTimerMode, SynchInput, Nop, HardReset}
+
+-- the command's number
+abbrev pub codeOf : Command → ℕ
+codeOf (SetAddress p) = 0x1
+codeOf (DefineStatus m) = 0x2
+codeOf (ReadStatus m) = 0x3
+codeOf (SetPwm w) = 0x4
+codeOf SynchOutput = 0x5
+codeOf (SetOutputs w) = 0x6
+codeOf (SetSynchOutput h) = 0x7
+codeOf (SetTimerMode m) = 0x8
+codeOf SynchInput = 0xC
+codeOf Nop = 0xE
+codeOf HardReset = 0xF
+
+-- the group, with bit 7 clear for a leader
+abbrev pub groupByte : Place → ℕ
+groupByte p = cond (p .leader) (p .group .0 % 0x80) (p .group .0 % 0x80 + 0x80)
+
+-- its data bytes; "wide values go least significant byte first"
+abbrev pub bytesOf : Command → List ℕ
+bytesOf (SetAddress p) = p .address .0 ∷ groupByte p ∷ []
+bytesOf (DefineStatus m) = m ∷ []
+bytesOf (ReadStatus m) = m ∷ []
+bytesOf (SetPwm w) = w .first ∷ w .second ∷ []
+bytesOf SynchOutput = []
+bytesOf (SetOutputs w) = w % 256 ∷ w / 256 ∷ []
+bytesOf (SetSynchOutput h) = h .outputs % 256 ∷ h .outputs / 256 ∷ h .pwm .first ∷ h .pwm .second ∷ []
+bytesOf (SetTimerMode m) = m ∷ []
+bytesOf SynchInput = []
+bytesOf Nop = []
+bytesOf HardReset = []
+
+-- a place of its range
+abbrev pub placeFits : Place → Bool
+placeFits p = isIndividual (p .address .0) && isGroup (p .group .0)
+
+-- a command whose values are of their range
+abbrev pub fitsOf : Command → Bool
+fitsOf (SetAddress p) = placeFits p
+fitsOf (DefineStatus m) = true
+fitsOf (ReadStatus m) = true
+fitsOf (SetPwm w) = true
+fitsOf SynchOutput = true
+fitsOf (SetOutputs w) = true
+fitsOf (SetSynchOutput h) = true
+fitsOf (SetTimerMode m) = true
+fitsOf SynchInput = true
+fitsOf Nop = true
+fitsOf HardReset = true
+
+-- what a command's types admit, as far as reading it back needs it: a group is a byte
+abbrev pub Typed : Command → Type 0
+Typed (SetAddress p) = p .group .0 < 256
+Typed (DefineStatus m) = Unit {0}
+Typed (ReadStatus m) = Unit {0}
+Typed (SetPwm w) = Unit {0}
+Typed SynchOutput = Unit {0}
+Typed (SetOutputs w) = Unit {0}
+Typed (SetSynchOutput h) = Unit {0}
+Typed (SetTimerMode m) = Unit {0}
+Typed SynchInput = Unit {0}
+Typed Nop = Unit {0}
+Typed HardReset = Unit {0}
+
+-- the packet of a command to an address byte, and to an address
+abbrev pub packetTo : ℕ → Command → List ℕ
+packetTo a c = packetOf a (codeOf c) (bytesOf c)
+
+abbrev pub packetFor : Address → Command → List ℕ
+packetFor to c = packetTo (byteOf to) c
+
+-- 6, then 5
+unfoldable pub buildFor : ℕ → Command → List ℕ → Outcome Built (List ℕ)
+buildFor a c out = cond (fitsOf c) (place (packetTo a c) out) (refused Range out)
+
+unfoldable pub commandBuilt : Address → Command → List ℕ → Outcome Built (List ℕ)
+commandBuilt to c out = cond (inRange to) (buildFor (byteOf to) c out) (refused Range out)

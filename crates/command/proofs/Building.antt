@@ -1,12 +1,12 @@
--- A command's packet is built by the raw builder, whose 6 can't occur; refused commands leave the buffer as it stood.
+-- A command's packet is built by the raw builder: its 6 can't occur, since a number is a nibble and no command has more than four data bytes.
 use Prim.Native.Nat.{ℕ}
-use mathlib.Core.Bool.{Bool, true, false, cond}
+use mathlib.Core.Bool.{true}
 use mathlib.Core.List.{List}
-use mathlib.Core.Path.{_≡_, refl}
+use mathlib.Core.Path.{_≡_}
 use native.Mathlib.Omega.{arith}
 use lib.ListN.{length}
 use borrow.Author.Tests.{le-ltb}
-use Rattle.wire.specs.Promise.{Outcome, Lending}
+use Rattle.wire.specs.Promise.{Lending}
 use Rattle.wire.specs.Buffer.{builtNumber}
 use Rattle.wire.specs.declared.buffer.Built.{Built}
 use Rattle.packet.specs.Build.{buildOf}

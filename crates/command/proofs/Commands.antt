@@ -2,13 +2,12 @@
 use Prim.Native.Nat.{ℕ, zero, suc, _+_, _%_, _/_, _<_, _≤_}
 use mathlib.Core.Bool.{Bool, true, false, cond, _&&_}
 use mathlib.Core.List.{List, [], _∷_}
-use mathlib.Core.Path.{_≡_, refl, sym, ap, _∙_}
+use mathlib.Core.Path.{_≡_, refl}
 use native.Mathlib.Omega.{arith}
-use lib.Dec.{ltb, leb}
 use lib.ListN.{length, take, drop, getD}
 use borrow.Author.Tests.{lt-ltb, le-ltb, leb-true}
 use Rattle.wire.specs.Promise.{Outcome}
-use Rattle.wire.specs.Address.{isIndividual, isGroup, inRange, addressOf, byteOf}
+use Rattle.wire.specs.Address.{isIndividual, isGroup, inRange, byteOf}
 use Rattle.wire.specs.Buffer.{refused, place}
 use Rattle.wire.specs.Change.{AllBytes}
 use Rattle.wire.specs.declared.address.Address.{Address}
@@ -17,13 +16,11 @@ use Rattle.wire.specs.declared.refusal.Refusal.the-variants.{Range}
 use Rattle.wire.specs.declared.buffer.Built.{Built}
 use Rattle.wire.proofs.Addresses.{address-back, address-in-range}
 use Rattle.wire.proofs.Refusals.{Spares, place-spares}
-use Rattle.packet.specs.Packet.{readOf, dataOf, countOf}
-use Rattle.packet.specs.Build.{packetOf}
+use Rattle.packet.specs.Packet.{dataOf, countOf}
 use Rattle.packet.proofs.Packets as packets
 use Rattle.packet.proofs.Laws as packet
 use Rattle.command.specs.Command.{wordOf, placeOf, rowsOf, readingOf, ReadsAs}
-use Rattle.command.specs.Build.{codeOf, bytesOf, fitsOf, Typed, packetTo, packetFor, buildFor, commandBuilt}
-use Rattle.command.specs.declared.Place.{Place}
+use Rattle.command.specs.Build.{codeOf, bytesOf, fitsOf, Typed, packetFor, buildFor, commandBuilt}
 use Rattle.command.specs.declared.Command.{Command}
 use Rattle.command.specs.declared.Command.the-variants.{SetAddress, DefineStatus, ReadStatus, SetPwm, SynchOutput, SetOutputs, SetSynchOutput, SetTimerMode, SynchInput, Nop, HardReset}
 use Rattle.command.specs.declared.Reading.the-variants.{Known}
@@ -104,11 +101,12 @@ reads-built s a c h r =
     let e = read-from (r .command) (dataOf s) c (data-bytes s h) (r .known) in
     rw (e .0, e .1) (packets.accepted-built s a (r .command) (r .count) (r .whole))
 
--- whose address and command are of their ranges
-pub reads-in-range : (s : List ℕ) (a : Address) (c : Command) → ReadsAs s a c → (inRange a ≡ true) × (fitsOf c ≡ true)
+-- whose address and command are of their ranges, so that they are built and read back
+pub reads-in-range : (s : List ℕ) (a : Address) (c : Command) → ReadsAs s a c → (inRange a ≡ true) × (fitsOf c ≡ true) × Typed c
 reads-in-range s a c r =
     let f = packets.framing s a (r .command) (r .count) (packets.read-says s a (r .command) (r .count) (r .whole) .0) in
-    (rw (← (f .address)) (address-in-range (getD s 1 0)), says (r .command) (dataOf s) c (r .known) .fits)
+    let g = says (r .command) (dataOf s) c (r .known) in
+    (rw (← (f .address)) (address-in-range (getD s 1 0)), g .fits, g .typed)
 
 -- ---- what building answers
 

@@ -2,17 +2,16 @@
 use Prim.Native.Nat.{ℕ, _+_, _*_, _/_, _%_, _<_, _≤_}
 use mathlib.Core.Bool.{Bool, true, false, cond}
 use mathlib.Core.List.{List, [], _∷_}
-use mathlib.Core.Path.{_≡_, refl, sym, ap, _∙_}
+use mathlib.Core.Path.{_≡_, refl, sym, ap}
 use native.Mathlib.Omega.{arith}
 use lib.Dec.{eqb, ltb}
 use lib.ListN.{length, getD}
 use borrow.Author.Tests.{eqb-true, ltb-true, ltb-false, le-leb}
-use Rattle.wire.specs.Address.{isIndividual, isGroup}
+use Rattle.wire.specs.Address.{isIndividual}
 use Rattle.wire.specs.Change.{AllBytes}
 use Rattle.wire.proofs.Choice.{chose-first}
-use Rattle.command.specs.Command.{wordOf, placeOf, placedBy, rowsOf, readingOf}
-use Rattle.command.specs.Build.{codeOf, bytesOf, fitsOf, placeFits, groupByte}
-use Rattle.command.specs.declared.Place.{Place}
+use Rattle.command.specs.Command.{wordOf, placeOf, rowsOf, readingOf}
+use Rattle.command.specs.Build.{codeOf, bytesOf, fitsOf, placeFits, groupByte, Typed}
 use Rattle.command.specs.declared.Command.{Command}
 use Rattle.command.specs.declared.Command.the-variants.{SetAddress, DefineStatus, ReadStatus, SetPwm, SynchOutput, SetOutputs, SetSynchOutput, SetTimerMode, SynchInput, Nop, HardReset}
 use Rattle.command.specs.declared.Reading.{Reading}
@@ -46,6 +45,7 @@ pub record Says (k : ℕ) (d : List ℕ) (c : Command) : Type 0 where
   pub count : length (bytesOf c) ≡ length d
   pub bytes : AllBytes d → bytesOf c ≡ d
   pub fits : fitsOf c ≡ true
+  pub typed : Typed c
 
 other-not : {c : Command} → Other ≡ Known c → ⊥
 other-not e = let z : _≡_ {A = ℕ} 0 1 = cc in omega arith
@@ -59,12 +59,13 @@ met false u e f g = g e
 
 -- the row of v, if the data bytes of v are those that are read
 said : (k : ℕ) (d : List ℕ) (c v : Command) → eqb k (codeOf v) ≡ true → eqb (length d) (length (bytesOf v)) ≡ true → Known v ≡ Known c
-    → (length d ≡ length (bytesOf v) → AllBytes d → bytesOf v ≡ d) → fitsOf v ≡ true → Says k d c
-said k d c v a b q h f =
+    → (length d ≡ length (bytesOf v) → AllBytes d → bytesOf v ≡ d) → fitsOf v ≡ true → Typed v → Says k d c
+said k d c v a b q h f t =
     let e : v ≡ c = cc in
     let n = eqb-true (length d) (length (bytesOf v)) b in
-    rw (← e) (record { code = sym (eqb-true k (codeOf v) a); count = sym n; bytes = h n; fits = f })
+    rw (← e) (record { code = sym (eqb-true k (codeOf v) a); count = sym n; bytes = h n; fits = f; typed = t })
 
+-- so many data bytes are those that were looked at
 none : (d : List ℕ) → length d ≡ 0 → AllBytes d → [] ≡ d
 none [] n h = refl
 none (x ∷ d) n h = absurd (omega arith)
@@ -85,7 +86,7 @@ low x y h = omega arith
 high : (x y : ℕ) → x < 256 → wordOf x y / 256 ≡ y
 high x y h = omega arith
 
--- a word, and what stands behind it
+-- data bytes that are a word, and a word with two bytes behind it
 words : (d : List ℕ) → length d ≡ 2 → AllBytes d → wordOf (getD d 0 0) (getD d 1 0) % 256 ∷ wordOf (getD d 0 0) (getD d 1 0) / 256 ∷ [] ≡ d
 words [] n h = absurd (omega arith)
 words (x ∷ []) n h = absurd (omega arith)
@@ -115,17 +116,17 @@ pub says : (k : ℕ) (d : List ℕ) (c : Command) → readingOf k d ≡ Known c 
 unfolding readingOf rowsOf
 says k d c e =
     let n : ℕ = length d in
-    met (eqb k 0x1) (eqb n 2) e (λ a b q. let t = chose-first (isIndividual (getD d 0 0)) q other-not in said k d c _ a b (t .1) (placed d) (place-fits (getD d 0 0) (getD d 1 0) (t .0)))
-    (λ e. met (eqb k 0x2) (eqb n 1) e (λ a b q. said k d c _ a b q (one d) refl)
-    (λ e. met (eqb k 0x3) (eqb n 1) e (λ a b q. said k d c _ a b q (one d) refl)
-    (λ e. met (eqb k 0x4) (eqb n 2) e (λ a b q. said k d c _ a b q (two d) refl)
-    (λ e. met (eqb k 0x5) (eqb n 0) e (λ a b q. said k d c _ a b q (none d) refl)
-    (λ e. met (eqb k 0x6) (eqb n 2) e (λ a b q. said k d c _ a b q (words d) refl)
-    (λ e. met (eqb k 0x7) (eqb n 4) e (λ a b q. said k d c _ a b q (four d) refl)
-    (λ e. met (eqb k 0x8) (eqb n 1) e (λ a b q. said k d c _ a b q (one d) refl)
-    (λ e. met (eqb k 0xC) (eqb n 0) e (λ a b q. said k d c _ a b q (none d) refl)
-    (λ e. met (eqb k 0xE) (eqb n 0) e (λ a b q. said k d c _ a b q (none d) refl)
-    (λ e. met (eqb k 0xF) (eqb n 0) e (λ a b q. said k d c _ a b q (none d) refl)
+    met (eqb k 0x1) (eqb n 2) e (λ a b q. let t = chose-first (isIndividual (getD d 0 0)) q other-not in said k d c _ a b (t .1) (placed d) (place-fits (getD d 0 0) (getD d 1 0) (t .0)) (omega arith))
+    (λ e. met (eqb k 0x2) (eqb n 1) e (λ a b q. said k d c _ a b q (one d) refl tt)
+    (λ e. met (eqb k 0x3) (eqb n 1) e (λ a b q. said k d c _ a b q (one d) refl tt)
+    (λ e. met (eqb k 0x4) (eqb n 2) e (λ a b q. said k d c _ a b q (two d) refl tt)
+    (λ e. met (eqb k 0x5) (eqb n 0) e (λ a b q. said k d c _ a b q (none d) refl tt)
+    (λ e. met (eqb k 0x6) (eqb n 2) e (λ a b q. said k d c _ a b q (words d) refl tt)
+    (λ e. met (eqb k 0x7) (eqb n 4) e (λ a b q. said k d c _ a b q (four d) refl tt)
+    (λ e. met (eqb k 0x8) (eqb n 1) e (λ a b q. said k d c _ a b q (one d) refl tt)
+    (λ e. met (eqb k 0xC) (eqb n 0) e (λ a b q. said k d c _ a b q (none d) refl tt)
+    (λ e. met (eqb k 0xE) (eqb n 0) e (λ a b q. said k d c _ a b q (none d) refl tt)
+    (λ e. met (eqb k 0xF) (eqb n 0) e (λ a b q. said k d c _ a b q (none d) refl tt)
     (λ e. absurd (other-not e))))))))))))
 
 -- what is no command is another one

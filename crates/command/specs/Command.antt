@@ -10,8 +10,6 @@ use Rattle.wire.specs.declared.address.Address.{Address}
 use Rattle.packet.specs.Packet.{readOf, dataOf}
 use Rattle.packet.specs.declared.Framed.the-variants.{Whole}
 use Rattle.command.specs.declared.Place.{Place}
-use Rattle.command.specs.declared.Pwm.{Pwm}
-use Rattle.command.specs.declared.Held.{Held}
 use Rattle.command.specs.declared.Command.{Command}
 use Rattle.command.specs.declared.Command.the-variants.{SetAddress, DefineStatus, ReadStatus, SetPwm, SynchOutput, SetOutputs, SetSynchOutput, SetTimerMode, SynchInput, Nop, HardReset}
 use Rattle.command.specs.declared.Reading.{Reading}

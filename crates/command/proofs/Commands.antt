@@ -1,22 +1,22 @@
 -- Commands: a built packet reads back as the same command, an accepted packet is the one built from its parts, a refused builder leaves the buffer as it stood.
-use Prim.Native.Nat.{ℕ, zero, suc, _+_, _%_, _/_, _<_, _≤_}
+use Prim.Native.Nat.{ℕ, _+_, _%_, _/_, _<_, _≤_}
 use mathlib.Core.Bool.{Bool, true, false, cond, _&&_}
-use mathlib.Core.List.{List, [], _∷_}
+use mathlib.Core.List.{List}
 use mathlib.Core.Path.{_≡_, refl}
 use native.Mathlib.Omega.{arith}
-use lib.ListN.{length, take, drop, getD}
+use lib.ListN.{length, getD}
 use borrow.Author.Tests.{lt-ltb, le-ltb, leb-true}
 use Rattle.wire.specs.Promise.{Outcome}
 use Rattle.wire.specs.Address.{isIndividual, isGroup, inRange, byteOf}
 use Rattle.wire.specs.Buffer.{refused, place}
 use Rattle.wire.specs.Change.{AllBytes}
 use Rattle.wire.specs.declared.address.Address.{Address}
-use Rattle.wire.specs.declared.refusal.Refusal.{Refusal}
 use Rattle.wire.specs.declared.refusal.Refusal.the-variants.{Range}
 use Rattle.wire.specs.declared.buffer.Built.{Built}
 use Rattle.wire.proofs.Addresses.{address-back, address-in-range}
-use Rattle.wire.proofs.Refusals.{Spares, place-spares}
-use Rattle.packet.specs.Packet.{dataOf, countOf}
+use Rattle.wire.proofs.Choice.{both}
+use Rattle.wire.proofs.Refusals.{Spares, place-spares, else-spares}
+use Rattle.packet.specs.Packet.{dataOf}
 use Rattle.packet.proofs.Packets as packets
 use Rattle.packet.proofs.Laws as packet
 use Rattle.command.specs.Command.{wordOf, placeOf, rowsOf, readingOf, ReadsAs}
@@ -27,11 +27,6 @@ use Rattle.command.specs.declared.Reading.the-variants.{Known}
 use Rattle.command.proofs.Rows.{sized, says}
 
 -- ---- a command's number and data bytes read back as the command
-
-both : (t u : Bool) → (t && u) ≡ true → (t ≡ true) × (u ≡ true)
-both true true e = (refl, refl)
-both true false e = (refl, e)
-both false u e = absurd (let z : _≡_ {A = ℕ} 0 1 = cc in omega arith)
 
 -- the two data bytes of Set Address give the place
 place-back : (a g : ℕ) (l : Bool) → 0x80 ≤ g → g < 256
@@ -80,25 +75,10 @@ built-reads a c h f t =
       known = rw (packets.built-data (byteOf a) (codeOf c) (bytesOf c) small) (read-back c f t);
     }
 
-take-bytes : (n : ℕ) (l : List ℕ) → AllBytes l → AllBytes (take n l)
-take-bytes zero l h = tt
-take-bytes (suc n) [] h = tt
-take-bytes (suc n) (x ∷ l) h = (h .0, take-bytes n l (h .1))
-
-drop-bytes : (n : ℕ) (l : List ℕ) → AllBytes l → AllBytes (drop n l)
-drop-bytes zero l h = h
-drop-bytes (suc n) [] h = tt
-drop-bytes (suc n) (x ∷ l) h = drop-bytes n l (h .1)
-
--- the data part of bytes holds bytes
-pub data-bytes : (s : List ℕ) → AllBytes s → AllBytes (dataOf s)
-unfolding dataOf
-data-bytes s h = take-bytes (countOf s) (drop 3 s) (drop-bytes 3 s h)
-
 -- an accepted packet is the one that we would build from its parts
 pub reads-built : (s : List ℕ) (a : Address) (c : Command) → AllBytes s → ReadsAs s a c → s ≡ packetFor a c
 reads-built s a c h r =
-    let e = read-from (r .command) (dataOf s) c (data-bytes s h) (r .known) in
+    let e = read-from (r .command) (dataOf s) c (packet.data-bytes s h) (r .known) in
     rw (e .0, e .1) (packets.accepted-built s a (r .command) (r .count) (r .whole))
 
 -- whose address and command are of their ranges, so that they are built and read back
@@ -125,13 +105,9 @@ unfolding commandBuilt buildFor
 built-refused to c out h = off-range (inRange to) (fitsOf c) (place (packetFor to c) out) (refused Range out) h
 
 -- any number but 0 leaves the buffer as it stood
-or-spares : (t : Bool) (why : Refusal) (out : List ℕ) (o : Outcome Built (List ℕ)) → Spares out o → Spares out (cond t o (refused why out))
-or-spares true why out o h n = h n
-or-spares false why out o h n = refl
-
 pub command-spares : (to : Address) (c : Command) (out : List ℕ) → Spares out (commandBuilt to c out)
 unfolding commandBuilt buildFor
-command-spares to c out = or-spares (inRange to) Range out _ (or-spares (fitsOf c) Range out _ (place-spares (packetFor to c) out))
+command-spares to c out = else-spares (inRange to) Range out _ (else-spares (fitsOf c) Range out _ (place-spares (packetFor to c) out))
 
 -- ---- the packet
 

@@ -1,18 +1,22 @@
--- A built packet holds bytes, and a refused builder leaves the buffer as it stood.
+-- A built packet and the data part of bytes hold bytes, and a refused builder leaves the buffer as it stood.
 use Prim.Native.Nat.{ℕ, _<_, _≤_}
-use mathlib.Core.List.{List, [], _∷_}
+use mathlib.Core.List.{List, _∷_}
 use native.Mathlib.Omega.{arith}
 use lib.Dec.{ltb}
-use lib.ListN.{length}
-use Rattle.wire.specs.Buffer.{refused, place}
+use lib.ListN.{length, drop}
 use Rattle.wire.specs.Change.{AllBytes}
 use Rattle.wire.specs.declared.refusal.Refusal.the-variants.{Range}
+use Rattle.packet.specs.Packet.{countOf, dataOf}
 use Rattle.packet.specs.Build.{headOf, packetOf, buildOf}
-use Rattle.wire.proofs.Bytes.{with-sum-bytes}
+use Rattle.wire.proofs.Bytes.{take-bytes, drop-bytes, with-sum-bytes}
 use Rattle.wire.proofs.Refusals.{Spares, place-spares, test-spares}
 
 pub packet-bytes : (a c : ℕ) (d : List ℕ) → a < 256 → c < 16 → length d ≤ 15 → AllBytes d → AllBytes (packetOf a c d)
 packet-bytes a c d ha hc hn h = (omega arith, with-sum-bytes (a ∷ headOf c d ∷ d) (ha, (omega arith, h)))
+
+pub data-bytes : (s : List ℕ) → AllBytes s → AllBytes (dataOf s)
+unfolding dataOf
+data-bytes s h = take-bytes (countOf s) (drop 3 s) (drop-bytes 3 s h)
 
 pub build-spares : (a c : ℕ) (d out : List ℕ) → Spares out (buildOf a c d out)
 unfolding buildOf

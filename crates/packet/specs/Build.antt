@@ -7,7 +7,7 @@ use lib.Dec.{ltb}
 use Rattle.wire.specs.Promise.{Outcome}
 use Rattle.wire.specs.Sum.{withSum}
 use Rattle.wire.specs.Buffer.{refused, place}
-use Rattle.wire.specs.declared.refusal.Refusal.the-variants.{Room, Range}
+use Rattle.wire.specs.declared.refusal.Refusal.the-variants.{Range}
 use Rattle.wire.specs.declared.buffer.Built.{Built}
 
 -- the command byte: the low nibble is the command, the high nibble the number of data bytes

@@ -1,6 +1,6 @@
 -- A built status packet holds bytes, and a refused builder leaves the buffer as it stood.
 use Prim.Native.Nat.{ℕ, _<_}
-use mathlib.Core.List.{List, [], _∷_}
+use mathlib.Core.List.{List, _∷_}
 use Rattle.wire.specs.Change.{AllBytes}
 use Rattle.status.specs.Status.{statusPacket, statusBuilt}
 use Rattle.wire.proofs.Bytes.{with-sum-bytes}

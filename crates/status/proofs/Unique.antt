@@ -1,7 +1,6 @@
 -- A second result that meets a contract is equal to the first, for each public function.
 use mathlib.Core.Path.{_≡_, sym, _∙_}
 use denote.Ref.{now}
-use Rattle.wire.specs.Promise.{Promise, Lending}
 use Rattle.wire.proofs.OneResult.{OneResult}
 use Rattle.status.proofs.read.Reads as read
 use Rattle.status.proofs.items_part.Reads as items-part

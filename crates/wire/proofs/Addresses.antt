@@ -1,10 +1,10 @@
 -- The byte comes back, the ranges hold, and an individual address and a group address are never taken for each other.
 use Prim.Native.Nat.{ℕ, _<_, _≤_}
 use mathlib.Core.Bool.{Bool, true, false, cond}
-use mathlib.Core.Path.{_≡_, refl, sym, ap, _∙_}
+use mathlib.Core.Path.{_≡_, refl, sym, ap}
 use native.Mathlib.Omega.{arith}
 use borrow.Author.Tests.{ltb-true, ltb-false, le-leb, le-ltb, leb-true}
-use Rattle.wire.specs.Address.{isIndividual, isGroup, addressOf, byteOf, inRange}
+use Rattle.wire.specs.Address.{isIndividual, addressOf, byteOf, inRange}
 use Rattle.wire.specs.declared.address.Individual.{Individual}
 use Rattle.wire.specs.declared.address.Group.{Group}
 use Rattle.wire.specs.declared.address.Address.{Address}

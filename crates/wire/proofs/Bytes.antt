@@ -4,8 +4,7 @@ use mathlib.Core.Bool.{Bool, true, false, cond}
 use mathlib.Core.List.{List, [], _∷_, _++_}
 use native.Mathlib.Omega.{arith}
 use lib.Dec.{ltb}
-use lib.ListN.{length, getD, drop}
-use Rattle.wire.specs.Promise.{Outcome}
+use lib.ListN.{length, getD, take, drop}
 use Rattle.wire.specs.Sum.{sumOf, withSum}
 use Rattle.wire.specs.Buffer.{written, refused, place}
 use Rattle.wire.specs.Change.{AllBytes}
@@ -20,7 +19,12 @@ pub append-bytes : (l m : List ℕ) → AllBytes l → AllBytes m → AllBytes (
 append-bytes [] m h k = k
 append-bytes (x ∷ l) m h k = (h .0, append-bytes l m (h .1) k)
 
-drop-bytes : (n : ℕ) (l : List ℕ) → AllBytes l → AllBytes (drop n l)
+pub take-bytes : (n : ℕ) (l : List ℕ) → AllBytes l → AllBytes (take n l)
+take-bytes zero l h = tt
+take-bytes (suc n) [] h = tt
+take-bytes (suc n) (x ∷ l) h = (h .0, take-bytes n l (h .1))
+
+pub drop-bytes : (n : ℕ) (l : List ℕ) → AllBytes l → AllBytes (drop n l)
 drop-bytes zero l h = h
 drop-bytes (suc n) [] h = tt
 drop-bytes (suc n) (x ∷ l) h = drop-bytes n l (h .1)

@@ -1,5 +1,5 @@
--- What a choice by a test tells where one of its branches is ruled out.
-use mathlib.Core.Bool.{Bool, true, false, cond}
+-- What a choice by a test tells where one of its branches is ruled out, and what two tests tell.
+use mathlib.Core.Bool.{Bool, true, false, cond, _&&_, false≢true}
 use mathlib.Core.Path.{_≡_, refl}
 
 -- the second branch is ruled out: the test held
@@ -11,3 +11,8 @@ chose-first false e n = absurd (n e)
 pub chose-second : {A : Type 0} (t : Bool) {x y z : A} → cond t x y ≡ z → (x ≡ z → ⊥) → (t ≡ false) × (y ≡ z)
 chose-second true e n = absurd (n e)
 chose-second false e n = (refl, e)
+
+-- two tests that both hold
+pub both : (t u : Bool) → (t && u) ≡ true → (t ≡ true) × (u ≡ true)
+both true u e = (refl, e)
+both false u e = absurd (false≢true e)

@@ -28,3 +28,8 @@ place-spares p out = chosen (ltb (length out) (length p)) p out
 pub test-spares : (t : Bool) (why : Refusal) (out : List ℕ) (o : Outcome Built (List ℕ)) → Spares out o → Spares out (cond t (refused why out) o)
 test-spares true why out o h n = refl
 test-spares false why out o h n = h n
+
+-- a refusal where the test fails
+pub else-spares : (t : Bool) (why : Refusal) (out : List ℕ) (o : Outcome Built (List ℕ)) → Spares out o → Spares out (cond t o (refused why out))
+else-spares true why out o h n = h n
+else-spares false why out o h n = refl

@@ -1,9 +1,9 @@
 -- Header, address and command byte by stores, the data by a copy, the sum behind them.
 use borrow.Author.Needs.{needs}
 use native.Mathlib.Omega.{arith}
-use Prim.Native.Nat.{ℕ, _+_, _%_}
+use Prim.Native.Nat.{_+_}
 use mathlib.Core.Path.{_≡_}
-use mathlib.Core.List.{List, [], _∷_}
+use mathlib.Core.List.{[], _∷_}
 use lib.ListN.{length, length-set}
 use Rattle.wire.specs.Sum.{total, sumOf}
 use Rattle.wire.proofs.Writing.{laid}

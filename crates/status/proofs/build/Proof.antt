@@ -1,17 +1,16 @@
 -- The status byte by a store, the items by a copy, the sum behind them.
 use borrow.Author.Needs.{needs}
-use borrow.Author.Tests.{le-ltb}
 use native.Mathlib.Omega.{arith}
-use Prim.Native.Nat.{ℕ, _+_, _<_, _≤_}
-use mathlib.Core.Path.{_≡_, refl}
-use mathlib.Core.List.{List, [], _∷_, _++_}
-use lib.ListN.{length, drop, length-set}
-use Rattle.wire.specs.Promise.{Lending, lent}
+use Prim.Native.Nat.{ℕ, _+_, _<_}
+use mathlib.Core.Path.{_≡_}
+use mathlib.Core.List.{List, [], _∷_}
+use lib.ListN.{length, length-set}
+use Rattle.wire.specs.Promise.{Lending}
 use Rattle.wire.specs.Sum.{total, sumOf}
 use Rattle.wire.specs.Buffer.{builtNumber}
 use Rattle.status.specs.Status.{statusPacket, statusBuilt}
 use Rattle.wire.specs.declared.refusal.Refusal.the-variants.{Room}
-use Rattle.wire.specs.declared.buffer.Built.the-variants.{Bytes, Refused}
+use Rattle.wire.specs.declared.buffer.Built.the-variants.{Refused}
 use Rattle.status.proofs.Replies.{status-length}
 use Rattle.wire.proofs.Writing.{laid, no-room, has-room}
 use Rattle.status.proofs.build.Statement.{statement}

@@ -1,5 +1,5 @@
 -- The invariant: the sum so far is the whole sum of the bytes passed, modulo 256.
-use Prim.Native.Nat.{ℕ, _+_, _≤_, _-_, _%_}
+use Prim.Native.Nat.{_≤_, _-_}
 use native.Mathlib.Omega.{arith}
 use native.Mathlib.Numerals.{add-one}
 use mathlib.Core.Path.{_≡_}

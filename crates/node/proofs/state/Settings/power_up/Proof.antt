@@ -1,0 +1,7 @@
+-- Written out, with the constants of the node kind.
+use borrow.Author.Needs.{needs}
+use Rattle.node.proofs.state.Settings.power_up.Statement.{statement}
+use Rattle.node.proofs.state.Settings.power_up.Tie as tie
+
+pub power-up-spec : {M : Type 1} → statement M
+power-up-spec = tie.close (tie.spec (λ c. search needs))

@@ -1,0 +1,6 @@
+pub mod Bytes
+pub mod Counts
+pub mod Sizes
+pub mod Writes
+pub mod Replies
+pub mod Unique

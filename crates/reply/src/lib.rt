@@ -1,0 +1,159 @@
+// What a node sends back: the status packet, with the items of Define Status in their order, least significant byte first.
+use command::Command;
+use node::Heard;
+use node::Node;
+use wire::Built;
+ghost use mathlib.Core.Path.{_≡_};
+ghost use Prim.Native.Nat.{_+_, _≤_};
+ghost use lib.ListN.{length};
+ghost use Rattle.wire.specs.Promise.{Lending};
+ghost use Rattle.wire.specs.Buffer.{builtNumber, place};
+ghost use Rattle.status.specs.Status.{T};
+ghost use Rattle.reply.specs.Items.{bytesOf, asked, itemBytes, sizeOf, itemTable, Wrote};
+ghost use Rattle.reply.specs.Reply.{ownMask, maskOf, statusByte, replyOf};
+
+// How many bytes the status packet under a mask has.
+pub fn size(mask: u8) -> usize
+    ensures { λ r. ⌜ r ≡ sizeOf mask ⌝ }
+{
+    let ones = mask / 2 % 2 + mask / 4 % 2 + mask / 8 % 2;
+    let twos = mask % 2 + mask / 32 % 2 + mask / 64 % 2;
+    let fours = mask / 16 % 2 + mask / 128 % 2;
+    (2 + ones + twos * 2 + fours * 4) as usize
+}
+
+// The mask of a command's reply: Read Status has its own.
+fn own_mask(c: Command, held: u8) -> u8
+    ensures { λ r. ⌜ r ≡ ownMask c held ⌝ }
+{
+    match c {
+        Command::ReadStatus(mask) => mask,
+        Command::SetAddress(_) => held,
+        Command::DefineStatus(_) => held,
+        Command::SetPwm(_) => held,
+        Command::SynchOutput => held,
+        Command::SetOutputs(_) => held,
+        Command::SetSynchOutput(_) => held,
+        Command::SetTimerMode(_) => held,
+        Command::SynchInput => held,
+        Command::Nop => held,
+        Command::HardReset => held,
+    }
+}
+
+// Under which mask a node replies; `held` is the one that it holds once it has acted.
+fn mask_of(heard: Heard, held: u8) -> u8
+    ensures { λ r. ⌜ r ≡ maskOf heard held ⌝ }
+{
+    match heard {
+        Heard::Intact(c) => own_mask(c, held),
+        Heard::Other => held,
+        Heard::Spoilt => held,
+    }
+}
+
+// Bit 1: the command had a wrong sum.
+fn status_byte(heard: Heard) -> u8
+    ensures { λ r. ⌜ r ≡ statusByte heard ⌝ }
+{
+    match heard {
+        Heard::Intact(_) => 0,
+        Heard::Other => 0,
+        Heard::Spoilt => 2,
+    }
+}
+
+// An item of the status packet: how many bytes, and of which value.
+struct Item {
+    pub count: usize,
+    pub value: u32,
+}
+
+// The items of a node, from bit 0 of the mask on.
+fn items(n: Node) -> [Item; 8]
+    ensures { λ r. ⌜ r ≡ itemTable n ⌝ }
+{
+    let b = n.bench;
+    let k = n.captured;
+    [
+        Item {
+            count: 2,
+            value: b.inputs as u32,
+        },
+        Item {
+            count: 1,
+            value: b.analog0 as u32,
+        },
+        Item {
+            count: 1,
+            value: b.analog1 as u32,
+        },
+        Item {
+            count: 1,
+            value: b.analog2 as u32,
+        },
+        Item {
+            count: 4,
+            value: b.counter,
+        },
+        Item {
+            count: 2,
+            value: b.id as u32 + b.version as u32 * 256,
+        },
+        Item {
+            count: 2,
+            value: k.inputs as u32,
+        },
+        Item {
+            count: 4,
+            value: k.counter,
+        },
+    ]
+}
+
+// Writes an item's bytes from `at` on, least significant first, if it is asked for; the place behind them.
+fn put_item(out: &mut [u8], at: usize, wanted: bool, item: Item) -> usize
+    requires { ⌜ at + length (asked wanted (bytesOf (item .count) (item .value))) ≤ length (now out) ⌝ }
+    ensures { λ r. ⌜ Wrote (asked wanted (bytesOf (item .count) (item .value))) at (now (out .entry)) r (now (out .exit)) ⌝ }
+{
+    if !wanted {
+        return at;
+    }
+    let count = item.count;
+    let mut rest = item.value;
+    let mut i = 0;
+    while i < count {
+        out[at + i] = (rest % 256) as u8;
+        rest /= 256;
+        i += 1;
+    }
+    at + count
+}
+
+// The items of a node that a mask asks for, from the start of the scratch space on; how many bytes they are.
+fn put_items(n: Node, mask: u8, out: &mut [u8]) -> usize
+    requires { ⌜ length (now out) ≡ T ⌝ }
+    ensures { λ r. ⌜ Wrote (itemBytes mask n) 0 (now (out .entry)) r (now (out .exit)) ⌝ }
+{
+    let table = items(n);
+    let mut bits = mask;
+    let mut at = 0;
+    let mut i = 0;
+    while i < 8 {
+        at = put_item(out, at, bits % 2 == 1, table[i]);
+        bits /= 2;
+        i += 1;
+    }
+    at
+}
+
+// The reply of a node, as it stands before the packet, at the start of `out`, whose rest stays; 5 where it has no room.
+pub fn reply(n: Node, heard: Heard, out: &mut [u8]) -> Built
+    ensures { λ r. ⌜ Lending builtNumber r (now (out .exit)) (place (replyOf heard n) (now (out .entry))) ⌝ }
+{
+    let after = n.take(heard);
+    let mask = mask_of(heard, after.settings.mask);
+    let mut scratch = [0u8; status::T];
+    let count = put_items(after, mask, &mut scratch);
+    status::build(status_byte(heard), &scratch[..count], out)
+}

@@ -1,0 +1,9 @@
+pub mod Ones
+pub mod Long
+pub mod Searching
+pub mod Acting
+pub mod Validity
+pub mod Delivering
+pub mod Meaning
+pub mod Refusals
+pub mod Unique

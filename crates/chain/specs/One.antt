@@ -1,0 +1,43 @@
+-- Document 01, "The chain": one node and a packet. `near`: the node is first, or the node before it is addressed, before the packet acts.
+use Prim.Native.Nat.{ℕ}
+use mathlib.Core.Bool.{Bool, cond, _&&_, _||_}
+use mathlib.Core.List.{List}
+use lib.Dec.{eqb}
+use Rattle.wire.specs.Address.{isIndividual, isGroup}
+use Rattle.wire.specs.declared.address.Address.{Address}
+use Rattle.wire.specs.declared.address.Address.the-variants as address
+use Rattle.packet.specs.Packet.{dataOf, intactOf}
+use Rattle.command.specs.Command.{readingOf}
+use Rattle.node.specs.declared.state.Node.{Node}
+use Rattle.node.specs.declared.heard.Heard.{Heard}
+use Rattle.node.specs.Heard.{heardOf, taken}
+
+-- "A node hears exactly if it is addressed, is first, or the node before it is addressed"
+abbrev pub hears : Bool → Node → Bool
+hears near n = near || n .addressed
+
+-- "the address byte is its individual address or its group"
+abbrev pub meant : Address → Node → Bool
+meant (address.Individual i) n = eqb (i .0) (n .settings .place .address .0)
+meant (address.Group g) n = eqb (g .0) (n .settings .place .group .0)
+
+-- "the address is its individual one, or it is leader of that group"
+abbrev pub answers : Address → Node → Bool
+answers (address.Individual i) n = eqb (i .0) (n .settings .place .address .0)
+answers (address.Group g) n = n .settings .place .leader && eqb (g .0) (n .settings .place .group .0)
+
+-- it replies to a packet that is answered at all
+unfoldable pub replies : Address → Bool → Node → Bool
+replies to near n = hears near n && answers to n
+
+-- "A hearing node acts once if .."; every other stays as it is
+unfoldable pub turned : Address → Heard → Bool → Node → Node
+turned to h near n = cond (hears near n && meant to n) (taken h n) n
+
+-- 6: "a lent node record with individual address above 0x7F or group below 0x80"
+unfoldable pub sound : Node → Bool
+sound n = isIndividual (n .settings .place .address .0) && isGroup (n .settings .place .group .0)
+
+-- what a whole packet p with command nibble k says
+abbrev pub heardAs : ℕ → List ℕ → Heard
+heardAs k p = heardOf (readingOf k (dataOf p)) (intactOf p)

@@ -1,0 +1,83 @@
+// One node of the chain and a packet: what the whole table is made of.
+use node::Heard;
+use node::Node;
+use wire::Address;
+ghost use mathlib.Core.Path.{_≡_};
+ghost use Rattle.chain.specs.One.{hears, meant, answers, sound, replies, turned, heardAs};
+
+// Near: the node is first, or the node before it is addressed.
+pub(crate) fn does_hear(n: Node, near: bool) -> bool
+    ensures { λ r. ⌜ r ≡ hears near n ⌝ }
+{
+    if near {
+        return true;
+    }
+    n.addressed
+}
+
+// The address is the node's individual one, or its group.
+pub(crate) fn is_meant(n: Node, to: Address) -> bool
+    ensures { λ r. ⌜ r ≡ meant to n ⌝ }
+{
+    match to {
+        Address::Individual(i) => i.0 == n.settings.place.address.0,
+        Address::Group(g) => g.0 == n.settings.place.group.0,
+    }
+}
+
+// The address is the node's individual one, or that of a group that it leads.
+pub(crate) fn is_answering(n: Node, to: Address) -> bool
+    ensures { λ r. ⌜ r ≡ answers to n ⌝ }
+{
+    match to {
+        Address::Individual(i) => i.0 == n.settings.place.address.0,
+        Address::Group(g) => {
+            if n.settings.place.leader {
+                return g.0 == n.settings.place.group.0;
+            }
+            false
+        }
+    }
+}
+
+// The record's addresses are of their ranges.
+pub(crate) fn is_sound(n: Node) -> bool
+    ensures { λ r. ⌜ r ≡ sound n ⌝ }
+{
+    let address = n.settings.place.address;
+    let group = n.settings.place.group;
+    if address.in_range() {
+        return group.in_range();
+    }
+    false
+}
+
+// Whether the node replies to a packet that is answered.
+pub(crate) fn does_reply(n: Node, near: bool, to: Address) -> bool
+    ensures { λ r. ⌜ r ≡ replies to near n ⌝ }
+{
+    if does_hear(n, near) {
+        return is_answering(n, to);
+    }
+    false
+}
+
+// The node after a packet: it acts once, if it hears and is meant.
+pub(crate) fn turn(n: Node, near: bool, to: Address, heard: Heard) -> Node
+    ensures { λ r. ⌜ r ≡ turned to heard near n ⌝ }
+{
+    if does_hear(n, near) {
+        if is_meant(n, to) {
+            return n.take(heard);
+        }
+    }
+    n
+}
+
+// What a whole packet with this command nibble says.
+pub(crate) fn hear(command: u8, p: &[u8]) -> Heard
+    ensures { λ r. ⌜ r ≡ heardAs command (now (p .entry)) ⌝ }
+{
+    let reading = command::read(command, packet::data_part(p));
+    Heard::of(reading, packet::is_intact(p))
+}

@@ -1,0 +1,3 @@
+pub mod Confirming
+pub mod Entries
+pub mod Unique

@@ -1,0 +1,39 @@
+-- In each arm the command is known, and the table's row for it says which flags are set.
+use borrow.Author.Needs.{needs}
+use mathlib.Core.Bool.{Bool}
+use mathlib.Core.Path.{_≡_, sym, ap, _∙_}
+use Rattle.command.specs.declared.Command.{Command}
+use Rattle.entry.specs.declared.Known.{Known}
+use Rattle.entry.specs.Entry.{marked}
+use Rattle.entry.proofs.mark.Statement.{statement}
+use Rattle.entry.proofs.mark.Tie as tie
+
+told : (c d : Command) (b : Bool) (k r : Known) → c ≡ d → r ≡ marked d b k → r ≡ marked c b k
+told c d b k r e h = h ∙ sym (ap (λ (x : Command). marked x b k) e)
+
+pub mark-spec : {M : Type 1} → statement M
+mark-spec =
+    tie.close
+    (tie.spec
+    (λ c. search needs)
+    (λ c. search needs)
+    (λ c. search needs)
+    (λ c. search needs)
+    (λ c. search needs)
+    (λ c. search needs)
+    (λ c. search needs)
+    (λ c. search needs)
+    (λ c. search needs)
+    (λ c. search needs)
+    (λ c. search needs)
+    (λ c. search told)
+    (λ c. search told)
+    (λ c. search told)
+    (λ c. search told)
+    (λ c. search told)
+    (λ c. search told)
+    (λ c. search told)
+    (λ c. search told)
+    (λ c. search told)
+    (λ c. search told)
+    (λ c. search told))

@@ -1,0 +1,159 @@
+-- The record node by node: the entry of node i + 1 has index i. Whoever speaks of one node needs only these.
+use Prim.Native.Nat.{ℕ, zero, suc, _+_, _<_, _≤_}
+use mathlib.Core.Bool.{Bool, true, false, not, _&&_, _||_, true≢false, false≢true}
+use mathlib.Core.List.{List, [], _∷_}
+use mathlib.Core.Path.{_≡_, refl, ap, _∙_}
+use native.Mathlib.Nat.{not-suc-le-zero, le-of-suc-le-suc}
+use native.Mathlib.Omega.{arith}
+use mathlib.Core.Logic.{_⊎_, inl, inr, ⊎-elim}
+use lib.Dec.{eqb}
+use lib.ListN.{length, getD, replicate}
+use borrow.Author.Tests.{le-ltb, eq-eqb, ne-eqb}
+use Rattle.wire.specs.declared.address.Group.{Group}
+use Rattle.wire.specs.declared.address.Address.{Address}
+use Rattle.command.specs.declared.Command.{Command}
+use Rattle.command.specs.declared.Command.the-variants.{HardReset}
+use Rattle.status.specs.declared.Answer.{Answer}
+use Rattle.node.specs.Setting.{place}
+use Rattle.entry.specs.declared.Entry.{Entry}
+use Rattle.entry.specs.Entry.{knows, shows, entryUp, noted, doubted}
+use Rattle.ledger.specs.Ledger.{ledgerUp, leastOf, reachOf, eachFrom, settling, settled, forgotten, rivals, ledFrom, isLed}
+use Rattle.ledger.proofs.Turns.{length-each}
+
+-- n itself, where there are entries for it
+least-is : (n : ℕ) → n ≤ 31 → leastOf n ≡ n
+unfolding leastOf
+least-is n h = rw (le-ltb 31 n h)
+
+at-each : (f : ℕ → Entry → Entry) (j n i : ℕ) (es : List Entry) (d : Entry) → i < n → i < length es → getD (eachFrom f j n es) i d ≡ f (j + i) (getD es i d)
+unfolding eachFrom
+at-each f j zero i es d p q = absurd (not-suc-le-zero p)
+at-each f j (suc n) i [] d p q = absurd (not-suc-le-zero q)
+at-each f j (suc n) zero (e ∷ es) d p q = ap (λ (m : ℕ). f m e) (omega arith)
+at-each f j (suc n) (suc i) (e ∷ es) d p q =
+    at-each f (suc j) n i es d (le-of-suc-le-suc p) (le-of-suc-le-suc q) ∙ ap (λ (m : ℕ). f m (getD es i d)) (omega arith)
+
+past-each : (f : ℕ → Entry → Entry) (j n i : ℕ) (es : List Entry) (d : Entry) → n ≤ i → getD (eachFrom f j n es) i d ≡ getD es i d
+unfolding eachFrom
+past-each f j zero i es d p = refl
+past-each f j (suc n) i [] d p = refl
+past-each f j (suc n) zero (e ∷ es) d p = absurd (not-suc-le-zero p)
+past-each f j (suc n) (suc i) (e ∷ es) d p = past-each f (suc j) n i es d (le-of-suc-le-suc p)
+
+module _ (a : Answer) (to : Address) (c : Command) (n : ℕ) (es : List Entry) where
+  pub length-settled : length (settled a to c n es) ≡ length es
+  unfolding settled
+  length-settled = length-each (settling a to c) 1 (leastOf n) es
+
+  -- the entry of a node 1 to n
+  pub settled-at : (i : ℕ) (d : Entry) → n ≤ 31 → i < n → i < length es
+      → getD (settled a to c n es) i d ≡ noted a (reachOf to (suc i) (getD es i d)) c (getD es i d)
+  unfolding settled
+  settled-at i d h p q =
+      let m : i < leastOf n = rw (least-is n h) p in
+      at-each (settling a to c) 1 (leastOf n) i es d m q ∙ ap (λ (k : ℕ). settling a to c k (getD es i d)) (omega arith)
+
+  -- an entry past n stays
+  pub settled-past : (i : ℕ) (d : Entry) → n ≤ 31 → n ≤ i → getD (settled a to c n es) i d ≡ getD es i d
+  unfolding settled
+  settled-past i d h p = past-each (settling a to c) 1 (leastOf n) i es d (rw (least-is n h) p)
+
+-- after a Hard Reset
+pub length-forgotten : (es : List Entry) → length (forgotten es) ≡ length es
+unfolding forgotten
+length-forgotten [] = refl
+length-forgotten (e ∷ es) = ap suc (length-forgotten es)
+
+pub forgotten-at : (es : List Entry) (i : ℕ) (d : Entry) → i < length es → getD (forgotten es) i d ≡ doubted HardReset (getD es i d)
+unfolding forgotten
+forgotten-at [] i d h = absurd (not-suc-le-zero h)
+forgotten-at (e ∷ es) zero d h = refl
+forgotten-at (e ∷ es) (suc i) d h = forgotten-at es i d (le-of-suc-le-suc h)
+
+-- at power-up
+pub length-up : length ledgerUp ≡ 31
+unfolding ledgerUp
+length-up = refl
+
+at-replicate : (m i : ℕ) (e d : Entry) → i < m → getD (replicate m e) i d ≡ e
+at-replicate zero i e d h = absurd (not-suc-le-zero h)
+at-replicate (suc m) zero e d h = refl
+at-replicate (suc m) (suc i) e d h = at-replicate m i e d (le-of-suc-le-suc h)
+
+pub up-at : (i : ℕ) (d : Entry) → i < 31 → getD ledgerUp i d ≡ entryUp
+unfolding ledgerUp
+up-at i d h = at-replicate 31 i entryUp d h
+
+-- a node, another than k, that leads group g or has its place in doubt
+pub record Rival (k : ℕ) (g : Group) (n : ℕ) (es : List Entry) (d : Entry) : Type 0 where
+  pub index : ℕ
+  pub counted : index < n
+  pub other : suc index ≡ k → ⊥
+  pub rival : rivals k g (suc index) (getD es index d) ≡ true
+
+-- no such node: for each node, another than k, its place is known and it does not lead g
+pub record Follower (g : Group) (e : Entry) : Type 0 where
+  pub known : knows e place ≡ true
+  pub follows : (shows e place .leader && eqb (shows e place .group .0) (g .0)) ≡ false
+
+or-false : (a b : Bool) → (a || b) ≡ false → (a ≡ false) × (b ≡ false)
+or-false true b h = absurd (true≢false h)
+or-false false b h = (refl, h)
+
+not-false : (a : Bool) → not a ≡ false → a ≡ true
+not-false true h = refl
+not-false false h = absurd (true≢false h)
+
+or-true : (a b : Bool) → (a || b) ≡ true → (a ≡ true) ⊎ (b ≡ true)
+or-true true b h = inl refl
+or-true false b h = inr h
+
+-- the search finds one
+abbrev Found : (k : ℕ) (g : Group) (j n : ℕ) (es : List Entry) (d : Entry) → Type 0
+Found k g j n es d = (i : ℕ) × (i < n) × (rivals k g (j + i) (getD es i d) ≡ true)
+
+found-later : (k : ℕ) (g : Group) (j n : ℕ) (e : Entry) (es : List Entry) (d : Entry) → Found k g (suc j) n es d → Found k g j (suc n) (e ∷ es) d
+found-later k g j n e es d (i, p, q) = (suc i, omega arith, ap (λ (m : ℕ). rivals k g m (getD es i d)) (omega arith) ∙ q)
+
+found-from : (k : ℕ) (g : Group) (j n : ℕ) (es : List Entry) (d : Entry) → ledFrom k g j n es ≡ true → Found k g j n es d
+unfolding ledFrom
+found-from k g j zero es d h = absurd (false≢true h)
+found-from k g j (suc n) [] d h = absurd (false≢true h)
+found-from k g j (suc n) (e ∷ es) d h =
+    ⊎-elim (λ t. (0, omega arith, ap (λ (m : ℕ). rivals k g m e) (omega arith) ∙ t)) (λ t. found-later k g j n e es d (found-from k g (suc j) n es d t))
+    (or-true (rivals k g j e) _ h)
+
+not-from : (k : ℕ) (g : Group) (j n i : ℕ) (es : List Entry) (d : Entry) → ledFrom k g j n es ≡ false → i < n → i < length es
+    → rivals k g (j + i) (getD es i d) ≡ false
+unfolding ledFrom
+not-from k g j zero i es d h p q = absurd (not-suc-le-zero p)
+not-from k g j (suc n) i [] d h p q = absurd (not-suc-le-zero q)
+not-from k g j (suc n) zero (e ∷ es) d h p q = ap (λ (m : ℕ). rivals k g m e) (omega arith) ∙ or-false (rivals k g j e) _ h .0
+not-from k g j (suc n) (suc i) (e ∷ es) d h p q =
+    ap (λ (m : ℕ). rivals k g m (getD es i d)) (omega arith)
+    ∙ not-from k g (suc j) n i es d (or-false (rivals k g j e) _ h .1) (le-of-suc-le-suc p) (le-of-suc-le-suc q)
+
+-- what a rival is, as a test that failed says it
+follower : (k : ℕ) (g : Group) (j : ℕ) (e : Entry) → (j ≡ k → ⊥) → rivals k g j e ≡ false → Follower g e
+follower k g j e p h =
+    let t : (not (knows e place) || (shows e place .leader && eqb (shows e place .group .0) (g .0))) ≡ false = rw (ne-eqb j k p) at h in
+    let u = or-false (not (knows e place)) _ t in
+    record { known = not-false (knows e place) (u .0); follows = u .1 }
+
+-- and a rival is another node
+rival-other : (k : ℕ) (g : Group) (j : ℕ) (e : Entry) → rivals k g j e ≡ true → j ≡ k → ⊥
+rival-other k g j e h p = false≢true (rw (eq-eqb j k p) at h)
+
+module _ (k : ℕ) (g : Group) (n : ℕ) (es : List Entry) (d : Entry) (few : n ≤ 31) where
+  pub led-says : isLed k g n es ≡ true → Rival k g n es d
+  unfolding isLed
+  led-says h =
+      let t = found-from k g 1 n es d (rw (least-is n few) at h) in
+      let r : rivals k g (suc (t .0)) (getD es (t .0) d) ≡ true = ap (λ (m : ℕ). rivals k g m (getD es (t .0) d)) (omega arith) ∙ t .2 in
+      record { index = t .0; counted = t .1; other = rival-other k g (suc (t .0)) (getD es (t .0) d) r; rival = r }
+
+  pub free-says : isLed k g n es ≡ false → (i : ℕ) → i < n → i < length es → (suc i ≡ k → ⊥) → Follower g (getD es i d)
+  unfolding isLed
+  free-says h i p q x =
+      follower k g (suc i) (getD es i d) x
+      (ap (λ (m : ℕ). rivals k g m (getD es i d)) (omega arith) ∙ not-from k g 1 n i es d (rw (least-is n few) at h) p q)

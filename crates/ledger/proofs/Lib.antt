@@ -1,0 +1,4 @@
+pub mod Turns
+pub mod Nodes
+pub mod Ledgers
+pub mod Unique

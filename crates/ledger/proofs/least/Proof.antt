@@ -1,0 +1,16 @@
+-- By the test.
+use Rattle.wire.proofs.Tests.{tests}
+use Rattle.ledger.specs.Ledger.{leastOf}
+use Rattle.ledger.proofs.least.Statement.{statement}
+use Rattle.ledger.proofs.least.Tie as tie
+
+more : tie.Need-returns
+unfolding leastOf
+more c = search tests
+
+fewer : tie.Need-returns-2
+unfolding leastOf
+fewer c = search tests
+
+pub least-spec : {M : Type 1} → statement M
+least-spec = tie.close (tie.spec more fewer)

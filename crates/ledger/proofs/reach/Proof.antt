@@ -1,0 +1,17 @@
+-- One law for each exit.
+use borrow.Author.Needs.{needs}
+use Rattle.ledger.proofs.Nodes.{its-node, other-node, its-group, other-group, some-group}
+use Rattle.ledger.proofs.reach.Statement.{statement}
+use Rattle.ledger.proofs.reach.Tie as tie
+
+pub reach-spec : {M : Type 1} → statement M
+reach-spec =
+    tie.close
+    (tie.spec
+    (λ c. search needs)
+    (λ c. search needs)
+    (λ c. search its-node)
+    (λ c. search other-node)
+    (λ c. search its-group)
+    (λ c. search other-group)
+    (λ c. search some-group))

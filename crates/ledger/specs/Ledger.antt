@@ -1,0 +1,79 @@
+-- Document 01, "The host session": the record of all nodes. Node k has the entry of index k - 1; entries past n stay as they are.
+use Prim.Native.Nat.{ℕ, zero, suc}
+use mathlib.Core.Bool.{Bool, false, cond, not, _&&_, _||_}
+use mathlib.Core.List.{List, [], _∷_, map}
+use lib.Dec.{ltb, eqb}
+use lib.ListN.{replicate}
+use Rattle.wire.specs.declared.address.Group.{Group}
+use Rattle.wire.specs.declared.address.Address.{Address}
+use Rattle.wire.specs.declared.address.Address.the-variants as address
+use Rattle.command.specs.declared.Command.{Command}
+use Rattle.command.specs.declared.Command.the-variants.{HardReset}
+use Rattle.status.specs.declared.Answer.{Answer}
+use Rattle.node.specs.Setting.{place}
+use Rattle.entry.specs.declared.Entry.{Entry}
+use Rattle.entry.specs.declared.Reach.{Reach}
+use Rattle.entry.specs.declared.Reach.the-variants.{Misses, Hits, May}
+use Rattle.entry.specs.Entry.{knows, shows, entryUp, noted, doubted}
+
+-- what an index past the record's end reads as
+abbrev pub blank : Entry
+blank = record {
+  settings = record {
+    place = record { address = record { 0 = 0 }; group = record { 0 = 0 }; leader = false };
+    mask = 0;
+    outputs = 0;
+    pwm = record { first = 0; second = 0 };
+    held = record { outputs = 0; pwm = record { first = 0; second = 0 } };
+    timer = 0;
+  };
+  known = record { place = false; mask = false; outputs = false; pwm = false; held = false; timer = false };
+}
+
+-- "makes all settings known as power-up has them"
+unfoldable pub ledgerUp : List Entry
+ledgerUp = replicate 31 entryUp
+
+-- how many entries n counts
+unfoldable pub leastOf : ℕ → ℕ
+leastOf n = cond (ltb 31 n) 31 n
+
+-- "Who may be written: node k for an individual command ..; for a group, nodes known to be in it and every node whose place is in doubt"
+abbrev pub reachOf : Address → ℕ → Entry → Reach
+reachOf (address.Individual i) k e = cond (eqb (i .0) k) Hits Misses
+reachOf (address.Group g) k e = cond (knows e place) (cond (eqb (shows e place .group .0) (g .0)) Hits Misses) May
+
+-- the first n entries, of nodes j, j + 1, .., by a rule; the rest stays
+unfoldable pub eachFrom : (ℕ → Entry → Entry) → ℕ → ℕ → List Entry → List Entry
+eachFrom f j zero es = es
+eachFrom f j (suc n) [] = []
+eachFrom f j (suc n) (e ∷ es) = f j e ∷ eachFrom f (suc j) n es
+
+-- what the entry of node k becomes when a command to an address was answered
+abbrev pub settling : Answer → Address → Command → ℕ → Entry → Entry
+settling a to c k e = noted a (reachOf to k e) c e
+
+-- and the record
+unfoldable pub settled : Answer → Address → Command → ℕ → List Entry → List Entry
+settled a to c n es = eachFrom (settling a to c) 1 (leastOf n) es
+
+-- the same for every node: all that it holds is in doubt
+abbrev pub forgetting : ℕ → Entry → Entry
+forgetting k e = doubted HardReset e
+
+-- "Hard Reset .. puts all settings in doubt"
+unfoldable pub forgotten : List Entry → List Entry
+forgotten es = map (doubted HardReset) es
+
+-- node j, another than k, "leads that group or has its place in doubt"
+abbrev pub rivals : ℕ → Group → ℕ → Entry → Bool
+rivals k g j e = not (eqb j k) && (not (knows e place) || (shows e place .leader && eqb (shows e place .group .0) (g .0)))
+
+-- one of the first n entries, of nodes j, j + 1, .., is such a node's
+unfoldable pub ledFrom : ℕ → Group → ℕ → ℕ → List Entry → Bool
+ledFrom k g j zero es = false
+ledFrom k g j (suc n) [] = false
+ledFrom k g j (suc n) (e ∷ es) = rivals k g j e || ledFrom k g (suc j) n es
+
+unfoldable pub isLed : ℕ → Group → ℕ → List Entry → Bool
+isLed k g n es = ledFrom k g 1 (leastOf n) es

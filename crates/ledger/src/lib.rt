@@ -1,0 +1,110 @@
+// The host's record of all nodes: 31 entries, of which those of nodes 1 to n are told of every exchange.
+use command::Command;
+use entry::Entry;
+use entry::Reach;
+use status::Answer;
+use wire::Address;
+use wire::Group;
+ghost use mathlib.Core.Path.{_≡_};
+ghost use Rattle.ledger.specs.Ledger.{ledgerUp, leastOf, reachOf, settled, forgotten, rivals, isLed};
+
+// At power-up.
+pub fn power_up() -> [Entry; 31]
+    ensures { λ r. ⌜ r ≡ ledgerUp ⌝ }
+{
+    let e = Entry::power_up();
+    [e; 31]
+}
+
+// n, or 31 where n is more: how many entries n counts.
+fn least(n: u8) -> u8
+    ensures { λ r. ⌜ r ≡ leastOf n ⌝ }
+{
+    if 31 < n {
+        return 31;
+    }
+    n
+}
+
+// Whether a command to an address goes to node k.
+fn reach(to: Address, k: u8, e: Entry) -> Reach
+    ensures { λ r. ⌜ r ≡ reachOf to k e ⌝ }
+{
+    match to {
+        Address::Individual(i) => { if i.0 == k { Reach::Hits } else { Reach::Misses } }
+        Address::Group(g) => {
+            if e.known.place {
+                if e.settings.place.group.0 == g.0 {
+                    Reach::Hits
+                } else {
+                    Reach::Misses
+                }
+            } else {
+                Reach::May
+            }
+        }
+    }
+}
+
+// The record after an exchange: a command to an address, and how it was answered.
+pub fn settle(entries: [Entry; 31], n: u8, to: Address, c: Command, answer: Answer) -> [Entry; 31]
+    ensures { λ r. ⌜ r ≡ settled answer to c n entries ⌝ }
+{
+    let end = least(n);
+    let mut all = entries;
+    let mut i: u8 = 0;
+    while i < end {
+        let at = i as usize;
+        let e = all[at];
+        all[at] = e.note(answer, reach(to, i + 1, e), c);
+        i += 1;
+    }
+    all
+}
+
+// Everything in doubt, in all 31 entries: what a Hard Reset leaves.
+pub fn forget(entries: [Entry; 31]) -> [Entry; 31]
+    ensures { λ r. ⌜ r ≡ forgotten entries ⌝ }
+{
+    let mut all = entries;
+    let mut i = 0;
+    while i < 31 {
+        let e = all[i];
+        all[i] = e.doubt(Command::HardReset);
+        i += 1;
+    }
+    all
+}
+
+// Whether node j, another than k, leads group g or has its place in doubt.
+fn is_rival(k: u8, g: Group, j: u8, e: Entry) -> bool
+    ensures { λ r. ⌜ r ≡ rivals k g j e ⌝ }
+{
+    if j == k {
+        return false;
+    }
+    if e.known.place {
+        if e.settings.place.leader {
+            return e.settings.place.group.0 == g.0;
+        }
+        return false;
+    }
+    true
+}
+
+// Whether one of nodes 1 to n, another than k, leads group g or has its place in doubt.
+pub fn is_led(entries: [Entry; 31], n: u8, k: u8, g: Group) -> bool
+    ensures { λ r. ⌜ r ≡ isLed k g n entries ⌝ }
+{
+    let end = least(n);
+    let mut i: u8 = 0;
+    while i < end {
+        let at = i as usize;
+        let e = entries[at];
+        if is_rival(k, g, i + 1, e) {
+            return true;
+        }
+        i += 1;
+    }
+    false
+}

@@ -1,0 +1,113 @@
+-- Reports; a law for each exit of the code.
+use Prim.Native.Nat.{ℕ, _+_, _<_, _≤_}
+use mathlib.Core.Bool.{Bool, true, false, _&&_, false≢true}
+use mathlib.Core.List.{List}
+use mathlib.Core.Path.{_≡_, sym, ap, _∙_}
+use lib.Dec.{ltb, eqb}
+use borrow.Author.Tests.{lt-ltb, le-ltb, ltb-true}
+use Rattle.wire.specs.Promise.{Promise, promised}
+use Rattle.wire.specs.declared.address.Individual.{Individual}
+use Rattle.wire.specs.declared.address.Address.{Address}
+use Rattle.wire.specs.declared.address.Address.the-variants as address
+use Rattle.wire.specs.declared.refusal.Refusal.the-variants as refusal
+use Rattle.command.specs.declared.Place.{Place}
+use Rattle.command.specs.declared.Command.{Command}
+use Rattle.command.specs.declared.Command.the-variants.{SetAddress}
+use Rattle.status.specs.Status.{judged}
+use Rattle.status.specs.declared.Answer.{Answer}
+use Rattle.status.specs.declared.Answer.the-variants.{Clear, Marked, Silent}
+use Rattle.entry.specs.declared.Entry.{Entry}
+use Rattle.ledger.specs.Ledger.{settled}
+use Rattle.session.specs.declared.Exchange.{Exchange}
+use Rattle.session.specs.declared.Exchange.the-variants.{Idle, Waiting}
+use Rattle.session.specs.declared.Session.{Session}
+use Rattle.session.specs.declared.End.the-variants.{Done}
+use Rattle.session.specs.declared.Step.{Step}
+use Rattle.session.specs.Session.{stepNumber, refusedStep, closedOf, isPlacing, askDue, givenPlace}
+use Rattle.reports.specs.Report.{isNop}
+use Rattle.session.proofs.Sessions.{and-true}
+use Rattle.reports.specs.Report.{onWalk, giving, asking, idleAt, concluded, finishedBy, finished, reportOf}
+
+module _ (s : Session) (to : Address) where
+  pub walks : (i : Individual) (r : Bool) → to ≡ address.Individual i → s .walk < s .n → r ≡ eqb (i .0) (s .walk + 1) → r ≡ onWalk s to
+  walks i r p q h = rw (p, lt-ltb (s .walk) (s .n) q) h
+
+  pub walked : (i : Individual) → to ≡ address.Individual i → s .n ≤ s .walk → false ≡ onWalk s to
+  walked i p q = rw (p, le-ltb (s .walk) (s .n) q)
+
+module _ (s : Session) (to : Address) (c : Command) (w : Bool) (by : w ≡ onWalk s to) where
+  pub giving-by : (r : Bool) → w ≡ true → r ≡ isPlacing c → r ≡ giving s to c
+  unfolding giving
+  giving-by r p h = rw (← by, p) h
+
+  pub giving-not : w ≡ false → false ≡ giving s to c
+  unfolding giving
+  giving-not p = rw (← by, p)
+
+  pub asking-by : (k r : Bool) → w ≡ true → k ≡ isNop c → k ≡ true → r ≡ askDue s → r ≡ asking s to c
+  unfolding asking
+  asking-by k r p q y h = rw (← by, p, ← q, y) h
+
+  pub asking-other : (k : Bool) → w ≡ true → k ≡ isNop c → k ≡ false → false ≡ asking s to c
+  unfolding asking
+  asking-other k p q y = rw (← by, p, ← q, y)
+
+  pub asking-not : w ≡ false → false ≡ asking s to c
+  unfolding asking
+  asking-not p = rw (← by, p)
+
+module _ (s : Session) (to : Address) (c : Command) (a : Answer) (r : Session) where
+  pub marked-end : a ≡ Marked → r ≡ idleAt s (s .walk) (s .entries) → r ≡ concluded s to c a
+  unfolding concluded
+  marked-end p h = rw p h
+
+  pub silent-end : (es : List Entry) → a ≡ Silent → es ≡ settled Silent to c (s .n) (s .entries) → r ≡ idleAt s (s .walk) es → r ≡ concluded s to c a
+  unfolding concluded
+  silent-end es p q h = rw (p, ← q) h
+
+  pub given-end : (es : List Entry) (g : Bool) → a ≡ Clear → g ≡ giving s to c → g ≡ true
+      → es ≡ settled Clear to c (s .n) (s .entries) → r ≡ idleAt s (s .walk + 1) es → r ≡ concluded s to c a
+  unfolding concluded
+  given-end es g p q y f h = rw (p, ← q, y, ← f) h
+
+  pub asked-end : (es : List Entry) (g k : Bool) (x : Place) → a ≡ Clear → g ≡ giving s to c → g ≡ false → k ≡ asking s to c → k ≡ true
+      → x ≡ givenPlace (s .walk + 1) → es ≡ settled Clear to (SetAddress x) (s .n) (s .entries) → r ≡ idleAt s (s .walk + 1) es → r ≡ concluded s to c a
+  unfolding concluded
+  asked-end es g k x p q y t z e f h = rw (p, ← q, y, ← t, z, ← e, ← f) h
+
+  pub other-end : (es : List Entry) (g k : Bool) → a ≡ Clear → g ≡ giving s to c → g ≡ false → k ≡ asking s to c → k ≡ false
+      → es ≡ settled Clear to c (s .n) (s .entries) → r ≡ idleAt s (s .walk) es → r ≡ concluded s to c a
+  unfolding concluded
+  other-end es g k p q y t z f h = rw (p, ← q, y, ← t, z, ← f) h
+
+module _ (s : Session) (a : Answer) (v : Bool) (by : v ≡ closedOf s) where
+  pub closed-reports : (r : Step) → v ≡ true → r ≡ refusedStep s refusal.Idle → Promise stepNumber r (finished s a)
+  unfolding finished
+  closed-reports r p h = promised (rw (← by, p) h)
+
+  pub idle-reports : (r : Step) → v ≡ false → s .exchange ≡ Idle → r ≡ refusedStep s refusal.Idle → Promise stepNumber r (finished s a)
+  unfolding finished
+  idle-reports r p q h = promised (rw (← by, p) (h ∙ sym (ap (λ (x : Exchange). finishedBy x s a) q)))
+
+  pub waiting-reports : (t : Session) (to : Address) (c : Command) → v ≡ false → s .exchange ≡ Waiting to c → t ≡ concluded s to c a
+      → Promise stepNumber (record { end = Done; session = t }) (finished s a)
+  unfolding finished
+  waiting-reports t to c p q h =
+      promised (rw (← by, p) (ap (λ (x : Session). record { end = Done; session = x }) h ∙ sym (ap (λ (x : Exchange). finishedBy x s a) q)))
+
+pub reported : (s : Session) (bytes : List ℕ) (a : Answer) (r : Step) → a ≡ judged bytes → Promise stepNumber r (finished s a) → Promise stepNumber r (reportOf s bytes)
+unfolding reportOf
+reported s bytes a r p h = rw (← p) h
+
+-- an exchange of the walk
+on-walks : (s : Session) (to : Address) → onWalk s to ≡ true → s .walk < s .n
+on-walks s (address.Individual i) h = ltb-true (s .walk) (s .n) (and-true (ltb (s .walk) (s .n)) (eqb (i .0) (s .walk + 1)) h .0)
+on-walks s (address.Group g) h = absurd (false≢true h)
+
+pub giving-walks : (b : Bool) (s : Session) (to : Address) (c : Command) → b ≡ giving s to c → b ≡ true → s .walk < s .n
+unfolding giving
+giving-walks b s to c p q = on-walks s to (and-true (onWalk s to) (isPlacing c) (sym p ∙ q) .0)
+
+pub asking-walks : (b : Bool) (s : Session) (to : Address) (c : Command) → b ≡ asking s to c → b ≡ true → s .walk < s .n
+unfolding asking
+asking-walks b s to c p q = on-walks s to (and-true (onWalk s to) (isNop c) (and-true (onWalk s to && isNop c) (askDue s) (sym p ∙ q) .0) .0)

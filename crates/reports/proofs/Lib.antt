@@ -1,0 +1,5 @@
+pub mod Closing
+pub mod Concluding
+pub mod Soundness
+pub mod Examples
+pub mod Unique

@@ -1,0 +1,156 @@
+// Reporting: an open exchange is closed by what was received, or by silence.
+use command::Command;
+use entry::Entry;
+use session::End;
+use session::Exchange;
+use session::Session;
+use session::Step;
+use session::given_place;
+use session::is_ask_due;
+use session::is_closed;
+use session::is_placing;
+use session::refuse;
+use status::Answer;
+use wire::Address;
+use wire::Refusal;
+ghost use mathlib.Core.Path.{_≡_};
+ghost use Rattle.wire.specs.Promise.{Promise};
+ghost use Rattle.session.specs.Session.{stepNumber};
+ghost use Rattle.status.specs.declared.Answer.the-variants.{Silent};
+ghost use Rattle.reports.specs.Report.{isNop, onWalk, giving, asking, idleAt, concluded, finished, reportOf};
+
+fn is_nop(c: Command) -> bool
+    ensures { λ r. ⌜ r ≡ isNop c ⌝ }
+{
+    match c {
+        Command::Nop => true,
+        Command::SetAddress(_) => false,
+        Command::DefineStatus(_) => false,
+        Command::ReadStatus(_) => false,
+        Command::SetPwm(_) => false,
+        Command::SynchOutput => false,
+        Command::SetOutputs(_) => false,
+        Command::SetSynchOutput(_) => false,
+        Command::SetTimerMode(_) => false,
+        Command::SynchInput => false,
+        Command::HardReset => false,
+    }
+}
+
+// Whether an exchange is about the node to which the walk gives its next address.
+fn is_on_walk(s: Session, to: Address) -> bool
+    ensures { λ r. ⌜ r ≡ onWalk s to ⌝ }
+{
+    match to {
+        Address::Individual(i) => {
+            if s.walk < s.n {
+                return i.0 == s.walk + 1;
+            }
+            false
+        }
+        Address::Group(_) => false,
+    }
+}
+
+// The walk's Set Address waits.
+fn is_giving(s: Session, to: Address, c: Command) -> bool
+    ensures { λ r. ⌜ r ≡ giving s to c ⌝ }
+{
+    if is_on_walk(s, to) {
+        return is_placing(c);
+    }
+    false
+}
+
+// The walk's "ask" waits.
+fn is_asking(s: Session, to: Address, c: Command) -> bool
+    ensures { λ r. ⌜ r ≡ asking s to c ⌝ }
+{
+    if is_on_walk(s, to) {
+        if is_nop(c) {
+            return is_ask_due(s);
+        }
+    }
+    false
+}
+
+// The session with no exchange open, at a step of the walk, with a record.
+fn idle_at(s: Session, walk: u8, entries: [Entry; 31]) -> Session
+    ensures { λ r. ⌜ r ≡ idleAt s walk entries ⌝ }
+{
+    Session {
+        started: s.started,
+        n: s.n,
+        walk,
+        exchange: Exchange::Idle,
+        entries,
+    }
+}
+
+// The session once its exchange, a command to an address, is answered.
+fn conclude(s: Session, to: Address, c: Command, answer: Answer) -> Session
+    ensures { λ r. ⌜ r ≡ concluded s to c answer ⌝ }
+{
+    let entries = s.entries;
+    match answer {
+        Answer::Marked => idle_at(s, s.walk, entries),
+        Answer::Silent => idle_at(
+            s,
+            s.walk,
+            ledger::settle(entries, s.n, to, c, Answer::Silent),
+        ),
+        Answer::Clear => {
+            if is_giving(s, to, c) {
+                return idle_at(
+                    s,
+                    s.walk + 1,
+                    ledger::settle(entries, s.n, to, c, Answer::Clear),
+                );
+            }
+            if is_asking(s, to, c) {
+                let given = Command::SetAddress(given_place(s.walk + 1));
+                return idle_at(
+                    s,
+                    s.walk + 1,
+                    ledger::settle(entries, s.n, to, given, Answer::Clear),
+                );
+            }
+            idle_at(
+                s,
+                s.walk,
+                ledger::settle(entries, s.n, to, c, Answer::Clear),
+            )
+        }
+    }
+}
+
+// The end of the open exchange; 8 where there is none. A closed session has none.
+fn finish(s: Session, answer: Answer) -> Step
+    ensures { λ r. ⌜ Promise stepNumber r (finished s answer) ⌝ }
+{
+    if is_closed(s) {
+        return refuse(s, Refusal::Idle);
+    }
+    let x = s.exchange;
+    match x {
+        Exchange::Idle => refuse(s, Refusal::Idle),
+        Exchange::Waiting { to, command } => Step {
+            end: End::Done,
+            session: conclude(s, to, command, answer),
+        },
+    }
+}
+
+// Closes the open exchange by the bytes received.
+pub fn report(s: Session, bytes: &[u8]) -> Step
+    ensures { λ r. ⌜ Promise stepNumber r (reportOf s (now (bytes .entry))) ⌝ }
+{
+    finish(s, status::judge(bytes))
+}
+
+// Closes the open exchange by silence.
+pub fn silence(s: Session) -> Step
+    ensures { λ r. ⌜ Promise stepNumber r (finished s Silent) ⌝ }
+{
+    finish(s, Answer::Silent)
+}

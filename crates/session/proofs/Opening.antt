@@ -1,0 +1,93 @@
+-- Sessions: which count as closed, how one starts, what a look finds; a law for each exit of the code.
+use Prim.Native.Nat.{ℕ, _+_, _-_, _<_, _≤_}
+use mathlib.Core.Bool.{Bool, true, false, not}
+use mathlib.Core.List.{List}
+use mathlib.Core.Path.{_≡_, ap}
+use native.Mathlib.Omega.{arith}
+use lib.Dec.{ltb}
+use lib.ListN.{getD}
+use borrow.Author.Tests.{lt-ltb, le-ltb, lt-leb, le-leb}
+use Rattle.wire.specs.Promise.{Promise, promised}
+use Rattle.wire.specs.declared.address.Individual.{Individual}
+use Rattle.wire.specs.declared.address.Address.{Address}
+use Rattle.wire.specs.declared.address.Address.the-variants as address
+use Rattle.wire.specs.declared.refusal.Refusal.the-variants.{Range, NoNode}
+use Rattle.command.specs.declared.Command.{Command}
+use Rattle.entry.specs.declared.Entry.{Entry}
+use Rattle.ledger.specs.Ledger.{blank, ledgerUp}
+use Rattle.session.specs.declared.Exchange.{Exchange}
+use Rattle.session.specs.declared.Exchange.the-variants.{Idle, Waiting}
+use Rattle.session.specs.declared.Session.{Session}
+use Rattle.session.specs.declared.End.the-variants.{Done}
+use Rattle.session.specs.declared.Step.{Step}
+use Rattle.session.specs.declared.Seen.the-variants as seen
+use Rattle.session.specs.Session.{offChain, strayOf, validOf, stepNumber, refusedStep, poweredOf, lookOf, lookNumber, closedOf, askDue}
+
+pub node-zero : (n : ℕ) (to : Address) (i : Individual) → to ≡ address.Individual i → i .0 < 1 → true ≡ offChain n to
+node-zero n to i p q = rw (p, lt-ltb (i .0) 1 q)
+
+pub node-past : (n : ℕ) (to : Address) (i : Individual) (r : Bool) → to ≡ address.Individual i → 1 ≤ i .0 → r ≡ ltb n (i .0) → r ≡ offChain n to
+node-past n to i r p q h = rw (p, le-ltb (i .0) 1 q) h
+
+pub waiting-strays : (n : ℕ) (x : Exchange) (to : Address) (c : Command) (r : Bool) → x ≡ Waiting to c → r ≡ offChain n to → r ≡ strayOf n x
+waiting-strays n x to c r p h = rw p h
+
+module _ (s : Session) where
+  pub many-invalid : 31 < s .n → false ≡ validOf s
+  unfolding validOf
+  many-invalid p = rw (lt-leb (s .n) 31 p)
+
+  pub past-invalid : s .n ≤ 31 → s .n < s .walk → false ≡ validOf s
+  unfolding validOf
+  past-invalid p q = rw (le-leb (s .n) 31 p, lt-leb (s .walk) (s .n) q)
+
+  pub stray-invalid : (t : Bool) → s .n ≤ 31 → s .walk ≤ s .n → t ≡ strayOf (s .n) (s .exchange) → not t ≡ validOf s
+  unfolding validOf
+  stray-invalid t p q h = rw (le-leb (s .n) 31 p, le-leb (s .walk) (s .n) q, h)
+
+  pub power-low : (n : ℕ) (r : Step) → n < 1 → r ≡ refusedStep s Range → Promise stepNumber r (poweredOf s n)
+  unfolding poweredOf
+  power-low n r p h = promised (rw (lt-ltb n 1 p) h)
+
+  pub power-high : (n : ℕ) (r : Step) → 1 ≤ n → 31 < n → r ≡ refusedStep s Range → Promise stepNumber r (poweredOf s n)
+  unfolding poweredOf
+  power-high n r p q h = promised (rw (le-ltb n 1 p, lt-ltb 31 n q) h)
+
+  pub power-good : (n : ℕ) (es : List Entry) → 1 ≤ n → n ≤ 31 → es ≡ ledgerUp
+      → Promise stepNumber (record { end = Done; session = record { started = true; n = n; walk = 0; exchange = Idle; entries = es } }) (poweredOf s n)
+  unfolding poweredOf
+  power-good n es p q h = promised (rw (le-ltb n 1 p, le-ltb 31 n q, h))
+
+  pub look-zero : (i : Individual) → i .0 < 1 → Promise lookNumber (seen.Refused NoNode) (lookOf s i)
+  unfolding lookOf
+  look-zero i p = promised (rw (lt-ltb (i .0) 1 p))
+
+  pub look-past : (i : Individual) → 1 ≤ i .0 → s .n < i .0 → Promise lookNumber (seen.Refused NoNode) (lookOf s i)
+  unfolding lookOf
+  look-past i p q = promised (rw (le-ltb (i .0) 1 p, lt-ltb (s .n) (i .0) q))
+
+  pub look-none : (i : Individual) → 1 ≤ i .0 → i .0 ≤ s .n → 31 < i .0 → Promise lookNumber (seen.Refused NoNode) (lookOf s i)
+  unfolding lookOf
+  look-none i p q t = promised (rw (le-ltb (i .0) 1 p, le-ltb (s .n) (i .0) q, lt-ltb 31 (i .0) t))
+
+  pub look-found : (i : Individual) → 1 ≤ i .0 → i .0 ≤ s .n → i .0 ≤ 31 → Promise lookNumber (seen.Found (getD (s .entries) (i .0 - 1) blank)) (lookOf s i)
+  unfolding lookOf
+  look-found i p q t = promised (rw (le-ltb (i .0) 1 p, le-ltb (s .n) (i .0) q, le-ltb 31 (i .0) t))
+
+  pub closed-valid : (v : Bool) → v ≡ validOf s → v ≡ true → not (s .started) ≡ closedOf s
+  unfolding closedOf
+  closed-valid v p q = rw (← p, q)
+
+  pub closed-invalid : (v : Bool) → v ≡ validOf s → v ≡ false → true ≡ closedOf s
+  unfolding closedOf
+  closed-invalid v p q = rw (← p, q)
+
+  pub walk-ended : 30 < s .walk → false ≡ askDue s
+  unfolding askDue
+  walk-ended p = rw (lt-ltb 30 (s .walk) p)
+
+  pub due-by-place : s .walk ≤ 30 → not (getD (s .entries) (s .walk) blank .known .place) ≡ askDue s
+  unfolding askDue
+  due-by-place p =
+      let e : s .walk ≡ s .walk + 1 - 1 = omega arith in
+      rw (le-ltb 30 (s .walk) p) (ap (λ (i : ℕ). not (getD (s .entries) i blank .known .place)) e)

@@ -1,0 +1,101 @@
+-- What a valid session and a session that isn't closed are, in plain words; a sound one stays sound at power-up.
+use Prim.Native.Nat.{ℕ, _+_, _≤_}
+use mathlib.Core.Bool.{Bool, true, false, cond, not, _&&_, _||_, true≢false, false≢true}
+use mathlib.Core.Path.{_≡_, refl}
+use native.Mathlib.Omega.{arith}
+use lib.Dec.{ltb, leb}
+use borrow.Author.Tests.{le-ltb, le-leb, ltb-false, leb-true}
+use Rattle.wire.specs.Numbers.{done}
+use Rattle.wire.specs.declared.address.Individual.{Individual}
+use Rattle.wire.specs.declared.address.Address.the-variants as address
+use Rattle.wire.specs.declared.refusal.Refusal.{Refusal}
+use Rattle.wire.specs.declared.refusal.Refusal.the-variants as refusal
+use Rattle.node.specs.Setting.{place}
+use Rattle.entry.specs.Entry.{knows}
+use Rattle.ledger.proofs.Ledgers.{length-up}
+use Rattle.session.specs.declared.Session.{Session}
+use Rattle.session.specs.declared.Step.{Step}
+use Rattle.session.specs.Session.{Sound, freshOf, offChain, strayOf, validOf, closedOf, askDue, entryOf, stepNumber, refusedStep, poweredOf}
+
+pub and-true : (a b : Bool) → (a && b) ≡ true → (a ≡ true) × (b ≡ true)
+and-true true b h = (refl, h)
+and-true false b h = absurd (false≢true h)
+
+pub not-true : (a : Bool) → not a ≡ true → a ≡ false
+not-true true h = absurd (false≢true h)
+not-true false h = refl
+
+pub not-false : (a : Bool) → not a ≡ false → a ≡ true
+not-false true h = refl
+not-false false h = absurd (true≢false h)
+
+pub or-false : (a b : Bool) → (a || b) ≡ false → (a ≡ false) × (b ≡ false)
+or-false true b h = absurd (true≢false h)
+or-false false b h = (refl, h)
+
+-- a valid session
+pub record Valid (s : Session) : Type 0 where
+  pub few : s .n ≤ 31
+  pub walked : s .walk ≤ s .n
+  pub onChain : strayOf (s .n) (s .exchange) ≡ false
+
+pub valid-says : (s : Session) → validOf s ≡ true → Valid s
+unfolding validOf
+valid-says s h =
+    let t = and-true (leb (s .n) 31 && leb (s .walk) (s .n)) (not (strayOf (s .n) (s .exchange))) h in
+    let u = and-true (leb (s .n) 31) (leb (s .walk) (s .n)) (t .0) in
+    record { few = leb-true (s .n) 31 (u .0); walked = leb-true (s .walk) (s .n) (u .1); onChain = not-true (strayOf (s .n) (s .exchange)) (t .1) }
+
+open-says : (v t : Bool) → cond v (not t) true ≡ false → (v ≡ true) × (t ≡ true)
+open-says true t h = (refl, not-false t h)
+open-says false t h = absurd (true≢false h)
+
+pub closed-not : (s : Session) → closedOf s ≡ false → (validOf s ≡ true) × (s .started ≡ true)
+unfolding closedOf
+closed-not s h = open-says (validOf s) (s .started) h
+
+-- whether the place of the walk's next node is in doubt
+pub due-says : (s : Session) → s .walk ≤ 30 → askDue s ≡ not (knows (entryOf s (s .walk + 1)) place)
+unfolding askDue
+due-says s h = rw (le-ltb 30 (s .walk) h)
+
+-- a node 1 to n
+pub record OnChain (n : ℕ) (i : Individual) : Type 0 where
+  pub low : 1 ≤ i .0
+  pub high : i .0 ≤ n
+
+pub on-chain : (n : ℕ) (i : Individual) → offChain n (address.Individual i) ≡ false → OnChain n i
+on-chain n i h =
+    let t = or-false (ltb (i .0) 1) (ltb n (i .0)) h in
+    record { low = ltb-false (i .0) 1 (t .0); high = ltb-false n (i .0) (t .1) }
+
+-- what is valid, from its parts
+pub valid-from : (s : Session) → s .n ≤ 31 → s .walk ≤ s .n → strayOf (s .n) (s .exchange) ≡ false → validOf s ≡ true
+unfolding validOf
+valid-from s p q h = rw (le-leb (s .n) 31 p, le-leb (s .walk) (s .n) q, h)
+
+pub fresh-sound : Sound freshOf
+fresh-sound = record { valid = valid-from freshOf (omega arith) (omega arith) refl; whole = length-up }
+
+-- a step to one of two
+pub either : (b : Bool) (x y : Step) → (b ≡ true → Sound (x .session)) → (b ≡ false → Sound (y .session)) → Sound (cond b x y .session)
+either true x y p q = p refl
+either false x y p q = q refl
+
+pub power-up-sound : (s : Session) (n : ℕ) → Sound s → Sound (poweredOf s n .session)
+unfolding poweredOf
+power-up-sound s n h =
+    either (ltb n 1 || ltb 31 n) _ _ (λ e. h)
+    (λ e. record { valid = valid-from _ (ltb-false 31 n (or-false (ltb n 1) (ltb 31 n) e .1)) (omega arith) refl; whole = length-up })
+
+-- a step is done, or gives back the session that it was handed
+abbrev pub Stays : Session → Step → Type 0
+Stays s r = (stepNumber r ≡ done → ⊥) → r .session ≡ s
+
+pub by-test : (t : Bool) (s : Session) (why : Refusal) (r : Step) → Stays s r → Stays s (cond t (refusedStep s why) r)
+by-test true s why r h z = refl
+by-test false s why r h z = h z
+
+pub power-up-stays : (s : Session) (n : ℕ) → Stays s (poweredOf s n)
+unfolding poweredOf
+power-up-stays s n = by-test (ltb n 1 || ltb 31 n) s refusal.Range _ (λ z. absurd (z refl))

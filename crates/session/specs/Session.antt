@@ -1,0 +1,113 @@
+-- Document 01, "The host session": the session, how it starts, and which ones count as closed.
+use Prim.Native.Nat.{ℕ, _+_, _-_}
+use mathlib.Core.Bool.{Bool, true, false, cond, not, _&&_, _||_}
+use lib.Dec.{ltb, leb}
+use mathlib.Core.Path.{_≡_}
+use lib.ListN.{length, getD}
+use Rattle.wire.specs.Numbers.{done, numberOf}
+use Rattle.wire.specs.declared.address.Individual.{Individual}
+use Rattle.wire.specs.declared.address.Address.{Address}
+use Rattle.wire.specs.declared.address.Address.the-variants as address
+use Rattle.wire.specs.declared.refusal.Refusal.{Refusal}
+use Rattle.wire.specs.declared.refusal.Refusal.the-variants.{Range, NoNode}
+use Rattle.command.specs.declared.Place.{Place}
+use Rattle.command.specs.declared.Command.{Command}
+use Rattle.command.specs.declared.Command.the-variants.{SetAddress, DefineStatus, ReadStatus, SetPwm, SynchOutput, SetOutputs, SetSynchOutput, SetTimerMode, SynchInput, Nop, HardReset}
+use Rattle.node.specs.Setting.{place}
+use Rattle.entry.specs.declared.Entry.{Entry}
+use Rattle.entry.specs.Entry.{knows}
+use Rattle.ledger.specs.Ledger.{blank, ledgerUp}
+use Rattle.session.specs.declared.Exchange.{Exchange}
+use Rattle.session.specs.declared.Exchange.the-variants.{Idle, Waiting}
+use Rattle.session.specs.declared.Session.{Session}
+use Rattle.session.specs.declared.End.{End}
+use Rattle.session.specs.declared.End.the-variants.{Done, Sent, Refused}
+use Rattle.session.specs.declared.Step.{Step}
+use Rattle.session.specs.declared.Seen.{Seen}
+use Rattle.session.specs.declared.Seen.the-variants as seen
+
+-- "A fresh session is closed and has no nodes"
+abbrev pub freshOf : Session
+freshOf = record { started = false; n = 0; walk = 0; exchange = Idle; entries = ledgerUp }
+
+-- "node not 1 to n"
+abbrev pub offChain : ℕ → Address → Bool
+offChain n (address.Individual i) = ltb (i .0) 1 || ltb n (i .0)
+offChain n (address.Group g) = false
+
+-- "waiting on a node not 1 to n"
+abbrev pub strayOf : ℕ → Exchange → Bool
+strayOf n Idle = false
+strayOf n (Waiting to c) = offChain n to
+
+-- "One handed in with n above 31, a walk past n, or waiting on a node not 1 to n counts as closed with no exchange open"
+unfoldable pub validOf : Session → Bool
+validOf s = leb (s .n) 31 && leb (s .walk) (s .n) && not (strayOf (s .n) (s .exchange))
+
+-- a session as it can come about: it is valid, and its record has its 31 entries
+pub record Sound (s : Session) : Type 0 where
+  pub valid : validOf s ≡ true
+  pub whole : length (s .entries) ≡ 31
+
+-- the number of a call's end
+abbrev pub endNumber : End → ℕ
+endNumber Done = done
+endNumber (Sent n) = done
+endNumber (Refused why) = numberOf why
+
+abbrev pub stepNumber : Step → ℕ
+stepNumber r = endNumber (r .end)
+
+-- a refused call gives back the session as it was handed in
+abbrev pub refusedStep : Session → Refusal → Step
+refusedStep s why = record { end = Refused why; session = s }
+
+-- "Power-up with n nodes (1 to 31) starts a session, at any time, drops an open exchange and makes all settings known as power-up has them; a bad n gives 6"
+unfoldable pub poweredOf : Session → ℕ → Step
+poweredOf s n =
+    cond (ltb n 1 || ltb 31 n)
+    (refusedStep s Range)
+    (record { end = Done; session = record { started = true; n = n; walk = 0; exchange = Idle; entries = ledgerUp } })
+
+-- the entry of node k
+abbrev pub entryOf : Session → ℕ → Entry
+entryOf s k = getD (s .entries) (k - 1) blank
+
+-- what a look at a node finds: 10 where the node is not 1 to n
+unfoldable pub lookOf : Session → Individual → Seen
+lookOf s i =
+    cond (ltb (i .0) 1 || ltb (s .n) (i .0) || ltb 31 (i .0)) (seen.Refused NoNode) (seen.Found (entryOf s (i .0)))
+
+abbrev pub lookNumber : Seen → ℕ
+lookNumber (seen.Found e) = done
+lookNumber (seen.Refused why) = numberOf why
+
+-- 12: "session closed"
+unfoldable pub closedOf : Session → Bool
+closedOf s = cond (validOf s) (not (s .started)) true
+
+-- the place of the walk's next node is in doubt: its Set Address is unconfirmed
+unfoldable pub askDue : Session → Bool
+askDue s = cond (ltb 30 (s .walk)) false (not (knows (entryOf s (s .walk + 1)) place))
+
+-- Set Address: sent by "next" and by "regroup" alone
+abbrev pub isPlacing : Command → Bool
+isPlacing (SetAddress p) = true
+isPlacing (DefineStatus m) = false
+isPlacing (ReadStatus m) = false
+isPlacing (SetPwm w) = false
+isPlacing SynchOutput = false
+isPlacing (SetOutputs w) = false
+isPlacing (SetSynchOutput h) = false
+isPlacing (SetTimerMode m) = false
+isPlacing SynchInput = false
+isPlacing Nop = false
+isPlacing HardReset = false
+
+-- "the next address of 1, 2, .. n and second byte 0xFF"
+abbrev pub givenPlace : ℕ → Place
+givenPlace k = record { address = record { 0 = k }; group = record { 0 = 0xFF }; leader = false }
+
+-- the node of number k
+abbrev pub nodeAt : ℕ → Address
+nodeAt k = address.Individual (record { 0 = k })

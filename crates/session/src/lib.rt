@@ -1,0 +1,200 @@
+// The host's session by value: how it starts, what it shows, and what the calls and the reports both ask of it.
+use command::Command;
+use command::Place;
+use entry::Entry;
+use wire::Address;
+use wire::Group;
+use wire::Individual;
+use wire::Refusal;
+ghost use mathlib.Core.Path.{_≡_};
+ghost use Rattle.wire.specs.Promise.{Promise};
+ghost use Rattle.session.specs.Session.{refusedStep, freshOf, offChain, strayOf, validOf, closedOf, askDue, isPlacing, givenPlace, stepNumber, poweredOf, lookNumber, lookOf};
+
+// What waits for an answer: nothing, or a command that was sent to an address. The walk's Set Address has the node that it gives its number.
+pub enum Exchange {
+    Idle,
+    Waiting { to: Address, command: Command },
+}
+
+pub struct Session {
+    pub started: bool,
+    pub n: u8,
+    pub walk: u8,
+    pub exchange: Exchange,
+    pub entries: [Entry; 31],
+}
+
+// How a call ends: done, sent as so many bytes, or refused.
+pub enum End {
+    Done,
+    Sent(usize),
+    Refused(Refusal),
+}
+
+// The session after a call; of a refused one, the session as it was handed in.
+pub struct Step {
+    pub end: End,
+    pub session: Session,
+}
+
+// A refused call gives back the session as it was handed in.
+pub fn refuse(s: Session, why: Refusal) -> Step
+    ensures { λ r. ⌜ r ≡ refusedStep s why ⌝ }
+{
+    Step {
+        end: End::Refused(why),
+        session: s,
+    }
+}
+
+// A session that is closed and has no nodes.
+pub fn fresh() -> Session
+    ensures { λ r. ⌜ r ≡ freshOf ⌝ }
+{
+    let entries = ledger::power_up();
+    Session {
+        started: false,
+        n: 0,
+        walk: 0,
+        exchange: Exchange::Idle,
+        entries,
+    }
+}
+
+// Whether an address is a node that is not 1 to n.
+pub fn off_chain(n: u8, to: Address) -> bool
+    ensures { λ r. ⌜ r ≡ offChain n to ⌝ }
+{
+    match to {
+        Address::Individual(i) => {
+            if i.0 < 1 {
+                return true;
+            }
+            n < i.0
+        }
+        Address::Group(_) => false,
+    }
+}
+
+// Whether an exchange waits on a node that is not 1 to n.
+fn is_stray(n: u8, x: Exchange) -> bool
+    ensures { λ r. ⌜ r ≡ strayOf n x ⌝ }
+{
+    match x {
+        Exchange::Idle => false,
+        Exchange::Waiting { to, command: _ } => off_chain(n, to),
+    }
+}
+
+// A session handed in that is not so counts as closed with no exchange open.
+fn is_valid(s: Session) -> bool
+    ensures { λ r. ⌜ r ≡ validOf s ⌝ }
+{
+    if 31 < s.n {
+        return false;
+    }
+    if s.n < s.walk {
+        return false;
+    }
+    let x = s.exchange;
+    !is_stray(s.n, x)
+}
+
+// Starts a session of n nodes, at any time; an open exchange is dropped.
+pub fn power_up(s: Session, n: u8) -> Step
+    ensures { λ r. ⌜ Promise stepNumber r (poweredOf s n) ⌝ }
+{
+    if n < 1 {
+        return refuse(s, Refusal::Range);
+    }
+    if 31 < n {
+        return refuse(s, Refusal::Range);
+    }
+    let entries = ledger::power_up();
+    Step {
+        end: End::Done,
+        session: Session {
+            started: true,
+            n,
+            walk: 0,
+            exchange: Exchange::Idle,
+            entries,
+        },
+    }
+}
+
+// What the host knows of a node.
+pub enum Seen {
+    Found(Entry),
+    Refused(Refusal),
+}
+
+// The entry of a node 1 to n, of any session: also a closed one shows its last known values.
+pub fn look(s: Session, node: Individual) -> Seen
+    ensures { λ r. ⌜ Promise lookNumber r (lookOf s node) ⌝ }
+{
+    let k = node.0;
+    if k < 1 {
+        return Seen::Refused(Refusal::NoNode);
+    }
+    if s.n < k {
+        return Seen::Refused(Refusal::NoNode);
+    }
+    if 31 < k {
+        return Seen::Refused(Refusal::NoNode);
+    }
+    let at = (k - 1) as usize;
+    Seen::Found(s.entries[at])
+}
+
+// Not started, or not a session that could have come about.
+pub fn is_closed(s: Session) -> bool
+    ensures { λ r. ⌜ r ≡ closedOf s ⌝ }
+{
+    if is_valid(s) {
+        return !s.started;
+    }
+    true
+}
+
+// Whether the walk's next node has its place in doubt, so that "ask" is due and "next" is not.
+pub fn is_ask_due(s: Session) -> bool
+    ensures { λ r. ⌜ r ≡ askDue s ⌝ }
+{
+    let at = s.walk as usize;
+    if 30 < at {
+        return false;
+    }
+    let e = s.entries[at];
+    !e.known.place
+}
+
+// Set Address is sent by "next" and by "regroup" alone.
+pub fn is_placing(c: Command) -> bool
+    ensures { λ r. ⌜ r ≡ isPlacing c ⌝ }
+{
+    match c {
+        Command::SetAddress(_) => true,
+        Command::DefineStatus(_) => false,
+        Command::ReadStatus(_) => false,
+        Command::SetPwm(_) => false,
+        Command::SynchOutput => false,
+        Command::SetOutputs(_) => false,
+        Command::SetSynchOutput(_) => false,
+        Command::SetTimerMode(_) => false,
+        Command::SynchInput => false,
+        Command::Nop => false,
+        Command::HardReset => false,
+    }
+}
+
+// The place that the walk gives to node k.
+pub fn given_place(k: u8) -> Place
+    ensures { λ r. ⌜ r ≡ givenPlace k ⌝ }
+{
+    Place {
+        address: Individual(k),
+        group: Group(0xFF),
+        leader: false,
+    }
+}

@@ -2,10 +2,11 @@
 use Prim.Native.Nat.{ℕ, _+_, _<_, _≤_}
 use mathlib.Core.Bool.{Bool, true, false}
 use mathlib.Core.List.{List, _++_}
-use mathlib.Core.Path.{_≡_, refl}
+use mathlib.Core.Path.{_≡_, refl, sym, ap, _∙_}
 use native.Mathlib.Omega.{arith}
+use lib.Dec.{ltb}
 use lib.ListN.{length, drop}
-use borrow.Author.Tests.{lt-ltb, le-ltb}
+use borrow.Author.Tests.{lt-ltb, le-ltb, ltb-true, ltb-false}
 use Rattle.wire.specs.Promise.{Outcome}
 use Rattle.wire.specs.Address.{isIndividual, isGroup, inRange}
 use Rattle.wire.specs.Buffer.{place}
@@ -13,18 +14,23 @@ use Rattle.wire.specs.declared.address.Individual.{Individual}
 use Rattle.wire.specs.declared.address.Group.{Group}
 use Rattle.wire.specs.declared.address.Address.{Address}
 use Rattle.wire.specs.declared.address.Address.the-variants as address
+use Rattle.wire.specs.Numbers.{done, numberOf}
+use Rattle.wire.specs.declared.refusal.Refusal.{Refusal}
 use Rattle.wire.specs.declared.refusal.Refusal.the-variants.{Room}
+use Rattle.wire.specs.declared.refusal.Refusal.the-variants as refusal
 use Rattle.command.specs.declared.Command.{Command}
 use Rattle.command.specs.declared.Command.the-variants.{SetAddress, DefineStatus, ReadStatus, SetPwm, SynchOutput, SetOutputs, SetSynchOutput, SetTimerMode, SynchInput, Nop, HardReset}
 use Rattle.command.specs.Build.{fitsOf, packetFor}
 use Rattle.command.proofs.Commands.{built-written}
+use Rattle.ledger.specs.Ledger.{forgotten}
+use Rattle.session.specs.declared.Exchange.the-variants.{Idle, Waiting}
 use Rattle.session.specs.declared.Session.{Session}
 use Rattle.session.specs.declared.End.the-variants.{Sent}
 use Rattle.session.specs.declared.Step.{Step}
 use Rattle.host.specs.declared.checks.Check.{Check}
-use Rattle.host.specs.declared.checks.Check.the-variants.{Clear}
-use Rattle.session.specs.Session.{offChain, refusedStep, isPlacing, nodeAt, givenPlace}
-use Rattle.host.specs.Calls.{badGroup, opened, stepBy, transmitted, byCheck, nextCheck, askCheck, orderCheck, regroupCheck, nextOf, askOf, orderOf, regroupOf}
+use Rattle.host.specs.declared.checks.Check.the-variants.{Clear, Refuse}
+use Rattle.session.specs.Session.{offChain, refusedStep, isPlacing, nodeAt, givenPlace, stepNumber}
+use Rattle.host.specs.Calls.{isReset, badGroup, opened, stepBy, transmitted, byCheck, nextCheck, askCheck, orderCheck, regroupCheck, nextOf, askOf, orderOf, regroupOf}
 use Rattle.host.proofs.Clear.{next-says, ask-says, order-says, regroup-says}
 use Rattle.session.proofs.Sessions.{on-chain, not-false}
 
@@ -114,3 +120,87 @@ regroup-sent s i g leader out h =
     let t = regroup-says s i g leader h in
     let f = node-fits (s .n) (i .0) (t .session .valid .few) (t .node .high) in
     by-clear (regroupCheck s i g leader) s _ _ _ out _ h (transmitted-sends s _ _ _ out f (rw (f, t .group)))
+
+-- refused by its check: the number alone
+abbrev pub refusing : Session → Refusal → List ℕ → Outcome Step (List ℕ)
+refusing s why out = record { answer = refusedStep s why; left = out }
+
+module _ (s : Session) (out : List ℕ) (why : Refusal) where
+  pub next-refuses : nextCheck s ≡ Refuse why → nextOf s out ≡ refusing s why out
+  unfolding nextOf
+  next-refuses h = rw h
+
+  pub ask-refuses : askCheck s ≡ Refuse why → askOf s out ≡ refusing s why out
+  unfolding askOf
+  ask-refuses h = rw h
+
+  pub order-refuses : (to : Address) (c : Command) → orderCheck s to c ≡ Refuse why → orderOf s to c out ≡ refusing s why out
+  unfolding orderOf
+  order-refuses to c h = rw h
+
+  pub regroup-refuses : (i : Individual) (g : Group) (leader : Bool) → regroupCheck s i g leader ≡ Refuse why → regroupOf s i g leader out ≡ refusing s why out
+  unfolding regroupOf
+  regroup-refuses i g leader h = rw h
+
+-- no refusal has the number of a call that is done
+not-done : (why : Refusal) → numberOf why ≡ done → ⊥
+not-done refusal.Short h = omega arith
+not-done refusal.Header h = omega arith
+not-done refusal.Long h = omega arith
+not-done refusal.Sum h = omega arith
+not-done refusal.Room h = omega arith
+not-done refusal.Range h = omega arith
+not-done refusal.Busy h = omega arith
+not-done refusal.Idle h = omega arith
+not-done refusal.NotDue h = omega arith
+not-done refusal.NoNode h = omega arith
+not-done refusal.Led h = omega arith
+not-done refusal.Closed h = omega arith
+
+-- a call with number 0: its check was clear, and its packet went out
+pub record Went (k : Check) (s : Session) (line to : Address) (c : Command) (out : List ℕ) (o : Outcome Step (List ℕ)) : Type 0 where
+  pub clear : k ≡ Clear
+  pub result : o ≡ sending s line to c out
+
+by-room : (b : Bool) (s : Session) (line to : Address) (c : Command) (out : List ℕ) (o : Outcome Step (List ℕ)) → ltb (length out) (length (packetFor line c)) ≡ b
+    → Sends s line to c out o → stepNumber (o .answer) ≡ done → o ≡ sending s line to c out
+by-room true s line to c out o e h d =
+    absurd (not-done Room (sym (ap (λ (x : Outcome Step (List ℕ)). stepNumber (x .answer)) (h .none (ltb-true _ _ e))) ∙ d))
+by-room false s line to c out o e h d = h .room (ltb-false _ _ e)
+
+went : (k : Check) (s : Session) (line to : Address) (c : Command) (out : List ℕ) (o : Outcome Step (List ℕ))
+    → (k ≡ Clear → Sends s line to c out (byCheck k s out o)) → stepNumber (byCheck k s out o .answer) ≡ done → Went k s line to c out (byCheck k s out o)
+went Clear s line to c out o h d =
+    record { clear = refl; result = by-room (ltb (length out) (length (packetFor line c))) s line to c out o refl (h refl) d }
+went (Refuse why) s line to c out o h d = absurd (not-done why d)
+
+module _ (s : Session) (out : List ℕ) where
+  pub next-went : stepNumber (nextOf s out .answer) ≡ done
+      → Went (nextCheck s) s (nodeAt 0x00) (nodeAt (s .walk + 1)) (SetAddress (givenPlace (s .walk + 1))) out (nextOf s out)
+  unfolding nextOf
+  next-went d = went (nextCheck s) s _ _ _ out _ (next-sent s out) d
+
+  pub ask-went : stepNumber (askOf s out .answer) ≡ done → Went (askCheck s) s (nodeAt (s .walk + 1)) (nodeAt (s .walk + 1)) Nop out (askOf s out)
+  unfolding askOf
+  ask-went d = went (askCheck s) s _ _ _ out _ (ask-sent s out) d
+
+  pub order-went : (to : Address) (c : Command) → stepNumber (orderOf s to c out .answer) ≡ done → Went (orderCheck s to c) s to to c out (orderOf s to c out)
+  unfolding orderOf
+  order-went to c d = went (orderCheck s to c) s to to c out _ (order-sent s to c out) d
+
+  pub regroup-went : (i : Individual) (g : Group) (leader : Bool) → stepNumber (regroupOf s i g leader out .answer) ≡ done
+      → Went (regroupCheck s i g leader) s (address.Individual i) (address.Individual i) (SetAddress (record { address = i; group = g; leader = leader })) out
+      (regroupOf s i g leader out)
+  unfolding regroupOf
+  regroup-went i g leader d = went (regroupCheck s i g leader) s _ _ _ out _ (regroup-sent s i g leader out) d
+
+-- the session then: closed and all in doubt after a Hard Reset, else waiting
+pub opened-reset : (s : Session) (to : Address) (c : Command) → isReset c ≡ true
+    → opened s to c ≡ record { started = false; n = s .n; walk = s .walk; exchange = Idle; entries = forgotten (s .entries) }
+unfolding opened
+opened-reset s to c h = rw h
+
+pub opened-waits : (s : Session) (to : Address) (c : Command) → isReset c ≡ false
+    → opened s to c ≡ record { started = s .started; n = s .n; walk = s .walk; exchange = Waiting to c; entries = s .entries }
+unfolding opened
+opened-waits s to c h = rw h

@@ -1,10 +1,10 @@
 -- What a valid session and a session that isn't closed are, in plain words; a sound one stays sound at power-up.
-use Prim.Native.Nat.{ℕ, _+_, _≤_}
+use Prim.Native.Nat.{ℕ, _+_, _<_, _≤_}
 use mathlib.Core.Bool.{Bool, true, false, cond, not, _&&_, _||_, true≢false, false≢true}
 use mathlib.Core.Path.{_≡_, refl}
 use native.Mathlib.Omega.{arith}
 use lib.Dec.{ltb, leb}
-use borrow.Author.Tests.{le-ltb, le-leb, ltb-false, leb-true}
+use borrow.Author.Tests.{lt-ltb, le-ltb, le-leb, ltb-false, leb-true}
 use Rattle.wire.specs.Numbers.{done}
 use Rattle.wire.specs.declared.address.Individual.{Individual}
 use Rattle.wire.specs.declared.address.Address.the-variants as address
@@ -12,7 +12,10 @@ use Rattle.wire.specs.declared.refusal.Refusal.{Refusal}
 use Rattle.wire.specs.declared.refusal.Refusal.the-variants as refusal
 use Rattle.node.specs.Setting.{place}
 use Rattle.entry.specs.Entry.{knows}
+use Rattle.ledger.specs.Ledger.{ledgerUp}
 use Rattle.ledger.proofs.Ledgers.{length-up}
+use Rattle.session.specs.declared.End.the-variants.{Done}
+use Rattle.session.specs.declared.Exchange.the-variants.{Idle}
 use Rattle.session.specs.declared.Session.{Session}
 use Rattle.session.specs.declared.Step.{Step}
 use Rattle.session.specs.Session.{Sound, freshOf, offChain, strayOf, validOf, closedOf, askDue, entryOf, stepNumber, refusedStep, poweredOf}
@@ -99,3 +102,22 @@ by-test false s why r h z = h z
 pub power-up-stays : (s : Session) (n : ℕ) → Stays s (poweredOf s n)
 unfolding poweredOf
 power-up-stays s n = by-test (ltb n 1 || ltb 31 n) s refusal.Range _ (λ z. absurd (z refl))
+
+-- a started session that is valid is not closed
+pub open-is : (s : Session) → validOf s ≡ true → s .started ≡ true → closedOf s ≡ false
+unfolding closedOf
+open-is s p q = rw (p, q)
+
+-- power-up with a good n, and with a bad one
+pub powered-good : (s : Session) (n : ℕ) → 1 ≤ n → n ≤ 31
+    → poweredOf s n ≡ record { end = Done; session = record { started = true; n = n; walk = 0; exchange = Idle; entries = ledgerUp } }
+unfolding poweredOf
+powered-good s n p q = rw (le-ltb n 1 p, le-ltb 31 n q)
+
+pub powered-none : (s : Session) → poweredOf s 0 ≡ refusedStep s refusal.Range
+unfolding poweredOf
+powered-none s = refl
+
+pub powered-many : (s : Session) (n : ℕ) → 31 < n → poweredOf s n ≡ refusedStep s refusal.Range
+unfolding poweredOf
+powered-many s n p = rw (le-ltb n 1 (omega arith), lt-ltb 31 n p)

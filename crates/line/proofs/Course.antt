@@ -1,0 +1,224 @@
+-- What holds all along any course of events, from power-up to the next Hard Reset.
+use Prim.Native.Nat.{ℕ}
+use mathlib.Core.Bool.{Bool, true, false, cond, false≢true}
+use mathlib.Core.List.{List, _∷_}
+use mathlib.Core.Option.{Option, none, some}
+use mathlib.Core.Path.{_≡_, refl, sym, ap, subst, _∙_}
+use native.Mathlib.Omega.{arith}
+use lib.ListN.{length, take}
+use Rattle.wire.specs.Numbers.{done}
+use Rattle.wire.specs.Address.{inRange}
+use Rattle.wire.specs.declared.address.Address.{Address}
+use Rattle.wire.specs.declared.refusal.Refusal.{Refusal}
+use Rattle.command.specs.declared.Command.{Command}
+use Rattle.command.specs.Build.{fitsOf, packetFor}
+use Rattle.command.specs.Build as build
+use Rattle.status.specs.declared.Answer.the-variants.{Silent}
+use Rattle.node.specs.declared.state.Node.{Node}
+use Rattle.session.specs.declared.Exchange.the-variants.{Idle}
+use Rattle.session.specs.declared.Session.{Session}
+use Rattle.session.specs.declared.End.{End}
+use Rattle.session.specs.declared.End.the-variants as ends
+use Rattle.session.specs.declared.Step.{Step}
+use Rattle.session.specs.Session.{poweredOf, endNumber, stepNumber}
+use Rattle.session.proofs.Sessions.{power-up-stays}
+use Rattle.reports.specs.Report.{concluded}
+use Rattle.reports.proofs.Soundness.{finished-stays, report-stays}
+use Rattle.line.specs.History.{Sending, Sent, counted}
+use Rattle.line.specs.Call.{Call, calledOf, whatOf, resets, Typed}
+use Rattle.line.specs.Line.{Line, quiet, going, coming, Arrives, Returns, nodesAfter, saidAfter, reportedOf, heardIn}
+use Rattle.line.specs.World.{World, hosting, callEnded, called, Comes, start, power, unpowered, call, deliver, report, stray, bench}
+use Rattle.line.proofs.Due.{Due, Accepted, accepted, call-stays}
+use Rattle.line.proofs.Closing.{waitingAt, walked, opened-waits, reported-concludes, conclusion}
+use Rattle.line.proofs.Exactly.{Exactly, exactly-step}
+use Rattle.line.proofs.Invariant.{at, Invariant, Exchanged}
+use Rattle.line.proofs.Peace.{no-clash}
+use Rattle.line.proofs.Delivery.{exchanged}
+use Rattle.line.proofs.Exchange.{exchange-step}
+use Rattle.line.proofs.Benching.{Benched, set-benched, benched-exchange, benched-invariant}
+use Rattle.line.proofs.Powering.{not-done, accepted-power, powered-invariant, powered-exactly}
+
+-- no exchange is open
+pub record Settled (h : Session) (ns : List Node) (past : List Sent) : Type 0 where
+  pub free : h .exchange ≡ Idle
+  pub inv : Invariant h ns
+  pub exactly : Exactly h (counted past)
+
+-- one is open: session and nodes were settled when it was
+pub record Opened (h : Session) (ns : List Node) (past : List Sent) (what : Sending) : Type 0 where
+  pub before : Session
+  pub line : Address
+  pub to : Address
+  pub command : Command
+  pub inv : Invariant before ns
+  pub exactly : Exactly before (counted past)
+  pub due : Due before what line to command
+  pub range : inRange line ≡ true
+  pub fits : fitsOf command ≡ true
+  pub typed : build.Typed command
+  pub now : h ≡ waitingAt before to command
+
+-- its packet is on the way
+pub record Going (h : Session) (ns : List Node) (past : List Sent) (what : Sending) (p : List ℕ) : Type 0 where
+  pub opened : Opened h ns past what
+  pub packet : p ≡ packetFor (opened .line) (opened .command)
+
+-- what came of it is on the way
+pub record Coming (h : Session) (ns : List Node) (past : List Sent) (what : Sending) (r : Option (List ℕ)) : Type 0 where
+  pub old : List Node
+  pub opened : Opened h old past what
+  pub exchange : Exchanged (opened .line) (opened .command) old ns (heardIn r)
+
+abbrev pub Stands : Session → List Node → List Sent → Line → Type 0
+Stands h ns past quiet = Settled h ns past
+Stands h ns past (going what p) = Going h ns past what p
+Stands h ns past (coming what r) = Coming h ns past what r
+
+-- ---- a call that sends
+
+not-idle : {h : Session} {ns : List Node} {past : List Sent} {what : Sending} → Opened h ns past what → h .exchange ≡ Idle → ⊥
+not-idle o e = let z : _≡_ {A = ℕ} 0 1 = cc (sym (ap (λ (s : Session). s .exchange) (o .now)) ∙ e) in omega arith
+
+pub when-idle : (h : Session) (ns : List Node) (past : List Sent) (l : Line) → Stands h ns past l → h .exchange ≡ Idle → Settled h ns past
+when-idle h ns past quiet s e = s
+when-idle h ns past (going what p) s e = absurd (not-idle (s .opened) e)
+when-idle h ns past (coming what r) s e = absurd (not-idle (s .opened) e)
+
+call-goes : (h t : Session) (ns : List Node) (past : List Sent) (k : Call) (p : List ℕ) → Settled h ns past → Accepted h k p t → Going t ns past (whatOf k p) p
+call-goes h t ns past k p s a = record {
+  opened = record {
+    before = h;
+    line = a .line;
+    to = a .to;
+    command = a .command;
+    inv = s .inv;
+    exactly = s .exactly;
+    due = a .due;
+    range = a .goes .range;
+    fits = a .goes .fits;
+    typed = a .typed;
+    now = a .goes .after ∙ opened-waits (a .due);
+  };
+  packet = a .goes .packet;
+}
+
+-- ---- its packet arrives, and what comes of it is reported
+
+arrives : (h : Session) (ns : List Node) (past : List Sent) (what : Sending) (p : List ℕ) → Going h ns past what p
+    → (q r : Option (List ℕ)) → Arrives p q → Returns (saidAfter q ns) r → Coming h (nodesAfter q ns) past what r
+arrives h ns past what p g q r a b =
+    let o = g .opened in
+    record {
+      old = ns;
+      opened = o;
+      exchange = exchanged (o .line) (o .command) ns (o .range) (o .fits) (o .typed) (no-clash (o .before) ns (o .inv)) (rw (g .packet) at a) b;
+    }
+
+pub settles-again : (h : Session) (ns : List Node) (past : List Sent) (what : Sending) (r : Option (List ℕ)) → Coming h ns past what r
+    → Settled (reportedOf h r .session) ns (record { what = what; heard = heardIn r } ∷ past)
+settles-again h ns past what r c =
+    let o = c .opened in
+    let i = o .inv in
+    let t = concluded (waitingAt (o .before) (o .to) (o .command)) (o .to) (o .command) (heardIn r) in
+    let e : reportedOf h r .session ≡ t = rw (o .now) (reported-concludes (o .due) (i .few) (i .walked) (i .full) (i .begun) r) in
+    let k = conclusion (o .due) (i .few) (i .walked) (i .full) (heardIn r) in
+    rw e (record {
+      free = k .idle;
+      inv = exchange-step (o .due) (o .fits) t (c .old) ns i (heardIn r) (c .exchange) k;
+      exactly = exactly-step (o .due) t (counted past) (o .exactly) (heardIn r) k;
+    })
+
+-- ---- refused power-ups and reports
+
+refused-not-done : (t : Step) (why : Refusal) → t .end ≡ ends.Refused why → stepNumber t ≡ done → ⊥
+refused-not-done t why e f = not-done why (sym (ap endNumber e) ∙ f)
+
+stray-stays : (s : Session) (r : Option (List ℕ)) (why : Refusal) → reportedOf s r .end ≡ ends.Refused why → reportedOf s r .session ≡ s
+stray-stays s none why e = finished-stays s Silent (refused-not-done (reportedOf s none) why e)
+stray-stays s (some bytes) why e = report-stays s bytes (refused-not-done (reportedOf s (some bytes)) why e)
+
+-- ---- the bench
+
+bench-stands : (h : Session) (ns ms : List Node) (past : List Sent) (l : Line) → Benched ns ms → Stands h ns past l → Stands h ms past l
+bench-stands h ns ms past quiet b s = record { free = s .free; inv = benched-invariant h ns ms b (s .inv); exactly = s .exactly }
+bench-stands h ns ms past (going what p) b s =
+    let o = s .opened in
+    record {
+      opened = record {
+        before = o .before;
+        line = o .line;
+        to = o .to;
+        command = o .command;
+        inv = benched-invariant (o .before) ns ms b (o .inv);
+        exactly = o .exactly;
+        due = o .due;
+        range = o .range;
+        fits = o .fits;
+        typed = o .typed;
+        now = o .now;
+      };
+      packet = s .packet;
+    }
+bench-stands h ns ms past (coming what r) b s = record { old = s .old; opened = s .opened; exchange = benched-exchange b (s .exchange) }
+
+-- ---- all along
+
+abbrev pub Holds : World → Type 0
+Holds w = w .up ≡ true → Stands (w .host) (w .nodes) (w .past) (w .line)
+
+not-up : (b u : Bool) → cond b false u ≡ true → (b ≡ false) × (u ≡ true)
+not-up true u e = absurd (false≢true e)
+not-up false u e = (refl, e)
+
+call-holds : (w : World) → Holds w → (k : Call) → Typed k → (out : List ℕ) → Holds (called k out w)
+call-holds w holds k typed out = go (calledOf k (w .host) out .answer .end) refl
+  where
+    t : Session
+    t = calledOf k (w .host) out .answer .session
+
+    stands : t ≡ w .host → Holds (hosting t w)
+    stands e up = rw e (holds up)
+
+    go : (e : End) → calledOf k (w .host) out .answer .end ≡ e → Holds (callEnded e k t (calledOf k (w .host) out .left) w)
+    go (ends.Sent n) e up =
+        let u = not-up (resets k) (w .up) up in
+        let a = accepted k typed (u .0) (w .host) out n e in
+        let s = when-idle (w .host) (w .nodes) (w .past) (w .line) (holds (u .1)) (a .ready .idle) in
+        call-goes (w .host) t (w .nodes) (w .past) k (take n (calledOf k (w .host) out .left)) s a
+    go ends.Done e up = stands (call-stays k (w .host) out (λ n f. let z : _≡_ {A = ℕ} 0 1 = cc (sym e ∙ f) in omega arith)) up
+    go (ends.Refused why) e up = stands (call-stays k (w .host) out (λ n f. let z : _≡_ {A = ℕ} 0 1 = cc (sym e ∙ f) in omega arith)) up
+
+pub holds : {w : World} → Comes w → Holds w
+holds (start ns) up = absurd (false≢true up)
+holds (power {w = w} c bs e) up =
+    let p = accepted-power (w .host) (length bs) e in
+    rw (p .session) (record { free = refl; inv = powered-invariant bs (p .some) (p .few); exactly = powered-exactly bs (p .some) (p .few) })
+holds (unpowered {w = w} c n why e) up = rw (power-up-stays (w .host) n (refused-not-done (poweredOf (w .host) n) why e)) (holds c up)
+holds (call {w = w} c k typed out) up = call-holds w (λ u. holds c u) k typed out up
+holds (deliver {w = w} c what p e q r a b) up =
+    arrives (w .host) (w .nodes) (w .past) what p (subst (λ (l : Line). Stands (w .host) (w .nodes) (w .past) l) e (holds c up)) q r a b
+holds (report {w = w} c what r e) up =
+    settles-again (w .host) (w .nodes) (w .past) what r (subst (λ (l : Line). Stands (w .host) (w .nodes) (w .past) l) e (holds c up))
+holds (stray {w = w} c r why e) up = rw (stray-stays (w .host) r why e) (holds c up)
+holds (bench {w = w} c i b) up = bench-stands (w .host) (w .nodes) _ (w .past) (w .line) (set-benched (w .nodes) i b) (holds c up)
+
+-- also in the middle of an exchange the nodes are such as some settled session has them
+pub record Steady (n : ℕ) (ns : List Node) : Type 0 where
+  pub session : Session
+  pub nodes : session .n ≡ n
+  pub inv : Invariant session ns
+
+pub steady : (h : Session) (ns : List Node) (past : List Sent) (l : Line) → Stands h ns past l → Steady (h .n) ns
+steady h ns past quiet s = record { session = h; nodes = refl; inv = s .inv }
+steady h ns past (going what p) s =
+    let o = s .opened in
+    record { session = o .before; nodes = sym (ap (λ (z : Session). z .n) (o .now)); inv = o .inv }
+steady h ns past (coming what r) s =
+    let o = s .opened in
+    let i = o .inv in
+    let k = conclusion (o .due) (i .few) (i .walked) (i .full) (heardIn r) in
+    record {
+      session = concluded (waitingAt (o .before) (o .to) (o .command)) (o .to) (o .command) (heardIn r);
+      nodes = k .nodes ∙ sym (ap (λ (z : Session). z .n) (o .now));
+      inv = exchange-step (o .due) (o .fits) _ (s .old) ns i (heardIn r) (s .exchange) k;
+    }

@@ -1,0 +1,229 @@
+-- The courses, step by step.
+use Prim.Native.Nat.{ℕ, _+_}
+use mathlib.Core.Bool.{Bool, true, false}
+use mathlib.Core.List.{List, [], _∷_}
+use mathlib.Core.Option.{Option, none, some}
+use mathlib.Core.Path.{_≡_, refl}
+use lib.ListN.{replicate}
+use Rattle.wire.specs.Sum.{total, endsInSum}
+use Rattle.wire.specs.Buffer.{place}
+use Rattle.packet.specs.Packet.{dataOf, frameOf, intactOf}
+use Rattle.command.specs.declared.Place.{Place}
+use Rattle.command.specs.declared.Command.the-variants.{SetAddress, SetOutputs, Nop}
+use Rattle.command.specs.Command.{rowsOf, readingOf}
+use Rattle.command.specs.Build.{buildFor, commandBuilt}
+use Rattle.status.specs.Status.{judged}
+use Rattle.status.specs.declared.Answer.{Answer}
+use Rattle.status.specs.declared.Answer.the-variants.{Clear, Silent}
+use Rattle.node.specs.declared.state.Bench.{Bench}
+use Rattle.node.specs.declared.state.Node.{Node}
+use Rattle.node.specs.Effect.{settingsUp}
+use Rattle.node.specs.Node.{powerUp, nothing}
+use Rattle.reply.specs.Items.{itemBytes}
+use Rattle.reply.specs.Reply.{replyOf}
+use Rattle.chain.specs.One.{replies, turned}
+use Rattle.chain.specs.Chain.{after, replierIn, reply, said}
+use Rattle.entry.specs.declared.Entry.{Entry}
+use Rattle.entry.specs.Entry.{entryUp}
+use Rattle.ledger.specs.Ledger.{ledgerUp, leastOf, eachFrom, settled}
+use Rattle.session.specs.declared.Exchange.the-variants.{Idle, Waiting}
+use Rattle.session.specs.declared.Session.{Session}
+use Rattle.session.specs.Session.{validOf, poweredOf, closedOf, askDue, givenPlace, nodeAt}
+use Rattle.host.specs.Calls.{waitingOf, readyCheck, nextCheck, askCheck, orderCheck, opened, transmitted, nextOf, askOf, orderOf}
+use Rattle.reports.specs.Report.{giving, asking, concluded, finished, reportOf}
+use Rattle.reports.specs.Examples.{buffer, knownBut, entryWith, addressed, pair}
+use Rattle.line.specs.History.{Sending, Sent, gives, asks, sends}
+use Rattle.line.specs.Call as calls
+use Rattle.line.specs.Line.{Line, quiet, going, Arrives, Returns, nodesAfter, saidAfter, reportedOf, heardIn}
+use Rattle.line.specs.Line as line
+use Rattle.line.specs.World.{World, called, Comes, start, power, call, deliver, report}
+use Rattle.line.specs.Courses.{Courses, unasked, asked, walked, lost, again}
+
+-- the 29 entries past the second, and bench values 0
+rest : List Entry
+rest = replicate 29 entryUp
+
+abbrev zeros : Bench
+zeros = record { inputs = 0; counter = 0; analog0 = 0; analog1 = 0; analog2 = 0; id = 0; version = 0 }
+
+-- a node by its place and its outputs
+abbrev nodeWith : Place → Bool → ℕ → Node
+nodeWith p heard outputs = record {
+  settings = record {
+    place = p;
+    mask = 0;
+    outputs = outputs;
+    pwm = record { first = 0; second = 0 };
+    held = record { outputs = 0; pwm = record { first = 0; second = 0 } };
+    timer = 0;
+  };
+  addressed = heard;
+  bench = zeros;
+  captured = nothing;
+}
+
+abbrev up : Node
+up = powerUp zeros
+
+abbrev placed : ℕ → ℕ → Node
+placed k outputs = nodeWith (givenPlace k) true outputs
+
+abbrev worldAt : Session → List Node → Line → List Sent → World
+worldAt s ns l past = record { host = s; nodes = ns; line = l; past = past; up = true }
+
+-- the packets: AA 00 21 01 FF 21, AA 00 21 02 FF 22, AA 01 0E 0F, AA 02 26 05 00 2D; and the reply 00 00
+abbrev given : ℕ → List ℕ
+given k = 0xAA ∷ 0x00 ∷ 0x21 ∷ k ∷ 0xFF ∷ (k + 0x20) ∷ []
+
+abbrev nop1 : List ℕ
+nop1 = 0xAA ∷ 0x01 ∷ 0x0E ∷ 0x0F ∷ []
+
+abbrev set5 : List ℕ
+set5 = 0xAA ∷ 0x02 ∷ 0x26 ∷ 0x05 ∷ 0x00 ∷ 0x2D ∷ []
+
+abbrev good : List ℕ
+good = 0x00 ∷ 0x00 ∷ []
+
+-- the entry of a node whose place alone is in doubt
+abbrev doubtful : Entry
+doubtful = entryWith (settingsUp .place) 0 (record { place = false; mask = true; outputs = true; pwm = true; held = true; timer = true })
+
+-- one exchange: the call, the packet as it arrives, the reply as it comes, the report
+round : {w : World} → Comes w → (k : calls.Call) → calls.Typed k → (s t : Session) (ns ms : List Node) (past : List Sent) (what : Sending) (p : List ℕ)
+    (q r : Option (List ℕ)) (a : Answer) → called k buffer w ≡ worldAt s ns (going what p) past → Arrives p q → Returns (saidAfter q ns) r
+    → nodesAfter q ns ≡ ms → reportedOf s r .session ≡ t → heardIn r ≡ a → Comes (worldAt t ms quiet (record { what = what; heard = a } ∷ past))
+round c k typed s t ns ms past what p q r a e x y f g h =
+    rw (← f, ← g, ← h) (report (deliver (rw e at (call c k typed buffer)) what p refl q r x y) what r refl)
+
+-- two nodes power up
+powers : Comes (worldAt (pair 0 Idle entryUp entryUp rest) (up ∷ up ∷ []) quiet [])
+unfolding poweredOf ledgerUp rest
+powers = power (start []) (zeros ∷ zeros ∷ []) refl
+
+module _ (es : List Entry) where
+  -- the calls
+  next-1 : called calls.next buffer (worldAt (pair 0 Idle entryUp entryUp es) (up ∷ up ∷ []) quiet [])
+      ≡ worldAt (pair 0 (Waiting (nodeAt 1) (SetAddress (givenPlace 1))) entryUp entryUp es) (up ∷ up ∷ []) (going (gives 1) (given 1)) []
+  unfolding nextOf nextCheck readyCheck closedOf validOf waitingOf askDue transmitted opened commandBuilt buildFor place total
+  next-1 = refl
+
+  next-2 : (past : List Sent) → called calls.next buffer (worldAt (pair 1 Idle (addressed 1) entryUp es) (placed 1 0 ∷ up ∷ []) quiet past)
+      ≡ worldAt (pair 1 (Waiting (nodeAt 2) (SetAddress (givenPlace 2))) (addressed 1) entryUp es) (placed 1 0 ∷ up ∷ []) (going (gives 2) (given 2)) past
+  unfolding nextOf nextCheck readyCheck closedOf validOf waitingOf askDue transmitted opened commandBuilt buildFor place total
+  next-2 past = refl
+
+  ask-1 : (past : List Sent) → called calls.ask buffer (worldAt (pair 0 Idle doubtful entryUp es) (placed 1 0 ∷ up ∷ []) quiet past)
+      ≡ worldAt (pair 0 (Waiting (nodeAt 1) Nop) doubtful entryUp es) (placed 1 0 ∷ up ∷ []) (going (asks 1) nop1) past
+  unfolding askOf askCheck readyCheck closedOf validOf waitingOf askDue transmitted opened commandBuilt buildFor place total
+  ask-1 past = refl
+
+  set-outputs : (e : Entry) (ns : List Node) (past : List Sent) → called (calls.order (nodeAt 2) (SetOutputs 5)) buffer (worldAt (pair 2 Idle (addressed 1) e es) ns quiet past)
+      ≡ worldAt (pair 2 (Waiting (nodeAt 2) (SetOutputs 5)) (addressed 1) e es) ns (going (sends (nodeAt 2) (SetOutputs 5)) set5) past
+  unfolding orderOf orderCheck readyCheck closedOf validOf waitingOf transmitted opened commandBuilt buildFor place total
+  set-outputs e ns past = refl
+
+  -- the reports
+  good-1 : reportedOf (pair 0 (Waiting (nodeAt 1) (SetAddress (givenPlace 1))) entryUp entryUp es) (some good) .session ≡ pair 1 Idle (addressed 1) entryUp es
+  unfolding reportOf finished closedOf validOf concluded giving asking settled eachFrom leastOf judged endsInSum total
+  good-1 = refl
+
+  silent-1 : reportedOf (pair 0 (Waiting (nodeAt 1) (SetAddress (givenPlace 1))) entryUp entryUp es) none .session ≡ pair 0 Idle doubtful entryUp es
+  unfolding finished closedOf validOf concluded giving asking settled eachFrom leastOf
+  silent-1 = refl
+
+  good-ask : reportedOf (pair 0 (Waiting (nodeAt 1) Nop) doubtful entryUp es) (some good) .session ≡ pair 1 Idle (addressed 1) entryUp es
+  unfolding reportOf finished closedOf validOf concluded giving asking askDue settled eachFrom leastOf judged endsInSum total
+  good-ask = refl
+
+  good-2 : reportedOf (pair 1 (Waiting (nodeAt 2) (SetAddress (givenPlace 2))) (addressed 1) entryUp es) (some good) .session ≡ pair 2 Idle (addressed 1) (addressed 2) es
+  unfolding reportOf finished closedOf validOf concluded giving asking settled eachFrom leastOf judged endsInSum total
+  good-2 = refl
+
+  silent-5 : reportedOf (pair 2 (Waiting (nodeAt 2) (SetOutputs 5)) (addressed 1) (addressed 2) es) none .session
+      ≡ pair 2 Idle (addressed 1) (entryWith (givenPlace 2) 0 (knownBut false true true)) es
+  unfolding finished closedOf validOf concluded giving asking settled eachFrom leastOf
+  silent-5 = refl
+
+  good-5 : reportedOf (pair 2 (Waiting (nodeAt 2) (SetOutputs 5)) (addressed 1) (entryWith (givenPlace 2) 0 (knownBut false true true)) es) (some good) .session
+      ≡ pair 2 Idle (addressed 1) (entryWith (givenPlace 2) 5 (knownBut true true true)) es
+  unfolding reportOf finished closedOf validOf concluded giving asking settled eachFrom leastOf judged endsInSum total
+  good-5 = refl
+
+heard-good : judged good ≡ Clear
+unfolding judged endsInSum total
+heard-good = refl
+
+-- the packets at the nodes
+takes-1 : nodesAfter (some (given 1)) (up ∷ up ∷ []) ≡ placed 1 0 ∷ up ∷ []
+unfolding frameOf dataOf intactOf endsInSum total readingOf rowsOf after turned
+takes-1 = refl
+
+takes-2 : nodesAfter (some (given 2)) (placed 1 0 ∷ up ∷ []) ≡ placed 1 0 ∷ placed 2 0 ∷ []
+unfolding frameOf dataOf intactOf endsInSum total readingOf rowsOf after turned
+takes-2 = refl
+
+takes-ask : nodesAfter (some nop1) (placed 1 0 ∷ up ∷ []) ≡ placed 1 0 ∷ up ∷ []
+unfolding frameOf dataOf intactOf endsInSum total readingOf rowsOf after turned
+takes-ask = refl
+
+takes-5 : (old : ℕ) → nodesAfter (some set5) (placed 1 0 ∷ placed 2 old ∷ []) ≡ placed 1 0 ∷ placed 2 5 ∷ []
+unfolding frameOf dataOf intactOf endsInSum total readingOf rowsOf after turned
+takes-5 old = refl
+
+says-1 : saidAfter (some (given 1)) (up ∷ up ∷ []) ≡ reply good
+unfolding frameOf dataOf intactOf endsInSum total readingOf rowsOf said replierIn replies replyOf itemBytes
+says-1 = refl
+
+says-2 : saidAfter (some (given 2)) (placed 1 0 ∷ up ∷ []) ≡ reply good
+unfolding frameOf dataOf intactOf endsInSum total readingOf rowsOf said replierIn replies replyOf itemBytes
+says-2 = refl
+
+says-ask : saidAfter (some nop1) (placed 1 0 ∷ up ∷ []) ≡ reply good
+unfolding frameOf dataOf intactOf endsInSum total readingOf rowsOf said replierIn replies replyOf itemBytes
+says-ask = refl
+
+says-5 : (old : ℕ) → saidAfter (some set5) (placed 1 0 ∷ placed 2 old ∷ []) ≡ reply good
+unfolding frameOf dataOf intactOf endsInSum total readingOf rowsOf said replierIn replies replyOf itemBytes
+says-5 old = refl
+
+-- the first "next": the reply is lost; "ask" is replied to
+unanswered : Comes (worldAt (pair 0 Idle doubtful entryUp rest) (placed 1 0 ∷ up ∷ []) quiet unasked)
+unanswered =
+    round powers calls.next tt _ _ (up ∷ up ∷ []) _ [] (gives 1) (given 1) (some (given 1)) none Silent (next-1 rest) line.whole (rw says-1 (line.lost line.unheard))
+    takes-1 (silent-1 rest) refl
+
+answered : Comes (worldAt (pair 1 Idle (addressed 1) entryUp rest) (placed 1 0 ∷ up ∷ []) quiet asked)
+answered =
+    round unanswered calls.ask tt _ _ (placed 1 0 ∷ up ∷ []) _ _ (asks 1) nop1 (some nop1) (some good) Clear (ask-1 rest _) line.whole (rw says-ask line.whole)
+    takes-ask (good-ask rest) heard-good
+
+-- the walk
+first : Comes (worldAt (pair 1 Idle (addressed 1) entryUp rest) (placed 1 0 ∷ up ∷ []) quiet (record { what = gives 1; heard = Clear } ∷ []))
+first =
+    round powers calls.next tt _ _ (up ∷ up ∷ []) _ [] (gives 1) (given 1) (some (given 1)) (some good) Clear (next-1 rest) line.whole (rw says-1 line.whole)
+    takes-1 (good-1 rest) heard-good
+
+second : Comes (worldAt (pair 2 Idle (addressed 1) (addressed 2) rest) (placed 1 0 ∷ placed 2 0 ∷ []) quiet walked)
+second =
+    round first calls.next tt _ _ (placed 1 0 ∷ up ∷ []) _ _ (gives 2) (given 2) (some (given 2)) (some good) Clear (next-2 rest _) line.whole (rw says-2 line.whole)
+    takes-2 (good-2 rest) heard-good
+
+-- Set Outputs 5 to node 2: the reply is lost
+third : Comes (worldAt (pair 2 Idle (addressed 1) (entryWith (givenPlace 2) 0 (knownBut false true true)) rest) (placed 1 0 ∷ placed 2 5 ∷ []) quiet lost)
+third =
+    round second (calls.order (nodeAt 2) (SetOutputs 5)) tt _ _ (placed 1 0 ∷ placed 2 0 ∷ []) _ _ (sends (nodeAt 2) (SetOutputs 5)) set5 (some set5) none Silent
+    (set-outputs rest (addressed 2) _ _) line.whole (rw (says-5 0) (line.lost line.unheard)) (takes-5 0) (silent-5 rest) refl
+
+-- sent again, and replied to
+fourth : Comes (worldAt (pair 2 Idle (addressed 1) (entryWith (givenPlace 2) 5 (knownBut true true true)) rest) (placed 1 0 ∷ placed 2 5 ∷ []) quiet again)
+fourth =
+    round third (calls.order (nodeAt 2) (SetOutputs 5)) tt _ _ (placed 1 0 ∷ placed 2 5 ∷ []) _ _ (sends (nodeAt 2) (SetOutputs 5)) set5 (some set5) (some good) Clear
+    (set-outputs rest (entryWith (givenPlace 2) 0 (knownBut false true true)) _ _) line.whole (rw (says-5 5) line.whole) (takes-5 5) (good-5 rest) heard-good
+
+pub courses : Courses
+courses = record {
+  addressing = record { world = _; comes = unanswered; up = refl; free = refl; history = refl; two = refl; knowing = refl; showing = refl; holding = refl };
+  addressed = record { world = _; comes = answered; up = refl; free = refl; history = refl; two = refl; knowing = refl; showing = refl; holding = refl };
+  doubt = record { world = _; comes = third; up = refl; free = refl; history = refl; two = refl; knowing = refl; showing = refl; holding = refl };
+  known = record { world = _; comes = fourth; up = refl; free = refl; history = refl; two = refl; knowing = refl; showing = refl; holding = refl };
+}

@@ -1,0 +1,164 @@
+-- From the sending of a packet to its report: what the line does to bytes, as what it does to nodes and what the answer tells.
+use Prim.Native.Nat.{ℕ}
+use mathlib.Core.Bool.{Bool, true, false, cond}
+use mathlib.Core.List.{List}
+use mathlib.Core.Option.{Option, some}
+use mathlib.Core.Path.{_≡_, refl, sym, ap, subst, _∙_}
+use native.Mathlib.Omega.{arith}
+use lib.ListN.{getD}
+use Rattle.wire.specs.Address.{inRange, addressOf}
+use Rattle.wire.specs.Change.{Altered, Damaged}
+use Rattle.wire.specs.declared.address.Address.{Address}
+use Rattle.packet.specs.Packet.{frameOf}
+use Rattle.packet.specs.declared.Framed.the-variants.{Whole}
+use Rattle.packet.proofs.Packets.{read-says, damaged-frames, damaged-spoilt}
+use Rattle.command.specs.declared.Command.{Command}
+use Rattle.command.specs.Build.{fitsOf, Typed, packetFor}
+use Rattle.command.proofs.Commands.{built-reads}
+use Rattle.status.specs.Status.{judged, cleared}
+use Rattle.status.specs.declared.Answer.{Answer}
+use Rattle.status.specs.declared.Answer.the-variants.{Clear, Marked, Silent}
+use Rattle.node.specs.declared.state.Node.{Node}
+use Rattle.node.specs.declared.heard.Heard.{Heard}
+use Rattle.node.specs.declared.heard.Heard.the-variants.{Intact, Spoilt}
+use Rattle.node.specs.Effect.{settingsAfter}
+use Rattle.node.specs.Node.{acted, addressedAfter}
+use Rattle.reply.specs.Reply.{statusByte}
+use Rattle.reply.proofs.Replies.{reply-judged, altered-silent}
+use Rattle.chain.specs.One.{heardAs}
+use Rattle.chain.specs.Chain.{after, Said, silence, clash, said}
+use Rattle.chain.proofs.Meaning.{length-after, after-at, spoilt-stays, Replying, said-says}
+use Rattle.line.specs.Line.{Arrives, Nothing, Returns, nodesAfter, saidAfter, heardIn}
+use Rattle.line.specs.Line as line
+use Rattle.line.proofs.Invariant.{at, acts, Answered, Exchanged}
+
+-- what is heard: nothing, or a node's reply to what it heard
+data Voice (to : Address) (heard : Heard) (ns : List Node) : Answer → Type 0 where
+  silent : Voice to heard ns Silent
+  spoke : (r : List ℕ) → Replying to heard ns r → Voice to heard ns (cleared (statusByte heard))
+
+nothing-silent : {t : Option (List ℕ)} → Nothing t → heardIn t ≡ Silent
+unfolding judged
+nothing-silent line.unheard = refl
+nothing-silent line.empty = refl
+
+voice : (to : Address) (heard : Heard) (ns : List Node) → (said to heard ns ≡ clash → ⊥) → {s : Said} {r : Option (List ℕ)}
+    → said to heard ns ≡ s → Returns s r → Voice to heard ns (heardIn r)
+voice to heard ns n e (line.quietly o) = rw (nothing-silent o) silent
+voice to heard ns n e (line.whole {r = r}) =
+    let p = said-says to heard ns r e in
+    let j : judged r ≡ cleared (statusByte heard) = ap judged (p .bytes) ∙ reply-judged heard (getD ns (p .at) _) in
+    rw j (spoke r p)
+voice to heard ns n e (line.altered {r = r} {t = t} a) =
+    let p = said-says to heard ns r e in
+    let j : judged t ≡ Silent = altered-silent heard (getD ns (p .at) _) t (subst (λ (l : List ℕ). Altered l t) (p .bytes) a) in
+    rw j silent
+voice to heard ns n e (line.lost o) = rw (nothing-silent o) silent
+voice to heard ns n e line.mixed = absurd (n e)
+
+-- bytes that read as a whole packet
+module _ (ns : List Node) (q : List ℕ) (to : Address) (k n : ℕ) (heard : Heard) (f : frameOf q ≡ Whole to k n) (e : heardAs k q ≡ heard) where
+  nodes-are : nodesAfter (some q) ns ≡ after to heard ns
+  nodes-are = rw (f, e) refl
+
+  said-is : saidAfter (some q) ns ≡ said to heard ns
+  said-is = rw (f, e) refl
+
+silent-not-clear : Silent ≡ Clear → ⊥
+silent-not-clear e = let z : _≡_ {A = ℕ} 0 1 = cc in omega arith
+
+silent-not-marked : Silent ≡ Marked → ⊥
+silent-not-marked e = let z : _≡_ {A = ℕ} 0 1 = cc in omega arith
+
+clear-not-marked : Clear ≡ Marked → ⊥
+clear-not-marked e = let z : _≡_ {A = ℕ} 0 1 = cc in omega arith
+
+module _ (to : Address) (c : Command) (ns : List Node) where
+  -- it came whole
+  settings-if : (b : Bool) (x : Node) → cond b (acted c x) x .settings ≡ cond b (settingsAfter c (x .settings)) (x .settings)
+  settings-if true x = refl
+  settings-if false x = refl
+
+  addressed-if : (b : Bool) (x : Node) → cond b (acted c x) x .addressed ≡ cond b (addressedAfter c (x .addressed)) (x .addressed)
+  addressed-if true x = refl
+  addressed-if false x = refl
+
+  not-marked : {a : Answer} → Voice to (Intact c) ns a → a ≡ Marked → ⊥
+  not-marked silent e = silent-not-marked e
+  not-marked (spoke r p) e = clear-not-marked e
+
+  answered : {a : Answer} → Voice to (Intact c) ns a → a ≡ Clear → Answered to ns (λ i. true)
+  answered silent e = absurd (silent-not-clear e)
+  answered (spoke r p) e = record { index = p .at; inside = p .inside; replies = p .calling; had = refl }
+
+  came-whole : {a : Answer} → Voice to (Intact c) ns a → Exchanged to c ns (after to (Intact c) ns) a
+  came-whole v = record {
+    whole = λ i. true;
+    alike = λ i j. refl;
+    long = length-after to (Intact c) ns;
+    settings = λ i l. ap (λ (x : Node). x .settings) (after-at to (Intact c) ns i l) ∙ settings-if (acts to ns i) (at ns i);
+    addressed = λ i l. ap (λ (x : Node). x .addressed) (after-at to (Intact c) ns i l) ∙ addressed-if (acts to ns i) (at ns i);
+    marked = λ e i. absurd (not-marked v e);
+    clear = answered v;
+  }
+
+  -- it came with a wrong sum, or not at all: nothing changes
+  unchanged : {a : Answer} → (a ≡ Clear → ⊥) → Exchanged to c ns ns a
+  unchanged n = record {
+    whole = λ i. false;
+    alike = λ i j. refl;
+    long = refl;
+    settings = λ i l. refl;
+    addressed = λ i l. refl;
+    marked = λ e i. refl;
+    clear = λ e. absurd (n e);
+  }
+
+  spoilt-not-clear : {b : Address} {a : Answer} → Voice b Spoilt ns a → a ≡ Clear → ⊥
+  spoilt-not-clear silent e = silent-not-clear e
+  spoilt-not-clear (spoke r p) e = clear-not-marked (sym e)
+
+  lost-not-clear : {r : Option (List ℕ)} {s : Said} → s ≡ silence → Returns s r → heardIn r ≡ Clear → ⊥
+  lost-not-clear q (line.quietly o) e = silent-not-clear (sym (nothing-silent o) ∙ e)
+  lost-not-clear q line.whole e = let z : _≡_ {A = ℕ} 0 1 = cc q in omega arith
+  lost-not-clear q (line.altered a) e = let z : _≡_ {A = ℕ} 0 1 = cc q in omega arith
+  lost-not-clear q (line.lost o) e = silent-not-clear (sym (nothing-silent o) ∙ e)
+  lost-not-clear q line.mixed e = let z : _≡_ {A = ℕ} 0 1 = cc q in omega arith
+
+  module _ (range : inRange to ≡ true) (fits : fitsOf c ≡ true) (typed : Typed c) where
+    -- what a packet of ours says, as it was sent and damaged
+    pub record Means (q : List ℕ) (a : Address) (heard : Heard) : Type 0 where
+      pub nodes : nodesAfter (some q) ns ≡ after a heard ns
+      pub speaks : saidAfter (some q) ns ≡ said a heard ns
+
+    pub whole-means : Means (packetFor to c) to (Intact c)
+    whole-means =
+        let r = built-reads to c range fits typed in
+        let s = read-says (packetFor to c) to (r .command) (r .count) (r .whole) in
+        let h : heardAs (r .command) (packetFor to c) ≡ Intact c = rw (s .1, r .known) refl in
+        record {
+          nodes = nodes-are ns (packetFor to c) to (r .command) (r .count) (Intact c) (s .0) h;
+          speaks = said-is ns (packetFor to c) to (r .command) (r .count) (Intact c) (s .0) h;
+        }
+
+    pub damaged-means : (q : List ℕ) → Damaged (packetFor to c) q → Means q (addressOf (getD q 1 0)) Spoilt
+    damaged-means q d =
+        let r = built-reads to c range fits typed in
+        let f = damaged-frames (packetFor to c) q to (r .command) (r .count) (r .whole) d in
+        let h : heardAs (r .command) q ≡ Spoilt = rw (damaged-spoilt (packetFor to c) q to (r .command) (r .count) (r .whole) d) refl in
+        record {
+          nodes = nodes-are ns q _ (r .command) (r .count) Spoilt f h;
+          speaks = said-is ns q _ (r .command) (r .count) Spoilt f h;
+        }
+
+    -- from the sending to the report
+    pub exchanged : ((b : Address) (heard : Heard) → said b heard ns ≡ clash → ⊥) → {q r : Option (List ℕ)} → Arrives (packetFor to c) q → Returns (saidAfter q ns) r
+        → Exchanged to c ns (nodesAfter q ns) (heardIn r)
+    exchanged n line.whole b =
+        let m = whole-means in
+        rw (m .nodes) (came-whole (voice to (Intact c) ns (n to (Intact c)) (sym (m .speaks)) b))
+    exchanged n (line.damaged {q = q} d) b =
+        let m = damaged-means q d in
+        let a : Address = addressOf (getD q 1 0) in
+        rw (m .nodes, spoilt-stays a ns) (unchanged (spoilt-not-clear (voice a Spoilt ns (n a Spoilt) (sym (m .speaks)) b)))
+    exchanged n line.lost b = unchanged (lost-not-clear refl b)

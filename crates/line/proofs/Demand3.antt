@@ -1,0 +1,84 @@
+-- Demand 3, proved; with it that no two nodes lead a group or reply at once, and that the chain's call delivers.
+use Prim.Native.Nat.{ℕ, suc, _-_, _≤_}
+use mathlib.Core.Bool.{false, not}
+use mathlib.Core.List.{List}
+use mathlib.Core.Option.{Option, some}
+use mathlib.Core.Logic.{_↔_}
+use mathlib.Core.Path.{_≡_, sym, ap, subst, _∙_}
+use native.Mathlib.Omega.{arith}
+use lib.ListN.{length}
+use borrow.Author.Tests.{not-false}
+use Rattle.command.specs.Build.{packetFor}
+use Rattle.node.specs.declared.state.Node.{Node}
+use Rattle.node.specs.Setting.{Setting}
+use Rattle.chain.specs.One.{sound}
+use Rattle.chain.specs.Chain.{clash}
+use Rattle.chain.specs.Table.{nodesOf}
+use Rattle.entry.specs.Entry.{knows}
+use Rattle.session.specs.declared.Session.{Session}
+use Rattle.session.specs.Session.{entryOf}
+use Rattle.line.specs.History.{Sending, Sent, Counted, counted, inDoubt, Doubtful}
+use Rattle.line.specs.Line.{Line, Arrives, saidAfter}
+use Rattle.line.specs.Line as line
+use Rattle.line.specs.Demand3 as promised
+use Rattle.line.proofs.Words.{same-words}
+use Rattle.line.proofs.Exact.{Exact}
+use Rattle.line.proofs.Closing.{entryAt}
+use Rattle.line.proofs.Peace.{no-clash}
+use Rattle.line.proofs.Delivery.{whole-means, damaged-means}
+use Rattle.line.proofs.Tables.{delivers}
+use Rattle.line.proofs.Course.{Opened, Going, Stands, when-idle, holds, steady}
+
+-- an index, and the node's number
+number : (k : ℕ) → 1 ≤ k → suc (k - 1) ≡ k
+number k l = omega arith
+
+in-words : (h : Session) (past : List Counted) (k : ℕ) (s : Setting) → Exact (entryAt h (k - 1)) past k
+    → (knows (entryOf h k) s ≡ false) ↔ Doubtful past k s
+in-words h past k s x =
+    let w = same-words past k s in
+    ((λ e. w .0 (not-false (inDoubt past k s) (sym (x .known s) ∙ e))), (λ d. x .known s ∙ ap not (w .1 d)))
+
+pub demand3 : promised.Demand3
+demand3 w comes up idle =
+    let s = when-idle (w .host) (w .nodes) (w .past) (w .line) (holds comes up) idle in
+    record {
+      recorded = s .inv .long;
+      known = λ k l m. s .inv .held (k - 1) (omega arith);
+      doubt = λ k l m x.
+          in-words (w .host) (counted (w .past)) k x
+          (subst (λ (j : ℕ). Exact (entryAt (w .host) (k - 1)) (counted (w .past)) j) (number k l) (s .exactly (k - 1) (omega arith)));
+    }
+
+pub one-leader : promised.OneLeader
+one-leader w comes up g j k a b c d p q =
+    let s = steady (w .host) (w .nodes) (w .past) (w .line) (holds comes up) in
+    let n = s .nodes in
+    let e = s .inv .alone (g .0) (j - 1) (k - 1) (omega arith) (omega arith) p q in
+    omega arith
+
+-- nobody replies to a packet that is lost; one that is not says what it says to one address
+peace : (h : Session) (ns : List Node) (past : List Sent) (what : Sending) (p : List ℕ) → Going h ns past what p
+    → (q : Option (List ℕ)) → Arrives p q → saidAfter q ns ≡ clash → ⊥
+peace h ns past what p g q a c = go (rw (g .packet) at a) c
+  where
+    o : Opened h ns past what
+    o = g .opened
+
+    go : {q : Option (List ℕ)} → Arrives (packetFor (o .line) (o .command)) q → saidAfter q ns ≡ clash → ⊥
+    go line.whole c = no-clash (o .before) ns (o .inv) _ _ (sym (whole-means (o .line) (o .command) ns (o .range) (o .fits) (o .typed) .speaks) ∙ c)
+    go (line.damaged {q = q} d) c = no-clash (o .before) ns (o .inv) _ _ (sym (damaged-means (o .line) (o .command) ns (o .range) (o .fits) (o .typed) q d .speaks) ∙ c)
+    go line.lost c = let z : _≡_ {A = ℕ} 0 1 = cc c in omega arith
+
+pub no-collision : promised.NoCollision
+no-collision w comes up what p e =
+    peace (w .host) (w .nodes) (w .past) what p (subst (λ (l : Line). Stands (w .host) (w .nodes) (w .past) l) e (holds comes up))
+
+pub by-table : promised.ByTable
+unfolding sound
+by-table w comes up t e c q out room =
+    let s = steady (w .host) (w .nodes) (w .past) (w .line) (holds comes up) in
+    let n = s .nodes in
+    let i = s .inv in
+    let full : length (nodesOf t) ≡ t .count = ap length e ∙ sym c in
+    delivers t full out room (omega (arith, i .some, i .long)) (omega (arith, i .few, i .long)) (λ j l. rw e (i .fit j (omega (arith, i .long)))) q

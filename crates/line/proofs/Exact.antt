@@ -1,0 +1,131 @@
+-- One entry against what was sent and heard: a command that counts keeps them together.
+use Prim.Native.Nat.{ℕ}
+use mathlib.Core.Bool.{Bool, true, false, cond, not, _&&_, _||_, true≢false}
+use mathlib.Core.List.{List, _∷_}
+use mathlib.Core.Path.{_≡_, refl, _∙_}
+use lib.Dec.{eqb}
+use Rattle.wire.specs.declared.address.Address.{Address}
+use Rattle.wire.specs.declared.address.Address.the-variants as address
+use Rattle.command.specs.declared.Place.{Place}
+use Rattle.command.specs.declared.Command.{Command}
+use Rattle.command.specs.declared.Command.the-variants.{SetAddress, DefineStatus, ReadStatus, SetPwm, SynchOutput, SetOutputs, SetSynchOutput, SetTimerMode, SynchInput, Nop, HardReset}
+use Rattle.status.specs.declared.Answer.{Answer}
+use Rattle.status.specs.declared.Answer.the-variants.{Clear, Marked, Silent}
+use Rattle.node.specs.Setting.{Setting, place}
+use Rattle.node.specs.Effect.{Effect, keeps, stores, copies, effect, writes}
+use Rattle.entry.specs.declared.Entry.{Entry}
+use Rattle.entry.specs.declared.Reach.{Reach}
+use Rattle.entry.specs.declared.Reach.the-variants.{Misses, Hits, May}
+use Rattle.entry.specs.Entry.{knows, shows, noted, notedFlag, notedValue}
+use Rattle.entry.proofs.Entries.{knows-noted, shows-noted}
+use Rattle.ledger.specs.Ledger.{reachOf}
+use Rattle.line.specs.History.{Counted, toGroup, placeIn, lastPlace, copied, goes, inDoubt}
+use Rattle.line.proofs.Bools.{and-false}
+
+-- the entry of node k says what the history says
+pub record Exact (e : Entry) (past : List Counted) (k : ℕ) : Type 0 where
+  pub known : (s : Setting) → knows e s ≡ not (inDoubt past k s)
+  pub place : shows e place ≡ lastPlace past k
+
+abbrev pub confirms : Answer → Bool
+confirms Clear = true
+confirms Marked = false
+confirms Silent = false
+
+-- an answer that makes its command count
+abbrev pub Counts : Answer → Type 0
+Counts Clear = Unit {0}
+Counts Marked = ⊥
+Counts Silent = Unit {0}
+
+-- the host's belief about the way, against `goes`; l: the command went to a group while the place was in doubt
+abbrev Way : Reach → Bool → Bool → Type 0
+Way Misses g l = g ≡ false
+Way Hits g l = (g ≡ true) × (l ≡ false)
+Way May g l = (g ≡ true) × (l ≡ true)
+
+-- one setting; d says which were in doubt
+flag-exact : {s : Setting} (a : Answer) → Counts a → (r : Reach) (f : Effect s) (e : Entry) (g l : Bool) (d : Setting → Bool) → Way r g l
+    → ((t : Setting) → knows e t ≡ not (d t)) → notedFlag a r f e ≡ not (cond (g && writes f) (not (confirms a) || l || copied f d) (d s))
+flag-exact {s} Clear t Misses f e g l d w p = rw w (p s)
+flag-exact {s} Clear t Hits keeps e g l d w p = rw (and-false g) (p s)
+flag-exact Clear t Hits (stores v) e g l d w p = rw (w .0, w .1) refl
+flag-exact Clear t Hits (copies u f) e g l d w p = rw (w .0, w .1) (p u)
+flag-exact {s} Clear t May keeps e g l d w p = rw (and-false g) (p s)
+flag-exact Clear t May (stores v) e g l d w p = rw (w .0, w .1) refl
+flag-exact Clear t May (copies u f) e g l d w p = rw (w .0, w .1) refl
+flag-exact {s} Silent t Misses f e g l d w p = rw w (p s)
+flag-exact {s} Silent t Hits keeps e g l d w p = rw (and-false g) (p s)
+flag-exact Silent t Hits (stores v) e g l d w p = rw (w .0) refl
+flag-exact Silent t Hits (copies u f) e g l d w p = rw (w .0) refl
+flag-exact {s} Silent t May keeps e g l d w p = rw (and-false g) (p s)
+flag-exact Silent t May (stores v) e g l d w p = rw (w .0) refl
+flag-exact Silent t May (copies u f) e g l d w p = rw (w .0) refl
+
+way-test : (b : Bool) → Way (cond b Hits Misses) b false
+way-test true = (refl, refl)
+way-test false = refl
+
+way-group : (g : ℕ) (e : Entry) (p : Place) (d : Bool) → knows e place ≡ not d → shows e place ≡ p
+    → Way (cond (knows e place) (cond (eqb (shows e place .group .0) g) Hits Misses) May) (d || eqb (p .group .0) g) d
+way-group g e p true k q = rw k (refl, refl)
+way-group g e p false k q = rw (k, q) (way-test (eqb (p .group .0) g))
+
+way : (to : Address) (k : ℕ) (e : Entry) (past : List Counted) → Exact e past k
+    → Way (reachOf to k e) (goes to k (inDoubt past k place) (lastPlace past k)) (toGroup to && inDoubt past k place)
+way (address.Individual i) k e past x = way-test (eqb (i .0) k)
+way (address.Group g) k e past x = way-group (g .0) e (lastPlace past k) (inDoubt past k place) (x .known place) (x .place)
+
+-- no command copies a place
+not-copied : (c : Command) → copied (effect c place) (λ t. true) ≡ false
+not-copied (SetAddress p) = refl
+not-copied (DefineStatus m) = refl
+not-copied (ReadStatus m) = refl
+not-copied (SetPwm w) = refl
+not-copied SynchOutput = refl
+not-copied (SetOutputs w) = refl
+not-copied (SetSynchOutput h) = refl
+not-copied (SetTimerMode m) = refl
+not-copied SynchInput = refl
+not-copied Nop = refl
+not-copied HardReset = refl
+
+-- what goes to a group writes no place
+abbrev pub Sendable : Address → Command → Type 0
+Sendable (address.Individual i) c = Unit {0}
+Sendable (address.Group g) c = writes (effect c place) ≡ false
+
+place-node : (a : Answer) → Counts a → (b : Bool) (f : Effect place) → copied f (λ t. true) ≡ false → (e : Entry) (q : Place) → shows e place ≡ q
+    → notedValue a (cond b Hits Misses) f e ≡ cond (confirms a && b) (placeIn f q) q
+place-node Clear t true keeps n e q p = p
+place-node Clear t true (stores v) n e q p = refl
+place-node Clear t true (copies u f) n e q p = absurd (true≢false n)
+place-node Clear t false f n e q p = p
+place-node Silent t b f n e q p = p
+
+place-group : (a : Answer) → Counts a → (r : Reach) (f : Effect place) → writes f ≡ false → (e : Entry) (q : Place) → shows e place ≡ q
+    → notedValue a r f e ≡ cond (confirms a && false) (placeIn f q) q
+place-group Clear t Misses f n e q p = p
+place-group Clear t Hits keeps n e q p = p
+place-group Clear t Hits (stores v) n e q p = absurd (true≢false n)
+place-group Clear t Hits (copies u f) n e q p = absurd (true≢false n)
+place-group Clear t May f n e q p = p
+place-group Silent t r f n e q p = p
+
+place-exact : (a : Answer) → Counts a → (to : Address) (c : Command) → Sendable to c → (e : Entry) (past : List Counted) (k : ℕ) → Exact e past k
+    → shows (noted a (reachOf to k e) c e) place ≡ lastPlace (record { to = to; command = c; confirmed = confirms a } ∷ past) k
+place-exact a u (address.Individual i) c s e past k x =
+    shows-noted a (reachOf (address.Individual i) k e) c e place ∙ place-node a u (eqb (i .0) k) (effect c place) (not-copied c) e (lastPlace past k) (x .place)
+place-exact a u (address.Group g) c s e past k x =
+    shows-noted a (reachOf (address.Group g) k e) c e place
+    ∙ place-group a u (reachOf (address.Group g) k e) (effect c place) s e (lastPlace past k) (x .place)
+
+-- one more command that counts
+pub exact-step : (a : Answer) → Counts a → (to : Address) (c : Command) → Sendable to c → (e : Entry) (past : List Counted) (k : ℕ) → Exact e past k
+    → Exact (noted a (reachOf to k e) c e) (record { to = to; command = c; confirmed = confirms a } ∷ past) k
+exact-step a u to c s e past k x = record {
+  known = λ t. knows-noted a (reachOf to k e) c e t
+      ∙ flag-exact a u (reachOf to k e) (effect c t) e (goes to k (inDoubt past k place) (lastPlace past k)) (toGroup to && inDoubt past k place)
+      (inDoubt past k) (way to k e past x) (x .known);
+  place = place-exact a u to c s e past k x;
+}

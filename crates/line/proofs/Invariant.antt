@@ -1,0 +1,86 @@
+-- What holds of session and nodes whenever no exchange is open, and what an exchange is to the nodes.
+use Prim.Native.Nat.{ℕ, suc, _+_, _≤_, _<_}
+use mathlib.Core.Bool.{Bool, true, false, cond, _&&_}
+use mathlib.Core.List.{List}
+use mathlib.Core.Logic.{_⊎_}
+use mathlib.Core.Path.{_≡_}
+use lib.Dec.{eqb}
+use lib.ListN.{length, getD}
+use Rattle.wire.specs.declared.address.Address.{Address}
+use Rattle.command.specs.declared.Command.{Command}
+use Rattle.command.specs.Build.{placeFits}
+use Rattle.status.specs.declared.Answer.{Answer}
+use Rattle.status.specs.declared.Answer.the-variants.{Clear, Marked}
+use Rattle.node.specs.declared.state.Settings.{Settings}
+use Rattle.node.specs.declared.state.Node.{Node}
+use Rattle.node.specs.Setting.{place}
+use Rattle.node.specs.Effect.{settingsAfter}
+use Rattle.node.specs.Node.{addressedAfter}
+use Rattle.chain.specs.One.{meant}
+use Rattle.chain.specs.Chain.{blank, hearsAt, repliesAt}
+use Rattle.entry.specs.declared.Entry.{Entry}
+use Rattle.entry.specs.Entry.{knows}
+use Rattle.session.specs.declared.Session.{Session}
+use Rattle.session.specs.Session.{givenPlace}
+use Rattle.line.proofs.Closing.{entryAt}
+use Rattle.line.proofs.Sound.{Sound}
+
+-- the node of index i, node i + 1
+abbrev pub at : List Node → ℕ → Node
+at ns i = getD ns i blank
+
+-- a node that the walk has passed, and one that it has not come to
+abbrev pub Placed : ℕ → Settings → Bool → Type 0
+Placed k x addressed = (addressed ≡ true) × (x .place .address .0 ≡ k)
+
+abbrev pub Unplaced : Settings → Bool → Type 0
+Unplaced x addressed = (addressed ≡ false) × (x .place .address .0 ≡ 0)
+
+-- the node that the walk is at: not come to, or, only where its place is in doubt, given its address
+abbrev pub Edge : Entry → Settings → Bool → ℕ → Type 0
+Edge e x addressed k = Unplaced x addressed ⊎ ((knows e place ≡ false) × (x .place ≡ givenPlace k) × (addressed ≡ true))
+
+-- it really leads group g
+abbrev pub leads : ℕ → Settings → Bool
+leads g x = x .place .leader && eqb g (x .place .group .0)
+
+pub record Invariant (h : Session) (ns : List Node) : Type 0 where
+  pub begun : h .started ≡ true
+  pub long : length ns ≡ h .n
+  pub some : 1 ≤ h .n
+  pub few : h .n ≤ 31
+  pub full : length (h .entries) ≡ 31
+  pub walked : h .walk ≤ h .n
+  -- what is known is held
+  pub held : (i : ℕ) → i < h .n → Sound (entryAt h i) (at ns i .settings)
+  -- where the walk is
+  pub front : (i : ℕ) → i < h .walk → Placed (suc i) (at ns i .settings) (at ns i .addressed)
+  pub back : (i : ℕ) → h .walk < i → i < h .n → Unplaced (at ns i .settings) (at ns i .addressed)
+  pub edge : h .walk < h .n → Edge (entryAt h (h .walk)) (at ns (h .walk) .settings) (at ns (h .walk) .addressed) (h .walk + 1)
+  -- at most one node leads a group
+  pub alone : (g i j : ℕ) → i < h .n → j < h .n → leads g (at ns i .settings) ≡ true → leads g (at ns j .settings) ≡ true → i ≡ j
+  -- every place is of its range
+  pub fit : (i : ℕ) → i < h .n → placeFits (at ns i .settings .place) ≡ true
+
+-- the node of index i acts on a command to this address, if it comes to it whole
+abbrev pub acts : Address → List Node → ℕ → Bool
+acts to ns i = hearsAt ns i && meant to (at ns i)
+
+-- one that answered, and had the command whole
+pub record Answered (line : Address) (ns : List Node) (whole : ℕ → Bool) : Type 0 where
+  pub index : ℕ
+  pub inside : index < length ns
+  pub replies : repliesAt line ns index ≡ true
+  pub had : whole index ≡ true
+
+-- what the line and the nodes make of a command, from its sending to the report; whole i: it came whole to the node of index i
+pub record Exchanged (line : Address) (c : Command) (ns ms : List Node) (a : Answer) : Type 0 where
+  pub whole : ℕ → Bool
+  -- "A command reaches all nodes alike"
+  pub alike : (i j : ℕ) → whole i ≡ whole j
+  pub long : length ms ≡ length ns
+  pub settings : (i : ℕ) → i < length ns → at ms i .settings ≡ cond (whole i && acts line ns i) (settingsAfter c (at ns i .settings)) (at ns i .settings)
+  pub addressed : (i : ℕ) → i < length ns → at ms i .addressed ≡ cond (whole i && acts line ns i) (addressedAfter c (at ns i .addressed)) (at ns i .addressed)
+  -- what the answer tells
+  pub marked : a ≡ Marked → (i : ℕ) → whole i ≡ false
+  pub clear : a ≡ Clear → Answered line ns whole

@@ -1,0 +1,84 @@
+-- No two nodes reply at once.
+use Prim.Native.Nat.{ℕ, zero, suc, _+_, _≤_, _<_}
+use mathlib.Core.Bool.{Bool, true, false, _||_, false≢true}
+use mathlib.Core.List.{List}
+use mathlib.Core.Logic.{_⊎_, inl, inr}
+use mathlib.Core.Path.{_≡_, refl, sym, ap, subst, _∙_}
+use native.Mathlib.Omega.{arith}
+use lib.Dec.{eqb, ltb}
+use borrow.Author.Tests.{eqb-true, eqb-false, ltb-true, ltb-false}
+use Rattle.wire.specs.declared.address.Address.{Address}
+use Rattle.wire.specs.declared.address.Address.the-variants as address
+use Rattle.wire.proofs.Choice.{both}
+use Rattle.node.specs.declared.state.Node.{Node}
+use Rattle.node.specs.declared.heard.Heard.{Heard}
+use Rattle.chain.specs.One.{answers}
+use Rattle.chain.specs.Chain.{clash, said, hearsAt, repliesAt}
+use Rattle.chain.proofs.Clashes.{clash-two}
+use Rattle.session.specs.declared.Session.{Session}
+use Rattle.line.proofs.Closing.{entryAt}
+use Rattle.line.proofs.Invariant.{at, Unplaced, Edge, Invariant}
+
+-- a node of its own address, or one at 0x00 that the walk has not come to
+Own : Session → List Node → ℕ → Type 0
+Own h ns i = (at ns i .settings .place .address .0 ≡ suc i) ⊎ ((at ns i .settings .place .address .0 ≡ 0) × (at ns i .addressed ≡ false) × (h .walk ≤ i))
+
+module _ (h : Session) (ns : List Node) (inv : Invariant h ns) where
+  unplaced : (i : ℕ) → h .walk ≤ i → Unplaced (at ns i .settings) (at ns i .addressed) → Own h ns i
+  unfolding Own
+  unplaced i l u = inr (u .1, u .0, l)
+
+  edge-own : (i : ℕ) → h .walk ≡ i → i < h .n → Own h ns i
+  unfolding Own
+  edge-own i e l = subst (Own h ns) e (go (inv .edge (omega arith)))
+    where
+      go : Edge (entryAt h (h .walk)) (at ns (h .walk) .settings) (at ns (h .walk) .addressed) (h .walk + 1) → Own h ns (h .walk)
+      go (inl u) = unplaced (h .walk) (omega arith) u
+      go (inr p) = inl (ap (λ q. q .address .0) (p .1) ∙ omega arith)
+
+  own : (i : ℕ) → i < h .n → (b c : Bool) → ltb i (h .walk) ≡ b → eqb (h .walk) i ≡ c → Own h ns i
+  unfolding Own
+  own i l true c e f = inl (inv .front i (ltb-true i (h .walk) e) .1)
+  own i l false true e f = edge-own i (eqb-true (h .walk) i f) l
+  own i l false false e f =
+      let m = ltb-false i (h .walk) e in
+      let d = eqb-false (h .walk) i f in
+      unplaced i m (inv .back i (omega arith) l)
+
+  -- of two nodes at 0x00 the later doesn't hear
+  deaf : (i j : ℕ) → i < j → j < h .n → h .walk ≤ i → at ns i .addressed ≡ false → at ns j .addressed ≡ false → hearsAt ns j ≡ true → ⊥
+  deaf i zero l m w u v e = omega arith
+  deaf i (suc j) l m w u v e = false≢true (sym (near (eqb i j) refl) ∙ (rw v at e))
+    where
+      near : (b : Bool) → eqb i j ≡ b → (at ns j .addressed || false) ≡ false
+      near true f = rw (← (eqb-true i j f), u) refl
+      near false f = let d = eqb-false i j f in rw (inv .back j (omega arith) (omega arith) .0) refl
+
+  only-address : (a i j : ℕ) → i < h .n → j < h .n → Own h ns i → Own h ns j → a ≡ at ns i .settings .place .address .0 → a ≡ at ns j .settings .place .address .0
+      → hearsAt ns i ≡ true → hearsAt ns j ≡ true → (b c : Bool) → ltb i j ≡ b → ltb j i ≡ c → i ≡ j
+  unfolding Own
+  only-address a i j l m (inl p) (inl q) e f x y b c g k = omega arith
+  only-address a i j l m (inl p) (inr q) e f x y b c g k = absurd (omega (arith, q .0))
+  only-address a i j l m (inr p) (inl q) e f x y b c g k = absurd (omega (arith, p .0))
+  only-address a i j l m (inr p) (inr q) e f x y true c g k = absurd (deaf i j (ltb-true i j g) m (p .2) (p .1) (q .1) y)
+  only-address a i j l m (inr p) (inr q) e f x y false true g k = absurd (deaf j i (ltb-true j i k) l (q .2) (q .1) (p .1) x)
+  only-address a i j l m (inr p) (inr q) e f x y false false g k = omega (arith, ltb-false i j g, ltb-false j i k)
+
+  -- at most one node replies to an address
+  pub one-replies : (to : Address) (i j : ℕ) → i < h .n → j < h .n → repliesAt to ns i ≡ true → repliesAt to ns j ≡ true → i ≡ j
+  one-replies (address.Individual a) i j l m p q =
+      let x = both (hearsAt ns i) (answers (address.Individual a) (at ns i)) p in
+      let y = both (hearsAt ns j) (answers (address.Individual a) (at ns j)) q in
+      only-address (a .0) i j l m (own i l (ltb i (h .walk)) (eqb (h .walk) i) refl refl) (own j m (ltb j (h .walk)) (eqb (h .walk) j) refl refl)
+      (eqb-true (a .0) _ (x .1)) (eqb-true (a .0) _ (y .1)) (x .0) (y .0) (ltb i j) (ltb j i) refl refl
+  one-replies (address.Group g) i j l m p q =
+      let x = both (hearsAt ns i) (answers (address.Group g) (at ns i)) p in
+      let y = both (hearsAt ns j) (answers (address.Group g) (at ns j)) q in
+      inv .alone (g .0) i j l m (x .1) (y .1)
+
+  pub no-clash : (to : Address) (heard : Heard) → said to heard ns ≡ clash → ⊥
+  no-clash to heard e =
+      let t = clash-two to heard ns e in
+      let n = inv .long in
+      let s = one-replies to (t .first) (t .second) (omega (arith, t .inside, t .apart)) (omega (arith, t .inside)) (t .one) (t .two) in
+      omega (arith, t .apart)

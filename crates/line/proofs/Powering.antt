@@ -1,0 +1,101 @@
+-- Power-up: the invariant, and a record that says what the empty history says.
+use Prim.Native.Nat.{ℕ, zero, suc, _≤_, _<_}
+use mathlib.Core.Bool.{Bool, true, false, cond, _||_, false≢true}
+use mathlib.Core.List.{List, [], _∷_, map}
+use mathlib.Core.Logic.{inl}
+use mathlib.Core.Path.{_≡_, refl, ap}
+use native.Mathlib.Omega.{arith}
+use lib.Dec.{ltb}
+use lib.ListN.{length}
+use borrow.Author.Tests.{ltb-false}
+use Rattle.wire.specs.Numbers.{numberOf}
+use Rattle.wire.specs.declared.refusal.Refusal.{Refusal}
+use Rattle.wire.specs.declared.refusal.Refusal.the-variants as refusal
+use Rattle.wire.specs.declared.refusal.Refusal.the-variants.{Short, Header, Long, Sum, Room, Range, Busy, NotDue, NoNode, Led, Closed}
+use Rattle.node.specs.declared.state.Bench.{Bench}
+use Rattle.node.specs.Effect.{settingsUp}
+use Rattle.node.specs.Node.{powerUp}
+use Rattle.entry.proofs.Entries.{knows-up}
+use Rattle.ledger.specs.Ledger.{blank, ledgerUp}
+use Rattle.ledger.proofs.Ledgers.{length-up, up-at}
+use Rattle.session.specs.declared.Exchange.the-variants.{Idle}
+use Rattle.session.specs.declared.Session.{Session}
+use Rattle.session.specs.declared.End.the-variants.{Done, Refused}
+use Rattle.session.specs.declared.Step.{Step}
+use Rattle.session.specs.Session.{poweredOf}
+use Rattle.session.proofs.Sessions.{or-false}
+use Rattle.line.proofs.Exactly.{Exactly}
+use Rattle.line.proofs.Invariant.{at, Invariant}
+
+-- no refusal has the number 0
+pub not-done : (why : Refusal) → numberOf why ≡ 0 → ⊥
+not-done Short e = omega arith
+not-done Header e = omega arith
+not-done Long e = omega arith
+not-done Sum e = omega arith
+not-done Room e = omega arith
+not-done Range e = omega arith
+not-done Busy e = omega arith
+not-done refusal.Idle e = omega arith
+not-done NotDue e = omega arith
+not-done NoNode e = omega arith
+not-done Led e = omega arith
+not-done Closed e = omega arith
+
+-- the session of a power-up with n nodes
+abbrev pub freshAt : ℕ → Session
+freshAt n = record { started = true; n = n; walk = 0; exchange = Idle; entries = ledgerUp }
+
+abbrev powering : Bool → Session → ℕ → Step
+powering bad s n = cond bad (record { end = Refused Range; session = s }) (record { end = Done; session = freshAt n })
+
+pub record Powered (s : Session) (n : ℕ) : Type 0 where
+  pub some : 1 ≤ n
+  pub few : n ≤ 31
+  pub session : poweredOf s n .session ≡ freshAt n
+
+-- a power-up that is accepted
+pub accepted-power : (s : Session) (n : ℕ) → poweredOf s n .end ≡ Done → Powered s n
+unfolding poweredOf
+accepted-power s n e = go (ltb n 1 || ltb 31 n) refl e
+  where
+    go : (b : Bool) → (ltb n 1 || ltb 31 n) ≡ b → powering b s n .end ≡ Done → Powered s n
+    go true f e = let z : _≡_ {A = ℕ} 0 1 = cc e in absurd (omega arith)
+    go false f e =
+        let p = or-false (ltb n 1) (ltb 31 n) f in
+        record { some = ltb-false n 1 (p .0); few = ltb-false 31 n (p .1); session = rw f refl }
+
+-- all nodes in power-up state
+length-powered : (bs : List Bench) → length (map powerUp bs) ≡ length bs
+length-powered [] = refl
+length-powered (b ∷ bs) = ap suc (length-powered bs)
+
+settings-powered : (bs : List Bench) (i : ℕ) → i < length bs → at (map powerUp bs) i .settings ≡ settingsUp
+settings-powered [] i l = absurd (omega arith)
+settings-powered (b ∷ bs) zero l = refl
+settings-powered (b ∷ bs) (suc i) l = settings-powered bs i (omega arith)
+
+addressed-powered : (bs : List Bench) (i : ℕ) → i < length bs → at (map powerUp bs) i .addressed ≡ false
+addressed-powered [] i l = absurd (omega arith)
+addressed-powered (b ∷ bs) zero l = refl
+addressed-powered (b ∷ bs) (suc i) l = addressed-powered bs i (omega arith)
+
+module _ (bs : List Bench) (some : 1 ≤ length bs) (few : length bs ≤ 31) where
+  pub powered-invariant : Invariant (freshAt (length bs)) (map powerUp bs)
+  powered-invariant = record {
+    begun = refl;
+    long = length-powered bs;
+    some = some;
+    few = few;
+    full = length-up;
+    walked = omega arith;
+    held = λ i l s k. rw (up-at i blank (omega arith), settings-powered bs i l) refl;
+    front = λ i l. absurd (omega arith);
+    back = λ i l m. rw (settings-powered bs i m, addressed-powered bs i m) (refl, refl);
+    edge = λ l. inl (rw (settings-powered bs 0 l, addressed-powered bs 0 l) (refl, refl));
+    alone = λ g i j l m p q. absurd (false≢true (rw (settings-powered bs i l) at p));
+    fit = λ i l. rw (settings-powered bs i l) refl;
+  }
+
+  pub powered-exactly : Exactly (freshAt (length bs)) []
+  powered-exactly i l = rw (up-at i blank (omega arith)) (record { known = knows-up; place = refl })

@@ -1,0 +1,101 @@
+-- One exchange, for every kind of command: what the invariant asks of it, node by node.
+use Prim.Native.Nat.{ℕ, suc, _+_, _≤_, _<_}
+use mathlib.Core.Bool.{Bool, true, false, cond, _&&_}
+use mathlib.Core.List.{List}
+use mathlib.Core.Path.{_≡_, refl, sym, _∙_}
+use native.Mathlib.Omega.{arith}
+use Rattle.wire.specs.declared.address.Address.{Address}
+use Rattle.command.specs.declared.Command.{Command}
+use Rattle.command.specs.declared.Command.the-variants.{SetAddress, DefineStatus, ReadStatus, SetPwm, SynchOutput, SetOutputs, SetSynchOutput, SetTimerMode, SynchInput, Nop, HardReset}
+use Rattle.command.specs.Build.{placeFits, fitsOf}
+use Rattle.status.specs.declared.Answer.{Answer}
+use Rattle.status.specs.declared.Answer.the-variants.{Clear, Marked, Silent}
+use Rattle.node.specs.declared.state.Settings.{Settings}
+use Rattle.node.specs.declared.state.Node.{Node}
+use Rattle.node.specs.Effect.{settingsAfter}
+use Rattle.entry.specs.declared.Reach.{Reach}
+use Rattle.entry.specs.declared.Reach.the-variants.{Misses, Hits, May}
+use Rattle.entry.specs.Entry.{noted}
+use Rattle.ledger.specs.Ledger.{reachOf}
+use Rattle.session.specs.declared.Session.{Session}
+use Rattle.line.proofs.Closing.{entryAt, Concluded}
+use Rattle.line.proofs.Sound.{Sound, Fits, Told, noted-sound}
+use Rattle.line.proofs.Invariant.{at, Placed, Unplaced, Edge, leads, Invariant, acts, Exchanged}
+
+-- a command whose values are of their range leaves every place of its range
+fit-after : (c : Command) → fitsOf c ≡ true → (x : Settings) → placeFits (x .place) ≡ true → placeFits (settingsAfter c x .place) ≡ true
+fit-after (SetAddress p) f x h = f
+fit-after (DefineStatus m) f x h = h
+fit-after (ReadStatus m) f x h = h
+fit-after (SetPwm w) f x h = h
+fit-after SynchOutput f x h = h
+fit-after (SetOutputs w) f x h = h
+fit-after (SetSynchOutput k) f x h = h
+fit-after (SetTimerMode m) f x h = h
+fit-after SynchInput f x h = h
+fit-after Nop f x h = h
+fit-after HardReset f x h = refl
+
+told : (a : Answer) (r : Reach) (whole : Bool) → (a ≡ Marked → whole ≡ false) → (a ≡ Clear → whole ≡ true) → Told a r whole
+told Clear Misses whole m c = tt
+told Clear Hits whole m c = c refl
+told Clear May whole m c = tt
+told Marked r whole m c = m refl
+told Silent r whole m c = tt
+
+module _ (h : Session) (ns ms : List Node) (inv : Invariant h ns) (line : Address) (c : Command) (a : Answer) (x : Exchanged line c ns ms a) where
+  -- a clear answer: since all nodes are alike, each had the command whole
+  pub clear-whole : a ≡ Clear → (i : ℕ) → x .whole i ≡ true
+  clear-whole e i = let o = x .clear e in x .alike i (o .index) ∙ o .had
+
+  -- what is known is held, also afterwards
+  pub held-step : (to : Address) (i : ℕ) → i < h .n → Fits (reachOf to (suc i) (entryAt h i)) (acts line ns i)
+      → Sound (noted a (reachOf to (suc i) (entryAt h i)) c (entryAt h i)) (at ms i .settings)
+  held-step to i l f =
+      rw (x .settings i (omega (arith, inv .long)))
+      (noted-sound a (reachOf to (suc i) (entryAt h i)) c (entryAt h i) (at ns i .settings) (x .whole i) (acts line ns i)
+      (told a (reachOf to (suc i) (entryAt h i)) (x .whole i) (λ e. x .marked e i) (λ e. clear-whole e i)) f (inv .held i l))
+
+  -- each node's place is of its range
+  fit-if : fitsOf c ≡ true → (b : Bool) (i : ℕ) → i < h .n
+      → placeFits (cond b (settingsAfter c (at ns i .settings)) (at ns i .settings) .place) ≡ true
+  fit-if f true i l = fit-after c f (at ns i .settings) (inv .fit i l)
+  fit-if f false i l = inv .fit i l
+
+  -- no node has come to lead a group
+  pub shrinks : ((g i : ℕ) → leads g (settingsAfter c (at ns i .settings)) ≡ true → leads g (at ns i .settings) ≡ true)
+      → (g i j : ℕ) → i < h .n → j < h .n → leads g (at ms i .settings) ≡ true → leads g (at ms j .settings) ≡ true → i ≡ j
+  shrinks s g i j l m p q = inv .alone g i j l m (led i l p) (led j m q)
+    where
+      led-if : (i : ℕ) (b : Bool) → leads g (cond b (settingsAfter c (at ns i .settings)) (at ns i .settings)) ≡ true → leads g (at ns i .settings) ≡ true
+      led-if i true p = s g i p
+      led-if i false p = p
+
+      led : (i : ℕ) → i < h .n → leads g (at ms i .settings) ≡ true → leads g (at ns i .settings) ≡ true
+      led i l p = led-if i (x .whole i && acts line ns i) (rw (x .settings i (omega (arith, inv .long))) at p)
+
+  -- the invariant after the report, from what each kind of command must show; the walk then stands at w
+  module _ (t : Session) (to : Address) (m : Command) (w : ℕ) (k : Concluded h a to m w t) where
+    pub stepped : fitsOf c ≡ true → w ≤ h .n
+        → ((i : ℕ) → i < h .n → Sound (noted a (reachOf to (suc i) (entryAt h i)) m (entryAt h i)) (at ms i .settings))
+        → ((i : ℕ) → i < w → Placed (suc i) (at ms i .settings) (at ms i .addressed))
+        → ((i : ℕ) → w < i → i < h .n → Unplaced (at ms i .settings) (at ms i .addressed))
+        → (w < h .n → Edge (noted a (reachOf to (suc w) (entryAt h w)) m (entryAt h w)) (at ms w .settings) (at ms w .addressed) (w + 1))
+        → ((g i j : ℕ) → i < h .n → j < h .n → leads g (at ms i .settings) ≡ true → leads g (at ms j .settings) ≡ true → i ≡ j)
+        → Invariant t ms
+    stepped fits walked held front back edge alone =
+        let n = k .nodes in
+        record {
+          begun = k .begun ∙ inv .begun;
+          long = x .long ∙ inv .long ∙ sym n;
+          some = rw n (inv .some);
+          few = rw n (inv .few);
+          full = k .full;
+          walked = rw (n, k .walk) walked;
+          held = λ i l. rw (k .entry i (omega arith)) (held i (omega arith));
+          front = λ i l. front i (omega (arith, k .walk));
+          back = λ i l e. back i (omega (arith, k .walk)) (omega arith);
+          edge = λ l. rw (k .walk, k .entry w (omega (arith, k .walk))) (edge (omega (arith, k .walk)));
+          alone = λ g i j l e. alone g i j (omega arith) (omega arith);
+          fit = λ i l. rw (x .settings i (omega (arith, inv .long))) (fit-if fits (x .whole i && acts line ns i) i (omega arith));
+        }

@@ -1,0 +1,71 @@
+-- Demand 3, and what else the premises give.
+use Prim.Native.Nat.{ℕ, _+_, _-_, _≤_}
+use mathlib.Core.Bool.{true, false}
+use mathlib.Core.List.{List}
+use mathlib.Core.Option.{Option, some}
+use mathlib.Core.Logic.{_↔_}
+use mathlib.Core.Path.{_≡_}
+use lib.ListN.{length, getD, take}
+use Rattle.wire.specs.declared.address.Group.{Group}
+use Rattle.wire.specs.declared.address.Address.the-variants as address
+use Rattle.status.specs.Status.{T}
+use Rattle.node.specs.declared.state.Node.{Node}
+use Rattle.node.specs.Setting.{Setting, get}
+use Rattle.chain.specs.declared.table.Table.{Table}
+use Rattle.chain.specs.declared.table.Delivery.{Delivery}
+use Rattle.chain.specs.declared.table.Delivery.the-variants.{Silent, Replied, Collision, Refused}
+use Rattle.chain.specs.One.{answers}
+use Rattle.chain.specs.Chain.{blank, Said, silence, reply, clash}
+use Rattle.chain.specs.Table.{nodesOf, validOf, deliveredOf}
+use Rattle.entry.specs.Entry.{knows, shows}
+use Rattle.session.specs.declared.Exchange.the-variants.{Idle}
+use Rattle.session.specs.Session.{entryOf}
+use Rattle.line.specs.History.{Sending, counted, Doubtful}
+use Rattle.line.specs.Line.{going, Arrives, nodesAfter, saidAfter}
+use Rattle.line.specs.World.{World, Comes}
+
+-- node k of the chain
+abbrev pub nodeOf : List Node → ℕ → Node
+nodeOf ns k = getD ns (k - 1) blank
+
+-- what demand 3 promises of a world, for each node 1 to n and each setting
+pub record Kept (w : World) : Type 0 where
+  -- the chain has the nodes of which the host has a record
+  pub recorded : length (w .nodes) ≡ w .host .n
+  -- "each setting the host calls known is what the node holds"
+  pub known : (k : ℕ) → 1 ≤ k → k ≤ w .host .n → (s : Setting)
+      → knows (entryOf (w .host) k) s ≡ true → shows (entryOf (w .host) k) s ≡ get (nodeOf (w .nodes) k .settings) s
+  -- "It is in doubt exactly if the last command that could have written it was unconfirmed, went to a group while the node's group was in doubt,
+  -- or copied a setting in doubt"
+  pub doubt : (k : ℕ) → 1 ≤ k → k ≤ w .host .n → (s : Setting) → (knows (entryOf (w .host) k) s ≡ false) ↔ Doubtful (counted (w .past)) k s
+
+-- "with no exchange open and no Hard Reset sent since"
+abbrev pub Demand3 : Type 0
+Demand3 = (w : World) → Comes w → w .up ≡ true → w .host .exchange ≡ Idle → Kept w
+
+-- at most one node really leads a group
+abbrev pub OneLeader : Type 0
+OneLeader = (w : World) → Comes w → w .up ≡ true → (g : Group) (j k : ℕ) → 1 ≤ j → j ≤ w .host .n → 1 ≤ k → k ≤ w .host .n
+    → answers (address.Group g) (nodeOf (w .nodes) j) ≡ true → answers (address.Group g) (nodeOf (w .nodes) k) ≡ true → j ≡ k
+
+-- so no two nodes ever reply at once
+abbrev pub NoCollision : Type 0
+NoCollision = (w : World) → Comes w → w .up ≡ true → (what : Sending) (p : List ℕ) → w .line ≡ going what p
+    → (q : Option (List ℕ)) → Arrives p q → saidAfter q (w .nodes) ≡ clash → ⊥
+
+-- what a delivery to a table says on the line
+abbrev pub heardBy : Delivery → List ℕ → Said
+heardBy Silent left = silence
+heardBy (Replied n) left = reply (take n left)
+heardBy Collision left = clash
+heardBy (Refused why) left = silence
+
+-- the chain's call over a table of these nodes, with room for a reply, isn't refused for the table, and does to nodes and line what is said of the list
+pub record Delivers (t : Table) (q out : List ℕ) : Type 0 where
+  pub valid : validOf t ≡ true
+  pub nodes : nodesOf (deliveredOf t q out .answer .table) ≡ nodesAfter (some q) (nodesOf t)
+  pub says : heardBy (deliveredOf t q out .answer .answer) (deliveredOf t q out .left) ≡ saidAfter (some q) (nodesOf t)
+
+abbrev pub ByTable : Type 0
+ByTable = (w : World) → Comes w → w .up ≡ true → (t : Table) → nodesOf t ≡ w .nodes → t .count ≡ length (w .nodes)
+    → (q out : List ℕ) → T + 2 ≤ length out → Delivers t q out

@@ -1,0 +1,119 @@
+-- Demand 3: when a setting is in doubt, said over what was sent and heard since power-up. The host's record is not looked at.
+use Prim.Native.Nat.{ℕ}
+use mathlib.Core.Bool.{Bool, true, false, cond, not, _&&_, _||_}
+use mathlib.Core.List.{List, [], _∷_}
+use mathlib.Core.Logic.{_⊎_}
+use mathlib.Core.Path.{_≡_}
+use lib.Dec.{eqb}
+use Rattle.wire.specs.declared.address.Address.{Address}
+use Rattle.wire.specs.declared.address.Address.the-variants as address
+use Rattle.command.specs.declared.Place.{Place}
+use Rattle.command.specs.declared.Command.{Command}
+use Rattle.command.specs.declared.Command.the-variants.{SetAddress}
+use Rattle.status.specs.declared.Answer.{Answer}
+use Rattle.status.specs.declared.Answer.the-variants.{Clear, Marked, Silent}
+use Rattle.node.specs.Setting.{Setting, place}
+use Rattle.node.specs.Effect.{Effect, keeps, stores, copies, effect, writes, settingsUp}
+use Rattle.session.specs.Session.{nodeAt, givenPlace}
+
+-- what the host sent: the walk's Set Address that gives k, the "ask" for it, a command to a node or a group
+pub data Sending : Type 0 where
+  gives : ℕ → Sending
+  asks : ℕ → Sending
+  sends : Address → Command → Sending
+
+-- and what was heard
+pub record Sent : Type 0 where
+  pub what : Sending
+  pub heard : Answer
+
+-- a command that counts, and whether it was confirmed
+pub record Counted : Type 0 where
+  pub to : Address
+  pub command : Command
+  pub confirmed : Bool
+
+-- what is sent counts as a command to a node or a group: the walk's Set Address goes to the node that it gives its address, and an "ask" is about that Set Address
+abbrev pub countsAs : Sending → Bool → Counted
+countsAs (gives k) b = record { to = nodeAt k; command = SetAddress (givenPlace k); confirmed = b }
+countsAs (asks k) b = record { to = nodeAt k; command = SetAddress (givenPlace k); confirmed = b }
+countsAs (sends to c) b = record { to = to; command = c; confirmed = b }
+
+-- a good clear reply confirms, an "ask"'s "confirms that Set Address"; "A reply with the checksum bit set makes its command count as unsent";
+-- silence leaves a command unconfirmed, and an "ask" tells nothing by it
+abbrev pub count : Sending → Answer → List Counted → List Counted
+count what Clear past = countsAs what true ∷ past
+count what Marked past = past
+count (gives k) Silent past = countsAs (gives k) false ∷ past
+count (asks k) Silent past = past
+count (sends to c) Silent past = countsAs (sends to c) false ∷ past
+
+-- the commands that count, the newest first
+abbrev pub counted : List Sent → List Counted
+counted [] = []
+counted (x ∷ past) = count (x .what) (x .heard) (counted past)
+
+-- a command to a group
+abbrev pub toGroup : Address → Bool
+toGroup (address.Individual i) = false
+toGroup (address.Group g) = true
+
+-- a command to node k
+abbrev pub toNode : Address → ℕ → Bool
+toNode (address.Individual i) k = eqb (i .0) k
+toNode (address.Group g) k = false
+
+-- the place after a command that had another before it
+abbrev pub placeIn : Effect place → Place → Place
+placeIn keeps p = p
+placeIn (stores q) p = q
+placeIn (copies t f) p = p
+
+-- the place that the last confirmed Set Address gave to node k
+abbrev pub lastPlace : List Counted → ℕ → Place
+lastPlace [] k = settingsUp .place
+lastPlace (x ∷ past) k =
+    cond (x .confirmed && toNode (x .to) k) (placeIn (effect (x .command) place) (lastPlace past k)) (lastPlace past k)
+
+-- a copy of a setting that is in doubt
+abbrev pub copied : {s : Setting} → Effect s → (Setting → Bool) → Bool
+copied keeps doubt = false
+copied (stores v) doubt = false
+copied (copies t f) doubt = doubt t
+
+-- "Who may be written: node k for an individual command and for the walk's Set Address that gives k; for a group, nodes known to be in it
+-- and every node whose place is in doubt"; p is the place that node k was last given, `lost`: it is in doubt
+abbrev pub goes : Address → ℕ → Bool → Place → Bool
+goes (address.Individual i) k lost p = eqb (i .0) k
+goes (address.Group g) k lost p = lost || eqb (p .group .0) (g .0)
+
+-- setting s of node k is in doubt; computed from the newest command that counts to the oldest
+abbrev pub inDoubt : List Counted → ℕ → Setting → Bool
+inDoubt [] k s = false
+inDoubt (x ∷ past) k s =
+    cond (goes (x .to) k (inDoubt past k place) (lastPlace past k) && writes (effect (x .command) s))
+    (not (x .confirmed) || (toGroup (x .to) && inDoubt past k place) || copied (effect (x .command) s) (inDoubt past k))
+    (inDoubt past k s)
+
+-- The same in the demand's words. Command x, after what went before it, could have written setting s of node k
+abbrev pub could : Counted → List Counted → ℕ → Setting → Bool
+could x before k s = goes (x .to) k (inDoubt before k place) (lastPlace before k) && writes (effect (x .command) s)
+
+-- x is "the last command that could have written it"
+pub data Last (k : ℕ) (s : Setting) : List Counted → Counted → List Counted → Type 0 where
+  this : {x : Counted} {before : List Counted} → could x before k s ≡ true → Last k s (x ∷ before) x before
+  older : {x y : Counted} {past before : List Counted} → could y past k s ≡ false → Last k s past x before → Last k s (y ∷ past) x before
+
+-- it "was unconfirmed, went to a group while the node's group was in doubt, or copied a setting in doubt"
+abbrev pub Unsure : Counted → List Counted → ℕ → Setting → Type 0
+Unsure x before k s =
+    (x .confirmed ≡ false)
+    ⊎ ((toGroup (x .to) ≡ true) × (inDoubt before k place ≡ true))
+    ⊎ (copied (effect (x .command) s) (inDoubt before k) ≡ true)
+
+-- "exactly if the last command that could have written it was unconfirmed, .."
+pub record Doubtful (past : List Counted) (k : ℕ) (s : Setting) : Type 0 where
+  pub command : Counted
+  pub before : List Counted
+  pub last : Last k s past command before
+  pub unsure : Unsure command before k s

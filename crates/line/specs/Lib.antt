@@ -1,0 +1,6 @@
+pub mod History
+pub mod Call
+pub mod Line
+pub mod World
+pub mod Demand3
+pub mod Courses

@@ -1,0 +1,71 @@
+-- Demand 3's line: what reaches the nodes, what they make of it, what comes back. Nobody else sends on it.
+use Prim.Native.Nat.{ℕ}
+use mathlib.Core.List.{List, []}
+use mathlib.Core.Option.{Option, none, some}
+use Rattle.wire.specs.Change.{Altered, Damaged}
+use Rattle.packet.specs.Packet.{frameOf}
+use Rattle.packet.specs.declared.Framed.{Framed}
+use Rattle.packet.specs.declared.Framed.the-variants as framed
+use Rattle.status.specs.Status.{judged}
+use Rattle.status.specs.declared.Answer.{Answer}
+use Rattle.status.specs.declared.Answer.the-variants.{Silent}
+use Rattle.node.specs.declared.state.Node.{Node}
+use Rattle.chain.specs.One.{heardAs}
+use Rattle.chain.specs.Chain.{after, Said, silence, reply, clash, said}
+use Rattle.session.specs.declared.Session.{Session}
+use Rattle.session.specs.declared.Step.{Step}
+use Rattle.reports.specs.Report.{finished, reportOf}
+use Rattle.line.specs.History.{Sending}
+
+-- what is on the line: nothing; a packet on its way to the nodes; what came of it on its way back, some bytes or nothing
+pub data Line : Type 0 where
+  quiet : Line
+  going : Sending → List ℕ → Line
+  coming : Sending → Option (List ℕ) → Line
+
+-- "A command reaches all nodes alike: whole, with one byte other than header and command byte changed, or not at all"
+pub data Arrives (p : List ℕ) : Option (List ℕ) → Type 0 where
+  whole : Arrives p (some p)
+  damaged : {q : List ℕ} → Damaged p q → Arrives p (some q)
+  lost : Arrives p none
+
+-- the nodes after the bytes q, as the chain delivers them
+abbrev pub takenBy : Framed → List ℕ → List Node → List Node
+takenBy (framed.Whole to k n) q ns = after to (heardAs k q) ns
+takenBy (framed.Refused why) q ns = ns
+
+abbrev pub nodesAfter : Option (List ℕ) → List Node → List Node
+nodesAfter none ns = ns
+nodesAfter (some q) ns = takenBy (frameOf q) q ns
+
+-- and what they say
+abbrev pub spokenBy : Framed → List ℕ → List Node → Said
+spokenBy (framed.Whole to k n) q ns = said to (heardAs k q) ns
+spokenBy (framed.Refused why) q ns = silence
+
+abbrev pub saidAfter : Option (List ℕ) → List Node → Said
+saidAfter none ns = silence
+saidAfter (some q) ns = spokenBy (frameOf q) q ns
+
+-- nothing came: silence is reported, or no bytes
+pub data Nothing : Option (List ℕ) → Type 0 where
+  unheard : Nothing none
+  empty : Nothing (some [])
+
+-- "A reply comes whole, with one byte changed, or not at all"; of several at once anything may come
+pub data Returns : Said → Option (List ℕ) → Type 0 where
+  quietly : {t : Option (List ℕ)} → Nothing t → Returns silence t
+  whole : {r : List ℕ} → Returns (reply r) (some r)
+  altered : {r t : List ℕ} → Altered r t → Returns (reply r) (some t)
+  lost : {r : List ℕ} {t : Option (List ℕ)} → Nothing t → Returns (reply r) t
+  mixed : {t : Option (List ℕ)} → Returns clash t
+
+-- it "is reported as it came": by the bytes received, or as silence
+abbrev pub reportedOf : Session → Option (List ℕ) → Step
+reportedOf s none = finished s Silent
+reportedOf s (some bytes) = reportOf s bytes
+
+-- and what was heard
+abbrev pub heardIn : Option (List ℕ) → Answer
+heardIn none = Silent
+heardIn (some bytes) = judged bytes

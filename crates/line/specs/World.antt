@@ -1,0 +1,88 @@
+-- Demand 3's course of events: whatever can come about under its premises.
+use Prim.Native.Nat.{ℕ}
+use mathlib.Core.Bool.{Bool, true, false, cond}
+use mathlib.Core.List.{List, [], _∷_, map}
+use mathlib.Core.Option.{Option}
+use mathlib.Core.Path.{_≡_}
+use lib.ListN.{length, getD, set, take}
+use Rattle.wire.specs.declared.refusal.Refusal.{Refusal}
+use Rattle.node.specs.declared.state.Bench.{Bench}
+use Rattle.node.specs.declared.state.Node.{Node}
+use Rattle.node.specs.Node.{powerUp}
+use Rattle.chain.specs.Chain.{blank}
+use Rattle.session.specs.declared.Session.{Session}
+use Rattle.session.specs.declared.End.{End}
+use Rattle.session.specs.declared.End.the-variants.{Done, Sent, Refused}
+use Rattle.session.specs.Session.{freshOf, poweredOf}
+use Rattle.line.specs.History.{Sending}
+use Rattle.line.specs.History as history
+use Rattle.line.specs.Call.{Call, calledOf, whatOf, resets, Typed}
+use Rattle.line.specs.Line.{Line, quiet, going, coming, Arrives, nodesAfter, saidAfter, Returns, reportedOf, heardIn}
+
+-- `up`: the host was told of a power-up, and no Hard Reset was sent since; `past`: what was sent and heard since, the newest first
+pub record World : Type 0 where
+  pub host : Session
+  pub nodes : List Node
+  pub line : Line
+  pub past : List history.Sent
+  pub up : Bool
+
+-- before any power-up
+abbrev pub started : List Node → World
+started ns = record { host = freshOf; nodes = ns; line = quiet; past = []; up = false }
+
+-- the host has another session
+abbrev pub hosting : Session → World → World
+hosting s w = record { host = s; nodes = w .nodes; line = w .line; past = w .past; up = w .up }
+
+-- all nodes in power-up state, each with the bench values that it has
+abbrev pub powered : List Bench → Session → World
+powered bs s = record { host = s; nodes = map powerUp bs; line = quiet; past = []; up = true }
+
+-- a call that sends puts the first n bytes of its buffer on the line; any other leaves the line as it is
+abbrev pub callEnded : End → Call → Session → List ℕ → World → World
+callEnded (Sent n) c s left w =
+    record { host = s; nodes = w .nodes; line = going (whatOf c (take n left)) (take n left); past = w .past; up = cond (resets c) false (w .up) }
+callEnded Done c s left w = hosting s w
+callEnded (Refused why) c s left w = hosting s w
+
+abbrev pub called : Call → List ℕ → World → World
+called c out w = callEnded (calledOf c (w .host) out .answer .end) c (calledOf c (w .host) out .answer .session) (calledOf c (w .host) out .left) w
+
+-- the packet came as q, and r comes back
+abbrev pub delivered : Option (List ℕ) → Sending → Option (List ℕ) → World → World
+delivered q what r w = record { host = w .host; nodes = nodesAfter q (w .nodes); line = coming what r; past = w .past; up = w .up }
+
+-- what came was reported
+abbrev pub reported : Sending → Option (List ℕ) → World → World
+reported what r w = record {
+  host = reportedOf (w .host) r .session;
+  nodes = w .nodes;
+  line = quiet;
+  past = record { what = what; heard = heardIn r } ∷ w .past;
+  up = w .up;
+}
+
+-- a node with other bench values
+abbrev pub benched : Bench → Node → Node
+benched b n = record { settings = n .settings; addressed = n .addressed; bench = b; captured = n .captured }
+
+pub data Comes : World → Type 0 where
+  -- before any power-up there may be any nodes
+  start : (ns : List Node) → Comes (started ns)
+  -- "when the host is told of a power-up of n nodes, the chain has n nodes and all power up then", at any time
+  power : {w : World} → Comes w → (bs : List Bench) → poweredOf (w .host) (length bs) .end ≡ Done → Comes (powered bs (poweredOf (w .host) (length bs) .session))
+  -- a power-up that is refused
+  unpowered : {w : World} → Comes w → (n : ℕ) (why : Refusal) → poweredOf (w .host) n .end ≡ Refused why → Comes (hosting (poweredOf (w .host) n .session) w)
+  -- a call, accepted or refused, with any buffer, at any time
+  call : {w : World} → Comes w → (c : Call) → Typed c → (out : List ℕ) → Comes (called c out w)
+  -- its packet reaches all nodes alike, and what they say comes back
+  deliver : {w : World} → Comes w → (what : Sending) (p : List ℕ) → w .line ≡ going what p
+      → (q r : Option (List ℕ)) → Arrives p q → Returns (saidAfter q (w .nodes)) r → Comes (delivered q what r w)
+  -- what came is reported as it came
+  report : {w : World} → Comes w → (what : Sending) (r : Option (List ℕ)) → w .line ≡ coming what r → Comes (reported what r w)
+  -- a report that is refused: "a reply nobody waits for"
+  stray : {w : World} → Comes w → (r : Option (List ℕ)) (why : Refusal) → reportedOf (w .host) r .end ≡ Refused why → Comes (hosting (reportedOf (w .host) r .session) w)
+  -- the bench sets the values of a node, at any time
+  bench : {w : World} → Comes w → (i : ℕ) (b : Bench)
+      → Comes (record { host = w .host; nodes = set (w .nodes) i (benched b (getD (w .nodes) i blank)); line = w .line; past = w .past; up = w .up })

@@ -1,0 +1,28 @@
+-- What was placed in a buffer stands within it.
+use Prim.Native.Nat.{ℕ, _≤_}
+use mathlib.Core.Bool.{Bool, true, false, cond}
+use mathlib.Core.List.{List, _++_}
+use mathlib.Core.Path.{_≡_, refl, sym, ap, _∙_}
+use native.Mathlib.Omega.{arith}
+use lib.Dec.{ltb}
+use lib.ListN.{length, take, drop, length-append}
+use lib.Seq.{length-take-le}
+use Rattle.wire.specs.Promise.{Outcome, Lending}
+use Rattle.wire.specs.Buffer.{written, refused, place, builtNumber}
+use Rattle.wire.specs.declared.refusal.Refusal.the-variants.{Room}
+use Rattle.wire.specs.declared.buffer.Built.{Built}
+use Rattle.wire.specs.declared.buffer.Built.the-variants.{Bytes, Refused}
+
+chosen : (t : Bool) (p out left : List ℕ) (n : ℕ) → Bytes n ≡ cond t (refused Room out) (written p out) .answer → left ≡ cond t (refused Room out) (written p out) .left → n ≤ length left
+chosen true p out left n e f = absurd (let z : _≡_ {A = ℕ} 0 1 = cc in let y : ⊥ = omega arith in y)
+chosen false p out left n e f =
+    let k : n ≡ length p = cc in
+    rw (k, f) (omega (arith, length-append p (drop (length p) out)))
+
+module _ (p out left : List ℕ) (r : Built) (n : ℕ) (w : Lending builtNumber r left (place p out)) (e : r ≡ Bytes n) where
+  pub placed-within : n ≤ length left
+  unfolding place
+  placed-within = chosen (ltb (length out) (length p)) p out left n (sym e ∙ w .answer) (w .leaves)
+
+  pub placed-part : n ≡ length (take n left)
+  placed-part = sym (length-take-le n left placed-within)

@@ -1,0 +1,72 @@
+-- The whole text: the count, then the lines.
+use Prim.Native.Nat.{ℕ, suc, _+_, _≤_, _<_}
+use mathlib.Core.List.{List, [], _∷_, _++_}
+use mathlib.Core.Path.{_≡_, refl, sym, ap, _∙_}
+use native.Mathlib.Omega.{arith}
+use native.Mathlib.Numerals.{add-one}
+use lib.ListN.{length, drop, length-drop}
+use borrow.Author.Tests.{lt-ltb, le-ltb}
+use Rattle.wire.specs.Promise.{Promise, Lending}
+use Rattle.wire.specs.Buffer.{builtNumber, place}
+use Rattle.wire.specs.declared.refusal.Refusal.the-variants.{Room}
+use Rattle.wire.specs.declared.buffer.Built.the-variants as built
+use Rattle.wire.proofs.Writing.{no-room, has-room}
+use Rattle.text.specs.Lines.{lineOf, linesOf}
+use Rattle.text.specs.Digits.{digitOf, decimalIn, decimalNumber}
+use Rattle.text.specs.declared.digits.Decimal.{Decimal}
+use Rattle.text.specs.declared.digits.Decimal.the-variants.{Value, Malformed}
+use Rattle.text.proofs.Parts.{lines-step}
+use Rattle.text.proofs.Puts.{sets-start}
+use Rattle.chain.specs.declared.table.Table.{Table}
+use Rattle.script.specs.Wrote.{Wrote, Line}
+use Rattle.script.specs.Bench.{startOf, played, wrong, onCount, onDecimal, onLines, benchOf}
+
+-- ---- by the count
+
+module _ (n : ℕ) (ls : List (List ℕ)) (out left : List ℕ) (r : ℕ) where
+  pub count-low : n < 1 → Line wrong 0 out r left → Wrote (onCount n ls) 0 out r left
+  unfolding onCount
+  count-low h f = rw (lt-ltb n 1 h) (f .wrote)
+
+  pub count-high : 1 ≤ n → 31 < n → Line wrong 0 out r left → Wrote (onCount n ls) 0 out r left
+  unfolding onCount
+  count-high h k f = rw (le-ltb n 1 h, lt-ltb 31 n k) (f .wrote)
+
+  pub count-runs : (t : Table) → 1 ≤ n → n ≤ 31 → t ≡ startOf n → Wrote (played t ls) 0 out r left → Wrote (onCount n ls) 0 out r left
+  unfolding onCount
+  count-runs t h k e f = rw (le-ltb n 1 h, le-ltb 31 n k, ← e) f
+
+-- ---- by the first line
+
+pub bench-long : (s out left : List ℕ) (r : ℕ) → 65536 < length s → Line wrong 0 out r left → Wrote (benchOf s) 0 out r left
+unfolding benchOf
+bench-long s out left r h f = rw (lt-ltb 65536 (length s) h) (f .wrote)
+
+bench-lines : (s : List ℕ) → length s ≤ 65536 → benchOf s ≡ onDecimal (decimalIn (lineOf s)) (linesOf (drop (suc (length (lineOf s))) s))
+unfolding benchOf decimalIn
+bench-lines [] h = refl
+bench-lines (x ∷ s) h = rw (le-ltb 65536 (length (x ∷ s)) h, lines-step (x ∷ s) (omega arith))
+
+module _ (s l out left : List ℕ) (q : Decimal) (r : ℕ) (h : length s ≤ 65536) (el : l ≡ lineOf s) (eq : Promise decimalNumber q (decimalIn l)) where
+  pub bench-wrong : q ≡ Malformed → Line wrong 0 out r left → Wrote (benchOf s) 0 out r left
+  bench-wrong e f = rw (bench-lines s h, ← el, ← (eq .answer), e) (f .wrote)
+
+  pub bench-runs : (n : ℕ) (d : List ℕ) → q ≡ Value n → d ≡ drop (length l + 1) s → Wrote (onCount n (linesOf d)) 0 out r left → Wrote (benchOf s) 0 out r left
+  bench-runs n d e ed f =
+      let k : drop (suc (length l)) s ≡ d = sym (ed ∙ ap (λ (i : ℕ). drop i s) (add-one (length l))) in
+      rw (bench-lines s h, ← el, ← (eq .answer), e, k) f
+
+pub rest-short : (s d : List ℕ) (i n : ℕ) → d ≡ drop i s → length s ≤ n → length d ≤ n
+rest-short s d i n e h = rw e (omega (arith, length-drop i s))
+
+-- ---- first its length is found, then it is written
+
+pub rehearse-short : (t z k out : List ℕ) (n : ℕ) → Wrote t 0 z n k → length out < n → Lending builtNumber (built.Refused Room) out (place t out)
+rehearse-short t z k out n f h = no-room t out (omega (arith, f .behind))
+
+pub rehearse-done : (t z k out left : List ℕ) (n m : ℕ) → Wrote t 0 z n k → n ≤ length out → Wrote t 0 out m left
+    → Lending builtNumber (built.Bytes m) left (place t out)
+rehearse-done t z k out left n m f h g =
+    let e : length t ≤ length out = omega (arith, f .behind) in
+    let em : length t ≡ m = omega (arith, g .behind) in
+    has-room t out m left em (omega arith) (g .bytes (omega arith) ∙ sets-start out t e ∙ ap (λ (i : ℕ). t ++ drop i out) em)

@@ -1,0 +1,4 @@
+pub mod Answers
+pub mod Wrote
+pub mod Bench
+pub mod Example

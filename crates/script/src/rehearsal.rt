@@ -1,0 +1,149 @@
+// The bench program as a function on slices: a node count, then a packet a line; an answer a line.
+use crate::answers::put_answer;
+use crate::answers::put_refused;
+use chain::Table;
+use node::Bench;
+use node::Node;
+use text::Decimal;
+use text::Parsed;
+use wire::Built;
+use wire::Refusal;
+ghost use mathlib.Core.Path.{_≡_};
+ghost use Prim.Native.Nat.{_≤_};
+ghost use lib.ListN.{length, replicate};
+ghost use Rattle.wire.specs.Promise.{Lending};
+ghost use Rattle.wire.specs.Buffer.{builtNumber, place};
+ghost use Rattle.chain.specs.Table.{deliveredOf};
+ghost use Rattle.text.specs.Lines.{linesOf};
+ghost use Rattle.script.specs.Wrote.{far, Wrote};
+ghost use Rattle.script.specs.Bench.{startOf, heard, refusedStep, stepOf, played, onCount, benchOf, Lined};
+
+// The longest input, 64 KiB.
+pub const MOST: usize = 65536;
+
+// Room for the longest output: no input has a longer one.
+pub const ROOM: usize = 655360;
+
+// The table after a line, and the place behind what was written for it.
+pub(crate) struct Step {
+    pub table: Table,
+    pub at: usize,
+}
+
+// The chain at the start: all nodes in power-up state, bench values 0.
+fn start(count: usize) -> Table
+    ensures { λ r. ⌜ r ≡ startOf count ⌝ }
+{
+    let bench = Bench {
+        inputs: 0,
+        counter: 0,
+        analog0: 0,
+        analog1: 0,
+        analog2: 0,
+        id: 0,
+        version: 0,
+    };
+    let fresh = Node::power_up(bench);
+    Table {
+        nodes: [fresh; 31],
+        count,
+    }
+}
+
+// A packet to the chain; its answer as a line.
+fn send(table: Table, packet: &[u8], out: &mut [u8], at: usize) -> Step
+    requires { ⌜ at ≤ far ⌝ }
+    ensures { λ r. ⌜ Lined (heard (deliveredOf table (now (packet .entry)) (replicate 19 0))) at (now (out .entry)) r (now (out .exit)) ⌝ }
+{
+    let mut reply = [0; 19];
+    let d = chain::deliver(table, packet, &mut reply);
+    let answer = d.answer;
+    let after = d.table;
+    let p = put_answer(out, at, answer, &reply);
+    Step {
+        table: after,
+        at: p,
+    }
+}
+
+// A line that isn't of its form changes nothing.
+fn refuse(table: Table, out: &mut [u8], at: usize) -> Step
+    requires { ⌜ at ≤ far ⌝ }
+    ensures { λ r. ⌜ Lined (refusedStep table) at (now (out .entry)) r (now (out .exit)) ⌝ }
+{
+    let p = put_refused(out, at, Refusal::Range);
+    Step { table, at: p }
+}
+
+// One packet line. Of a packet longer than any, 19 bytes, the first 20 are kept: the chain refuses it for these alone.
+fn play(table: Table, line: &[u8], out: &mut [u8], at: usize) -> Step
+    requires { ⌜ at ≤ far ⌝ }
+    ensures { λ r. ⌜ Lined (stepOf table (now (line .entry))) at (now (out .entry)) r (now (out .exit)) ⌝ }
+{
+    let mut packet = [0; 20];
+    let found = text::read_bytes(line, &mut packet);
+    match found {
+        Parsed::Bytes(n) => send(table, text::first(&packet, n), out, at),
+        Parsed::Malformed => refuse(table, out, at),
+    }
+}
+
+// All packet lines.
+fn run(table: Table, packets: &[u8], out: &mut [u8]) -> usize
+    requires { ⌜ length (now packets) ≤ 65536 ⌝ }
+    ensures { λ r. ⌜ Wrote (played table (linesOf (now (packets .entry)))) 0 (now (out .entry)) r (now (out .exit)) ⌝ }
+{
+    let mut t = table;
+    let mut at = 0;
+    let mut p = 0;
+    while at < packets.len() {
+        let line = text::first_line(text::rest(packets, at));
+        let s = play(t, line, out, p);
+        t = s.table;
+        p = s.at;
+        at = at + line.len() + 1;
+    }
+    p
+}
+
+// The rehearsal with n nodes, 1 to 31.
+fn run_with(n: u8, packets: &[u8], out: &mut [u8]) -> usize
+    requires { ⌜ length (now packets) ≤ 65536 ⌝ }
+    ensures { λ r. ⌜ Wrote (onCount n (linesOf (now (packets .entry)))) 0 (now (out .entry)) r (now (out .exit)) ⌝ }
+{
+    if n < 1 {
+        return put_refused(out, 0, Refusal::Range);
+    }
+    if 31 < n {
+        return put_refused(out, 0, Refusal::Range);
+    }
+    run(start(n as usize), packets, out)
+}
+
+// The whole text, if there is room; how long it is.
+fn perform(input: &[u8], out: &mut [u8]) -> usize
+    ensures { λ r. ⌜ Wrote (benchOf (now (input .entry))) 0 (now (out .entry)) r (now (out .exit)) ⌝ }
+{
+    if MOST < input.len() {
+        return put_refused(out, 0, Refusal::Range);
+    }
+    let line = text::first_line(input);
+    match text::read_decimal(line) {
+        Decimal::Value(n) => run_with(n, text::rest(input, line.len() + 1), out),
+        Decimal::Malformed => put_refused(out, 0, Refusal::Range),
+    }
+}
+
+// What the bench program writes for what it read, at the start of `output`, whose rest stays.
+// The text is gone through first, to find its length, so that nothing is written where it has no room.
+pub fn rehearse(input: &[u8], output: &mut [u8]) -> Built
+    ensures { λ r. ⌜ Lending builtNumber r (now (output .exit)) (place (benchOf (now (input .entry))) (now (output .entry))) ⌝ }
+{
+    let mut none = [0; 1];
+    let n = perform(input, &mut none);
+    if output.len() < n {
+        return Built::Refused(Refusal::Room);
+    }
+    let m = perform(input, output);
+    Built::Bytes(m)
+}

@@ -1,0 +1,77 @@
+// Digits, and decimal numbers of one or two of them.
+ghost use mathlib.Core.Path.{_≡_};
+ghost use Prim.Native.Nat.{_<_};
+ghost use Rattle.wire.specs.Promise.{Promise};
+ghost use Rattle.text.specs.Digits.{digitOf, charOf, oneDigit, twoDigits, decimalIn, decimalNumber};
+
+// What reading a decimal number finds.
+pub enum Decimal {
+    Value(u8),
+    Malformed,
+}
+
+// The value of a capital hexadecimal digit; 16 where b is none.
+pub(crate) fn digit(b: u8) -> u8
+    ensures { λ r. ⌜ r ≡ digitOf b ⌝ }
+{
+    if b < 48 {
+        return 16;
+    }
+    if b < 58 {
+        return b - 48;
+    }
+    if b < 65 {
+        return 16;
+    }
+    if b < 71 {
+        return b - 55;
+    }
+    16
+}
+
+// The capital hexadecimal digit of a value below 16.
+pub(crate) fn character(v: u8) -> u8
+    requires { ⌜ v < 16 ⌝ }
+    ensures { λ r. ⌜ r ≡ charOf v ⌝ }
+{
+    if v < 10 { 48 + v } else { 55 + v }
+}
+
+// A number of one digit, by that digit's value.
+fn one_digit(a: u8) -> Decimal
+    ensures { λ r. ⌜ r ≡ oneDigit a ⌝ }
+{
+    if 9 < a {
+        return Decimal::Malformed;
+    }
+    Decimal::Value(a)
+}
+
+// A number of two digits, by their values: the first isn't 0.
+fn two_digits(a: u8, b: u8) -> Decimal
+    ensures { λ r. ⌜ r ≡ twoDigits a b ⌝ }
+{
+    if a < 1 {
+        return Decimal::Malformed;
+    }
+    if 9 < a {
+        return Decimal::Malformed;
+    }
+    if 9 < b {
+        return Decimal::Malformed;
+    }
+    Decimal::Value(a * 10 + b)
+}
+
+// A decimal number of one or two digits, without a leading zero.
+pub fn read_decimal(s: &[u8]) -> Decimal
+    ensures { λ r. ⌜ Promise decimalNumber r (decimalIn (now (s .entry))) ⌝ }
+{
+    if s.len() == 1 {
+        return one_digit(digit(s[0]));
+    }
+    if s.len() == 2 {
+        return two_digits(digit(s[0]), digit(s[1]));
+    }
+    Decimal::Malformed
+}

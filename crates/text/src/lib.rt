@@ -1,0 +1,15 @@
+// Text of the bench: lines, bytes as two-digit capitals with single spaces, decimal numbers.
+mod digits;
+mod lines;
+mod pairs;
+mod writing;
+
+pub use digits::Decimal;
+pub use digits::read_decimal;
+pub use lines::NEWLINE;
+pub use lines::first;
+pub use lines::first_line;
+pub use lines::rest;
+pub use pairs::Parsed;
+pub use pairs::read_bytes;
+pub use writing::write_line;

@@ -1,0 +1,119 @@
+//! The stored cases: hand-written ones with a name each, then a generated
+//! block with a fixed seed. Within 60 KiB for each program.
+
+use crate::bench::Bench;
+use crate::cases_bench;
+use crate::cases_trials;
+use crate::hex;
+use crate::make_bench;
+use crate::make_trials::Story;
+use crate::manuals::PRINTED;
+use crate::prng::Prng;
+use crate::rules::Rules;
+
+/// The most stored input for one program.
+pub const MOST_STORED: usize = 60 * 1024;
+
+/// The seed of the generated blocks.
+const SEED: u64 = 773;
+
+/// The nodes of the stored bench input.
+const BENCH_NODES: u8 = 5;
+
+/// Input lines under one name.
+pub struct Case {
+    pub name: String,
+    pub lines: Vec<String>,
+}
+
+impl Case {
+    pub fn new(name: &str, lines: Vec<String>) -> Case {
+        Case {
+            name: name.to_string(),
+            lines,
+        }
+    }
+}
+
+/// A packet's line from address, command byte and data: header and sum added.
+pub fn packet(parts: &str) -> String {
+    let mut bytes = vec![0xAA];
+    bytes.extend(hex::parse(Rules::RIGHT, parts.as_bytes()).expect("hexadecimal parts"));
+    bytes.push(crate::packet::sum(&bytes[1..]));
+    hex::format(&bytes)
+}
+
+/// The same with its sum wrong by one.
+pub fn damaged(parts: &str) -> String {
+    let line = packet(parts);
+    let mut bytes = hex::parse(Rules::RIGHT, line.as_bytes()).expect("a packet's line");
+    if let Some(last) = bytes.last_mut() {
+        *last = last.wrapping_add(1);
+    }
+    hex::format(&bytes)
+}
+
+/// The printed packets of each manual, one case per manual.
+pub fn manual_cases(prefix: &str) -> Vec<Case> {
+    ["000", "001", "004"]
+        .into_iter()
+        .map(|document| {
+            let lines = PRINTED
+                .iter()
+                .filter(|packet| packet.document == document)
+                .map(|packet| format!("{prefix}{}", packet.bytes))
+                .collect();
+            Case::new(&format!("packets of manual {document}"), lines)
+        })
+        .collect()
+}
+
+fn text(cases: &[Case]) -> Vec<u8> {
+    let lines = cases.iter().flat_map(|case| &case.lines);
+    lines
+        .flat_map(|line| format!("{line}\n").into_bytes())
+        .collect()
+}
+
+/// Names for every line of an input: its hand-written case, or "generated".
+#[cfg(test)]
+pub fn line_names(cases: &[Case], lines: usize) -> Vec<String> {
+    let mut names: Vec<String> = cases
+        .iter()
+        .flat_map(|case| vec![case.name.clone(); case.lines.len()])
+        .collect();
+    names.resize(lines, "generated".to_string());
+    names
+}
+
+/// The stored bench input: one chain for all of its lines. The last line
+/// lacks its newline.
+pub fn bench() -> Vec<u8> {
+    let mut input = format!("{BENCH_NODES}\n").into_bytes();
+    let hand_written = text(&cases_bench::cases());
+    let mut bench = Bench::new(Rules::RIGHT, usize::from(BENCH_NODES));
+    for line in hex::lines(&hand_written) {
+        bench.answer(line);
+    }
+    input.extend(hand_written);
+    let room = MOST_STORED - input.len() - further_bench_bytes();
+    let mut prng = Prng::new(SEED);
+    input.extend(make_bench::packet_lines(&mut prng, &mut bench, 1500, room));
+    input.pop();
+    input
+}
+
+fn further_bench_bytes() -> usize {
+    let inputs = cases_bench::further_inputs();
+    inputs.iter().map(|(_, input)| input.len()).sum()
+}
+
+/// The stored trials input. The last line lacks its newline.
+pub fn trials() -> Vec<u8> {
+    let mut input = text(&cases_trials::cases());
+    let mut story = Story::terse(SEED);
+    story.follow(&input);
+    input.extend(story.lines(2000, MOST_STORED - input.len()));
+    input.pop();
+    input
+}

@@ -1,0 +1,168 @@
+//! "The chain": delivering a packet to a lent table of node records.
+
+use crate::command::Command;
+use crate::node::Node;
+use crate::packet::{frame, Packet};
+use crate::refusal::{require, Refusal};
+use crate::rules::{Mistake, Rules};
+
+/// The longest chain.
+pub const MOST_NODES: usize = 31;
+
+/// What came back from a chain that took a packet.
+#[derive(Clone, Copy, Debug, PartialEq, Eq)]
+pub enum Delivery {
+    Silent,
+    /// One replier; its packet of this length stands at the buffer's start.
+    Reply(usize),
+    /// Two or more repliers: 13.
+    Collision,
+}
+
+/// Who replies, found by going through the chain in order and leaving it at
+/// the second replier.
+enum Repliers {
+    None,
+    One(usize),
+    Several(usize),
+}
+
+/// Delivers a packet. "For the chain 6 comes first, then 1, 2, 3 in reading
+/// order, then 5, tested for the actual reply before any node acts."
+pub fn deliver(
+    rules: Rules,
+    nodes: &mut [Node],
+    bytes: &[u8],
+    buffer: &mut [u8],
+) -> Result<Delivery, Refusal> {
+    if rules.slips(Mistake::FrameBeforeTable) {
+        frame(rules, bytes)?;
+    }
+    require(table_is_sound(rules, nodes), Refusal::OffRange)?;
+    if rules.slips(Mistake::RoomBeforeFrame) {
+        require(!buffer.is_empty(), Refusal::NoRoom)?;
+    }
+    let packet = frame(rules, bytes)?;
+    if rules.slips(Mistake::WrongSumRefused) {
+        require(packet.intact, Refusal::WrongSum)?;
+    }
+    let (answer, reply) = answer(rules, nodes, &packet);
+    let room = buffer.len() >= reply.len() && !lacks_room_for_any(rules, buffer);
+    if rules.slips(Mistake::ActsThenRefuses) {
+        act(rules, nodes, &packet);
+        require(room, Refusal::NoRoom)?;
+    } else {
+        require(room, Refusal::NoRoom)?;
+        act_unless_mistaken(rules, nodes, &packet, answer);
+    }
+    buffer[..reply.len()].copy_from_slice(&reply);
+    Ok(answer)
+}
+
+/// 6: "table length not 1 to 31, .. a lent node record with individual
+/// address above 0x7F or group below 0x80", hearing or not.
+fn table_is_sound(rules: Rules, nodes: &[Node]) -> bool {
+    let most = MOST_NODES + usize::from(rules.slips(Mistake::TableOf32));
+    let all = !rules.slips(Mistake::DeafRecordsUnchecked);
+    (1..=most).contains(&nodes.len())
+        && (0..nodes.len())
+            .filter(|index| all || hears(rules, nodes, *index))
+            .all(|index| record_is_sound(&nodes[index]))
+}
+
+/// An individual address and a group are never taken for each other.
+fn record_is_sound(node: &Node) -> bool {
+    node.address() <= 0x7F && node.group() >= 0x80
+}
+
+/// "A node hears exactly if it is addressed, is first, or the node before it
+/// is addressed."
+fn hears(rules: Rules, nodes: &[Node], index: usize) -> bool {
+    nodes[index].addressed
+        || index == 0 && !rules.slips(Mistake::FirstMustBeAddressed)
+        || index > 0 && nodes[index - 1].addressed
+        || index > 0 && rules.slips(Mistake::EveryoneHears)
+}
+
+/// "A hearing node acts once if the address byte is its individual address
+/// or its group."
+fn acts(rules: Rules, nodes: &[Node], index: usize, packet: &Packet) -> bool {
+    let node = &nodes[index];
+    let follows = node.settings.place.leader || !rules.slips(Mistake::LeadersAlone);
+    hears(rules, nodes, index)
+        && (packet.address == node.address() || packet.address == node.group() && follows)
+}
+
+/// "It replies if the address is its individual one, or it is leader of that
+/// group, and the command isn't an intact Hard Reset of count 0."
+fn replies(rules: Rules, nodes: &[Node], index: usize, packet: &Packet) -> bool {
+    let node = &nodes[index];
+    let speaks = node.settings.place.leader || rules.slips(Mistake::MembersReply);
+    let called = packet.address == node.address() || packet.address == node.group() && speaks;
+    hears(rules, nodes, index) && called && !goes_unanswered(rules, packet)
+}
+
+/// Whether nobody answers such a packet: an intact Hard Reset of count 0.
+fn goes_unanswered(rules: Rules, packet: &Packet) -> bool {
+    let kind = Command::decode(packet.command_byte, packet.data);
+    if kind.is_none() && rules.slips(Mistake::OthersSilent) {
+        return true;
+    }
+    kind == Some(Command::HardReset)
+        && (packet.intact || rules.slips(Mistake::DamagedResetSilent))
+        && !rules.slips(Mistake::ResetReplies)
+}
+
+/// "The chain is searched in order and left at the second replier."
+fn repliers(rules: Rules, nodes: &[Node], packet: &Packet) -> Repliers {
+    let mut found = Repliers::None;
+    for index in (0..nodes.len()).filter(|index| replies(rules, nodes, *index, packet)) {
+        match found {
+            Repliers::None => found = Repliers::One(index),
+            Repliers::One(first) => return Repliers::Several(first),
+            Repliers::Several(_) => unreachable!("the search is left at the second replier"),
+        }
+    }
+    found
+}
+
+/// What the chain will answer, and the bytes of a single reply.
+fn answer(rules: Rules, nodes: &[Node], packet: &Packet) -> (Delivery, Vec<u8>) {
+    match repliers(rules, nodes, packet) {
+        Repliers::None => (Delivery::Silent, Vec::new()),
+        Repliers::Several(_) if !rules.slips(Mistake::FirstReplierAnswers) => {
+            (Delivery::Collision, Vec::new())
+        }
+        Repliers::One(index) | Repliers::Several(index) => {
+            let reply = nodes[index].reply(rules, packet);
+            (Delivery::Reply(reply.len()), reply)
+        }
+    }
+}
+
+/// "Who hears is fixed before the packet acts. .. Places are those before
+/// the packet acts."
+fn act(rules: Rules, nodes: &mut [Node], packet: &Packet) {
+    let before = nodes.to_vec();
+    for index in 0..nodes.len() {
+        let acting = if rules.slips(Mistake::HearsAsItActs) {
+            acts(rules, nodes, index, packet)
+        } else {
+            acts(rules, &before, index, packet)
+        };
+        if acting {
+            nodes[index] = nodes[index].after(rules, packet);
+        }
+    }
+}
+
+fn act_unless_mistaken(rules: Rules, nodes: &mut [Node], packet: &Packet, answer: Delivery) {
+    let withheld = answer == Delivery::Collision && rules.slips(Mistake::CollisionChangesNothing);
+    if !withheld {
+        act(rules, nodes, packet);
+    }
+}
+
+fn lacks_room_for_any(rules: Rules, buffer: &[u8]) -> bool {
+    rules.slips(Mistake::RoomForAny) && buffer.len() < crate::status::T + 2
+}

@@ -1,0 +1,110 @@
+//! How often each number is answered and each command is tried.
+
+use crate::bench::Bench;
+use crate::hex;
+use crate::rules::Rules;
+use crate::trials::Trials;
+
+/// Counts by number and by command byte.
+pub struct Coverage {
+    pub lines: usize,
+    /// The numbers 0 to 13; place 14 counts the answer FF.
+    pub numbers: [usize; 15],
+    pub commands: [usize; 256],
+}
+
+impl Coverage {
+    fn none() -> Coverage {
+        Coverage {
+            lines: 0,
+            numbers: [0; 15],
+            commands: [0; 256],
+        }
+    }
+
+    fn number(&mut self, number: u8) {
+        self.numbers[usize::from(number.min(14))] += 1;
+    }
+
+    fn command(&mut self, byte: Option<&u8>) {
+        if let Some(byte) = byte {
+            self.commands[usize::from(*byte)] += 1;
+        }
+    }
+
+    /// Of a bench input.
+    pub fn of_bench(input: &[u8]) -> Coverage {
+        let mut coverage = Coverage::none();
+        let Some((mut bench, packets)) = Bench::start(Rules::RIGHT, input) else {
+            coverage.number(6);
+            return coverage;
+        };
+        for line in packets {
+            coverage.lines += 1;
+            let bytes = hex::parse(Rules::RIGHT, line).unwrap_or_default();
+            coverage.command(bytes.get(2));
+            let answer = bench.answer(line).unwrap_or_default();
+            coverage.number(bench_number(&answer));
+        }
+        coverage
+    }
+
+    /// Of a trials input.
+    pub fn of_trials(input: &[u8]) -> Coverage {
+        let mut coverage = Coverage::none();
+        let mut trials = Trials::new(Rules::RIGHT);
+        for line in hex::lines(input) {
+            coverage.lines += 1;
+            let bytes = hex::parse(Rules::RIGHT, line).unwrap_or_default();
+            coverage.command(tried_command(&bytes));
+            let answer = trials.answer(line);
+            let number = hex::parse(Rules::RIGHT, answer.as_bytes()).unwrap_or_default();
+            coverage.number(number[0]);
+        }
+        coverage
+    }
+
+    /// Numbers and commands with their counts.
+    pub fn text(&self) -> String {
+        let mut text = format!("{} lines\n", self.lines);
+        for (number, count) in self.numbers.iter().enumerate() {
+            let name = match number {
+                14 => "FF".to_string(),
+                _ => number.to_string(),
+            };
+            text += &format!("number {name}: {count}\n");
+        }
+        for (byte, count) in self
+            .commands
+            .iter()
+            .enumerate()
+            .filter(|(_, count)| **count > 0)
+        {
+            text += &format!("command byte {byte:02X}: {count}\n");
+        }
+        text
+    }
+}
+
+/// The number that a line of the bench program stands for.
+fn bench_number(answer: &str) -> u8 {
+    match answer.strip_prefix("refused ") {
+        Some(number) => number.parse().unwrap_or(14),
+        None if answer == "collision" => 13,
+        None => 0,
+    }
+}
+
+/// The command byte that a line tries.
+fn tried_command(line: &[u8]) -> Option<&u8> {
+    match line.first()? {
+        0x10 => line.get(3),
+        0x11 => line.get(3),
+        0x20 => line.get(3 + usize::from(*line.get(2)?) * 31 + 2),
+        0x31 => Some(&0x21),
+        0x32 => Some(&0x0E),
+        0x33 => line.get(4),
+        0x34 => Some(&0x21),
+        _ => None,
+    }
+}

@@ -1,0 +1,127 @@
+//! Doubt as the acceptance conditions define it, computed from what was sent
+//! and heard alone. Nothing here looks at the session's record.
+//!
+//! "It is in doubt exactly if the last command that could have written it was
+//! unconfirmed, went to a group while the node's group was in doubt, or
+//! copied a setting in doubt. A reply with the checksum bit set makes its
+//! command count as unsent."
+
+use crate::command::Command;
+use crate::session::{Setting, Target};
+
+/// What was heard after a command.
+#[derive(Clone, Copy, PartialEq, Eq)]
+enum Heard {
+    Nothing,
+    GoodAndClear,
+}
+
+/// A command that counts as sent.
+struct Sent {
+    target: Target,
+    command: Command,
+    heard: Heard,
+}
+
+/// The commands since the last power-up that count as sent, in order.
+#[derive(Default)]
+pub struct History {
+    sent: Vec<Sent>,
+    /// Whether the command that waits is an ask.
+    asking: bool,
+}
+
+impl History {
+    /// A command goes out; until something is heard it is unconfirmed. A Nop
+    /// during the walk is an ask, no command of its own: its good clear reply
+    /// confirms the Set Address it asks after.
+    pub fn send(&mut self, target: Target, command: Command, walking: bool) {
+        self.asking = walking && command == Command::Nop;
+        if !self.asking {
+            self.sent.push(Sent {
+                target,
+                command,
+                heard: Heard::Nothing,
+            });
+        }
+    }
+
+    /// What came back: good if 2 to 19 bytes end in the sum of the others.
+    pub fn hear(&mut self, bytes: &[u8]) {
+        let total: u32 = bytes
+            .iter()
+            .rev()
+            .skip(1)
+            .map(|byte| u32::from(*byte))
+            .sum();
+        let good = (2..=19).contains(&bytes.len())
+            && bytes
+                .last()
+                .is_some_and(|last| u32::from(*last) == total % 256);
+        let clear = bytes.first().is_some_and(|status| status & 2 == 0);
+        if good && clear {
+            if let Some(last) = self.sent.last_mut() {
+                last.heard = Heard::GoodAndClear;
+            }
+        } else if good && !self.asking {
+            self.sent.pop();
+        }
+    }
+
+    /// Whether a node's setting is in doubt now.
+    pub fn in_doubt(&self, node: u8, setting: Setting) -> bool {
+        self.in_doubt_before(self.sent.len(), node, setting)
+    }
+
+    /// Whether it was in doubt when so many commands had been sent.
+    fn in_doubt_before(&self, time: usize, node: u8, setting: Setting) -> bool {
+        let Some(last) = self.last_writer(time, node, setting) else {
+            return false;
+        };
+        let sent = &self.sent[last];
+        sent.heard == Heard::Nothing
+            || sent.target.is_group() && self.in_doubt_before(last, node, Setting::Place)
+            || sent.command == Command::SynchOutput
+                && self.in_doubt_before(last, node, Setting::Held)
+    }
+
+    /// The last command before a time that could have written the setting.
+    fn last_writer(&self, time: usize, node: u8, setting: Setting) -> Option<usize> {
+        (0..time)
+            .rev()
+            .find(|at| writes(self.sent[*at].command, setting) && self.could_reach(*at, node))
+    }
+
+    /// Whether a command could have reached a node: sent to it, or to a group
+    /// that it was known to be in, or while its place was in doubt.
+    fn could_reach(&self, at: usize, node: u8) -> bool {
+        match self.sent[at].target {
+            Target::Node(other) => other == node,
+            Target::Group(group) => {
+                self.in_doubt_before(at, node, Setting::Place)
+                    || self.known_group(at, node) == group
+            }
+        }
+    }
+
+    /// The group that a node was last told, where its place is not in doubt.
+    fn known_group(&self, time: usize, node: u8) -> u8 {
+        let writer = self.last_writer(time, node, Setting::Place);
+        match writer.map(|at| self.sent[at].command) {
+            Some(Command::SetAddress(place)) => place.group,
+            _ => 0xFF,
+        }
+    }
+}
+
+/// Whether a kind writes a setting.
+fn writes(command: Command, setting: Setting) -> bool {
+    match setting {
+        Setting::Place => matches!(command, Command::SetAddress(_)),
+        Setting::Mask => matches!(command, Command::DefineStatus(_)),
+        Setting::Outputs => matches!(command, Command::SetOutputs(_) | Command::SynchOutput),
+        Setting::Pwm => matches!(command, Command::SetPwm(_) | Command::SynchOutput),
+        Setting::Held => matches!(command, Command::SetSynchOutput(_)),
+        Setting::TimerMode => matches!(command, Command::SetTimerMode(_)),
+    }
+}

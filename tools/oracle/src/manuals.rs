@@ -1,0 +1,181 @@
+//! Every command packet printed with its header in the source documents 000,
+//! 001 and 004, with the place where it is printed.
+
+use crate::hex;
+use crate::packet;
+use crate::rules::Rules;
+
+/// A packet as printed.
+pub struct Printed {
+    pub document: &'static str,
+    pub section: &'static str,
+    pub bytes: &'static str,
+    /// What is wrong with it in print.
+    pub wrong: Option<&'static str>,
+}
+
+const fn printed(document: &'static str, section: &'static str, bytes: &'static str) -> Printed {
+    Printed {
+        document,
+        section,
+        bytes,
+        wrong: None,
+    }
+}
+
+const fn misprint(
+    document: &'static str,
+    section: &'static str,
+    bytes: &'static str,
+    wrong: &'static str,
+) -> Printed {
+    Printed {
+        document,
+        section,
+        bytes,
+        wrong: Some(wrong),
+    }
+}
+
+/// The packets in the order of the documents. Four are wrong in print.
+#[rustfmt::skip]
+pub const PRINTED: &[Printed] = &[
+    printed("000", "Structure of Read Status command", "AA 01 13 01 15"),
+    printed("000", "Commands, Examples: Reset position", "AA 01 00 01"),
+    printed("000", "Commands, Examples: Define status", "AA 05 12 05 1C"),
+    misprint("000", "Commands, Examples: Set address", "AA 01 21 07 FF 21", "the sum is 28, not 21 (001 prints the same packet rightly)"),
+    printed("000", "Commands, Examples: Load trajectory", "AA 01 54 91 00 28 00 00 0E"),
+    printed("000", "Commands, Examples: Set gain", "AA 01 E6 64 00 00 04 00 00 00 00 FF 00 00 08 01 00 57"),
+    printed("000", "Set Address command format", "AA 00 21 01 FF 21"),
+    printed("000", "Sequential addressing, step 1", "AA FF 0F 0E"),
+    printed("000", "Sequential addressing, step 2", "AA 00 21 01 FF 21"),
+    printed("000", "Sequential addressing, step 3", "AA 00 21 02 FF 22"),
+    printed("000", "Sequential addressing, step 4", "AA 00 21 03 FF 23"),
+    printed("000", "Managing Two Servo-Drives, #1", "AA FF 0F 0E"),
+    printed("000", "Managing Two Servo-Drives, #2", "AA 00 21 01 FF 21"),
+    printed("000", "Managing Two Servo-Drives, #3", "AA 00 21 02 FF 22"),
+    printed("000", "Managing Two Servo-Drives, #4", "AA 01 E6 64 00 00 04 00 00 00 00 FF 00 00 08 01 00 57"),
+    printed("000", "Managing Two Servo-Drives, #5", "AA 02 E6 64 00 00 04 00 00 00 00 FF 00 00 08 01 00 58"),
+    printed("000", "Managing Two Servo-Drives, #6", "AA 01 E4 9F 00 00 00 00 00 00 00 00 01 00 00 00 00 85"),
+    printed("000", "Managing Two Servo-Drives, #7", "AA 02 E4 9F 00 00 00 00 00 00 00 00 01 00 00 00 00 86"),
+    printed("000", "Managing Two Servo-Drives, #8", "AA 01 17 05 1D"),
+    printed("000", "Managing Two Servo-Drives, #9", "AA 02 17 05 1E"),
+    misprint("000", "Managing Two Servo-Drives, #10", "AA 01 E4 9F 00 00 00 00 00 00 80 01 00 64 00 00 00 00 69", "one 00 too many: the command byte counts 14 data bytes, 15 are printed; the sum is right"),
+    misprint("000", "Managing Two Servo-Drives, #11", "AA 02 E4 9F 00 00 00 00 00 00 80 01 00 64 00 00 00 00 6A", "one 00 too many: the command byte counts 14 data bytes, 15 are printed; the sum is right"),
+    printed("000", "Managing Two Servo-Drives, #12", "AA 01 54 11 00 28 00 00 8E"),
+    printed("000", "Managing Two Servo-Drives, #13", "AA 01 05 06"),
+    printed("000", "Managing Two Servo-Drives, #14", "AA 01 13 05 19"),
+    printed("000", "Managing Two Servo-Drives, #15", "AA 02 13 05 1A"),
+    printed("000", "Managing Two Servo-Drives, #16", "AA 01 54 11 20 4E 00 00 D4"),
+    printed("000", "Managing Two Servo-Drives, #17", "AA 02 54 11 E0 B1 FF FF F6"),
+    printed("000", "Managing Two Servo-Drives, #18", "AA FF 05 04"),
+    printed("000", "Procedure Initialize, line 1", "AA FF 0F 0E"),
+    printed("000", "Procedure Initialize, line 2", "AA 00 21 01 FF 21"),
+    printed("000", "Procedure Initialize, line 3", "AA 00 21 02 FF 22"),
+    printed("000", "Procedure Initialize, line 4", "AA 01 13 20 34"),
+    printed("000", "Procedure Initialize, line 5", "AA 01 13 FF 13"),
+    printed("000", "Procedure Initialize, line 6", "AA 01 E6 64 00 00 04 00 00 00 00 FF 00 00 08 01 00 57"),
+    printed("000", "Procedure Initialize, line 7", "AA 01 E4 9F 00 00 00 00 00 00 00 00 01 00 00 00 00 85"),
+    printed("000", "Procedure Initialize, line 8", "AA 01 17 05 1D"),
+    printed("000", "Procedure FindHomePosition, line 1", "AA 01 E6 C8 00 20 03 46 00 28 00 FF 00 40 1F 01 00 9F"),
+    printed("000", "Procedure FindHomePosition, line 2", "AA 01 17 09 21"),
+    printed("000", "Procedure FindHomePosition, line 3", "AA 01 94 37 25 06 01 00 58 01 00 00 51"),
+    printed("000", "Procedure FindHomePosition, line 4", "AA 01 19 18 32"),
+    printed("000", "Procedure FindHomePosition, line 5", "AA 01 05 06"),
+    printed("000", "Procedure Go To Absolute Position, line 1", "AA 01 17 09 21"),
+    printed("000", "Procedure Go To Absolute Position, line 2", "AA 01 A4 3E 25 06 01 00 58 01 00 00 64 CC"),
+    printed("000", "Procedure Go To Absolute Position, line 3", "AA 01 05 06"),
+    printed("001", "Structure of Read Status command", "AA 01 13 01 15"),
+    printed("001", "Commands, Examples: No operation", "AA 01 0E 0F"),
+    printed("001", "Commands, Examples: Define Status", "AA 05 12 05 1C"),
+    printed("001", "Commands, Examples: Set Address", "AA 01 21 07 FF 28"),
+    printed("001", "Commands, Examples: Set Synch Output", "AA 01 47 07 01 80 00 D0"),
+    printed("001", "Example of Set Address command", "AA 00 21 01 FF 21"),
+    printed("001", "Sequential addressing, step 1", "AA FF 0F 0E"),
+    printed("001", "Sequential addressing, step 2", "AA 00 21 01 FF 21"),
+    printed("001", "Sequential addressing, step 3", "AA 00 21 02 FF 22"),
+    printed("001", "Sequential addressing, step 4", "AA 00 21 03 FF 23"),
+    printed("001", "Managing Two LS-773 Nodes, #1", "AA FF 0F 0E"),
+    printed("001", "Managing Two LS-773 Nodes, #2", "AA 00 21 01 FF 21"),
+    printed("001", "Managing Two LS-773 Nodes, #3", "AA 00 21 02 FF 22"),
+    printed("001", "Managing Two LS-773 Nodes, #4", "AA 01 13 01 15"),
+    printed("001", "Managing Two LS-773 Nodes, #5", "AA 02 13 01 16"),
+    printed("001", "Managing Two LS-773 Nodes, #6", "AA 01 13 0E 22"),
+    printed("001", "Managing Two LS-773 Nodes, #7", "AA 02 13 0E 23"),
+    printed("001", "Managing Two LS-773 Nodes, #8", "AA 01 26 07 00 2E"),
+    printed("001", "Managing Two LS-773 Nodes, #9", "AA 02 26 33 00 5B"),
+    printed("001", "Managing Two LS-773 Nodes, #10", "AA 01 26 06 00 2D"),
+    printed("001", "Managing Two LS-773 Nodes, #11", "AA 01 24 80 56 FB"),
+    printed("001", "Managing Two LS-773 Nodes, #12", "AA 02 26 06 00 2E"),
+    printed("001", "Managing Two LS-773 Nodes, #13", "AA 02 24 00 FF 25"),
+    printed("001", "Managing Two LS-773 Nodes, #14", "AA 01 18 01 1A"),
+    printed("001", "Managing Two LS-773 Nodes, #15", "AA 01 13 10 24"),
+    printed("001", "Managing Two LS-773 Nodes, #16", "AA 02 18 03 1D"),
+    printed("001", "Managing Two LS-773 Nodes, #17", "AA 02 13 10 25"),
+    printed("004", "Managing Two LS-138 Drives, #1", "AA FF 0F 0E"),
+    printed("004", "Managing Two LS-138 Drives, #2", "AA 00 21 01 FF 21"),
+    printed("004", "Managing Two LS-138 Drives, #3", "AA 00 21 02 FF 22"),
+    printed("004", "Managing Two LS-138 Drives, #4", "AA 01 56 04 01 00 00 00 5C"),
+    printed("004", "Managing Two LS-138 Drives, #5", "AA 02 56 04 01 00 00 00 5D"),
+    printed("004", "Managing Two LS-138 Drives, #6", "AA 01 18 01 1A"),
+    printed("004", "Managing Two LS-138 Drives, #7", "AA 02 18 10 2A"),
+    printed("004", "Managing Two LS-138 Drives, #8", "AA 01 13 40 54"),
+    printed("004", "Managing Two LS-138 Drives, #9", "AA 02 13 40 55"),
+    printed("004", "Managing Two LS-138 Drives, #10", "AA 01 17 05 1D"),
+    printed("004", "Managing Two LS-138 Drives, #11", "AA 02 17 05 1E"),
+    printed("004", "Managing Two LS-138 Drives, #12", "AA 01 34 86 7D FF 37"),
+    printed("004", "Managing Two LS-138 Drives, #13", "AA 02 34 86 7D FF 38"),
+    printed("004", "Managing Two LS-138 Drives, #14", "AA 01 34 16 7D FF C7"),
+    printed("004", "Managing Two LS-138 Drives, #15", "AA 02 34 16 7D FF C8"),
+    printed("004", "Managing Two LS-138 Drives, #16", "AA FF 05 04"),
+    printed("004", "Device identification example, step 1", "AA 01 13 08 1C"),
+    printed("004", "Device identification example, step 2", "AA 01 18 10 29"),
+    printed("004", "Device identification example, step 3", "AA 01 13 08 1C"),
+    printed("004", "Device identification example, step 4", "AA 01 18 00 19"),
+    printed("004", "Unsupported channel detecting example, step 1", "AA 01 17 00 18"),
+    printed("004", "Unsupported channel detecting example, step 2", "AA 01 18 03 1C"),
+    printed("004", "Unsupported channel detecting example, step 3", "AA 01 0E 0F"),
+    printed("004", "Missing motor detecting example, step 1", "AA 01 17 00 18"),
+    printed("004", "Missing motor detecting example, step 2", "AA 01 18 00 19"),
+    misprint("004", "Missing motor detecting example, step 3", "AA 01 17 05 18", "the sum is 1D, not 18"),
+    printed("004", "Missing motor detecting example, step 4", "AA 01 00 01"),
+    printed("004", "Missing motor detecting example, step 5", "AA 01 64 E6 FF FF FF 64 C8 74"),
+    printed("004", "Missing motor detecting example, step 6", "AA 01 13 08 1C"),
+];
+
+/// What reading a printed packet gives: its parts, or the number.
+fn reading(bytes: &str) -> String {
+    let bytes = hex::parse(Rules::RIGHT, bytes.as_bytes()).expect("the list is in hexadecimal");
+    match packet::read(Rules::RIGHT, &bytes) {
+        Ok(packet) => format!(
+            "address {:02X}, command {:X}, data {}",
+            packet.address,
+            packet.command(),
+            if packet.data.is_empty() {
+                "none".to_string()
+            } else {
+                hex::format(packet.data)
+            }
+        ),
+        Err(refusal) => refusal.number().to_string(),
+    }
+}
+
+/// The list, one packet to a line.
+pub fn list() -> String {
+    let mut text = String::new();
+    for packet in PRINTED {
+        text += &format!(
+            "{} | {} | {} | {}",
+            packet.document,
+            packet.section,
+            packet.bytes,
+            reading(packet.bytes)
+        );
+        if let Some(wrong) = packet.wrong {
+            text += &format!(" | WRONG IN PRINT: {wrong}");
+        }
+        text.push('\n');
+    }
+    text
+}

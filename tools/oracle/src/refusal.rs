@@ -1,0 +1,48 @@
+//! "Numbers returned": the one table of numbers that every call answers with.
+
+/// A call was done; also the number of a chain that stayed silent.
+pub const DONE: u8 = 0;
+
+/// Several nodes replied. Not a refusal: the nodes keep what they did.
+pub const COLLISION: u8 = 13;
+
+/// The numbers 1 to 12, each a refusal that changes nothing.
+#[derive(Clone, Copy, Debug, PartialEq, Eq)]
+#[repr(u8)]
+pub enum Refusal {
+    Short = 1,
+    NoHeader = 2,
+    TooLong = 3,
+    WrongSum = 4,
+    NoRoom = 5,
+    OffRange = 6,
+    ExchangeOpen = 7,
+    NothingToReport = 8,
+    NotDue = 9,
+    NoSuchNode = 10,
+    LeaderForbidden = 11,
+    SessionClosed = 12,
+}
+
+impl Refusal {
+    pub fn number(self) -> u8 {
+        self as u8
+    }
+}
+
+/// The number of a call's result: 0 when done, else the refusal's own.
+pub fn number_of<T>(result: &Result<T, Refusal>) -> u8 {
+    match result {
+        Ok(_) => DONE,
+        Err(refusal) => refusal.number(),
+    }
+}
+
+/// Refuses unless the condition holds; keeps lists of checks readable.
+pub fn require(condition: bool, refusal: Refusal) -> Result<(), Refusal> {
+    if condition {
+        Ok(())
+    } else {
+        Err(refusal)
+    }
+}

@@ -1,0 +1,157 @@
+//! The rules the model goes by, and the seeded mistakes.
+//!
+//! A judge is worth as much as it notices. Every `Mistake` is one plausible
+//! wrong reading of document 01; the tests switch them on one at a time and
+//! demand that the stored cases or the simulation of demand 3 notice it.
+//! Outside the tests `Rules` has one value, the right one, and `slips` is
+//! always false.
+
+macro_rules! mistakes {
+    ($($name:ident: $text:literal,)+) => {
+        /// A wrong rule that the tests can switch on.
+        #[derive(Clone, Copy, Debug, PartialEq, Eq)]
+        pub enum Mistake {
+            $(#[doc = $text] $name,)+
+        }
+
+        /// Every mistake with what it gets wrong.
+        #[cfg(test)]
+        pub const ALL: &[(Mistake, &str)] = &[$((Mistake::$name, $text),)+];
+    };
+}
+
+mistakes! {
+    // Packets.
+    HeaderInSum: "the header counts in the sum",
+    HeaderEndsData: "0xAA among the data ends the packet",
+    LengthBeforeHeader: "1 is tested before 2",
+    SumBeforeLength: "4 is tested before 3",
+    RoomBeforeRange: "the builder gives 5 before 6",
+    RestCleared: "the rest of the lent buffer is cleared",
+    CommandsAbove15: "the builder takes commands above 15, cut to their low nibble",
+    StatusLengthFree: "a status packet longer than its mask asks for is taken",
+    StatusSumFree: "a status packet's sum is not looked at",
+    MostSignificantFirst: "wide values go most significant byte first",
+    VersionFirst: "the version goes before the device ID",
+    // The node.
+    LeaderSurvivesReset: "a reset node keeps its leader flag",
+    AddressedSurvivesReset: "a reset node stays addressed",
+    CapturedSurvivesReset: "a reset node keeps its captured values",
+    BenchValuesReset: "a reset clears the bench values",
+    ResetReplies: "an intact Hard Reset is replied to",
+    ResetWithDataActs: "a Hard Reset with data bytes resets",
+    CountIgnored: "a command with another count acts",
+    OutputsCut: "only the seven wired outputs are kept",
+    TimerCut: "unused timer bits are dropped",
+    HighAddressTaken: "a first byte of 0x80 or more sets an address",
+    LeaderBitInverted: "bit 7 set makes the leader",
+    GroupBitLeftClear: "a leader's group keeps bit 7 clear",
+    SecondPwmFirst: "the PWM pair is stored in the other order",
+    HeldPwmFirst: "Set Synch Output's PWM values are taken before its outputs",
+    HeldPwmLeft: "Synch Output leaves the PWM pair",
+    HeldSpent: "Synch Output clears the held set",
+    ReadStatusSticks: "Read Status changes the held mask",
+    OldMaskReplies: "replies use the mask held before the command",
+    OldValuesReply: "replies show the values before the command",
+    DamagedActs: "a command with a wrong sum acts",
+    DamagedUnmarked: "a wrong sum leaves bit 1 clear",
+    DamagedResetSilent: "a damaged Hard Reset is not replied to",
+    DamagedReadOwnMask: "a damaged Read Status is replied to under its own mask",
+    OthersSilent: "other commands are not replied to",
+    // The chain.
+    TableOf32: "a table of 32 records is taken",
+    FrameBeforeTable: "1, 2, 3 are tested before 6",
+    DeafRecordsUnchecked: "only hearing records are checked for 6",
+    RoomBeforeFrame: "an empty buffer gives 5 before 1, 2, 3",
+    RoomForAny: "room for the longest reply is always asked for",
+    ActsThenRefuses: "nodes act although the reply has no room",
+    WrongSumRefused: "the chain refuses a wrong sum with 4",
+    EveryoneHears: "nodes hear behind an unaddressed one",
+    HearsAsItActs: "who hears is found while the packet acts",
+    FirstMustBeAddressed: "the first node hears only when addressed",
+    MembersReply: "group members reply too",
+    LeadersAlone: "only the leader acts on a group packet",
+    FirstReplierAnswers: "the first replier answers a collision",
+    CollisionChangesNothing: "colliding nodes do not act",
+    // The host session.
+    PowerUpOf32: "power-up takes 0 and 32 nodes",
+    PowerUpKeepsExchange: "power-up leaves an open exchange",
+    PowerUpKeepsRecord: "power-up leaves the record of an earlier session",
+    NextAfterSilence: "Set Address goes to 0x00 again after silence",
+    AskAnytime: "ask is due all along the walk",
+    AskConfirmsNothing: "an answered ask confirms nothing",
+    AskKeepsOldPlace: "an answered ask makes the place known, but as power-up had it",
+    SilenceIsNotDone: "silence is taken as not done",
+    SilenceIsDone: "silence is taken as done",
+    MarkedConfirms: "a reply with bit 1 set confirms",
+    MarkedDoubts: "a reply with bit 1 set counts as silence",
+    OtherBitsMark: "any status bit makes a reply not clear",
+    BadSumConfirms: "a reply with a wrong sum confirms",
+    ReplyOf16Items: "replies of 17 item bytes count as silence",
+    ReplyOf18Items: "replies of 18 item bytes are good",
+    LoneByteIsGood: "a single byte is a good reply",
+    LeaderlessConfirms: "silence from a group without leader confirms",
+    BeyondNWritten: "a group command writes entries beyond n",
+    DoubtfulSpared: "a group command passes by nodes whose place is in doubt",
+    DoubtfulConfirmed: "a group's reply confirms nodes whose place is in doubt",
+    DoubtfulCopied: "Synch Output copies a doubtful held set as known",
+    DoubtShowsNew: "a setting in doubt shows the value that was sent",
+    SameValueSure: "a silent command that changes no value leaves no doubt",
+    ReplyHealsPlace: "any confirmed command makes the place known",
+    ReadStatusDoubts: "a silent Read Status puts the mask in doubt",
+    ResetKeepsSession: "Hard Reset leaves the session open",
+    ResetKeepsKnown: "Hard Reset leaves settings known",
+    ResetDoubtsTarget: "Hard Reset puts only its target in doubt",
+    ResetWaits: "Hard Reset opens an exchange",
+    OwnLeadForbids: "a node that leads may not be told to lead again",
+    DoubtfulMayLead: "a leader wish passes over places in doubt",
+    TwoLeaders: "a leader wish passes over a known leader",
+    JoiningForbidden: "11 is given without a leader wish",
+    LeaderWishSentAsMember: "regroup sends a leader wish with bit 7 set",
+    RangeBeforeOpen: "6 is tested before 7",
+    NodeBeforeRange: "10 is tested before 6",
+    WalkBeforeNode: "9 is tested before 10",
+    RoomBeforeLeader: "5 is tested before 11",
+    HandedInTrusted: "an unsound session handed in is trusted",
+    ClosedExchangeReports: "a closed session's exchange can be reported on",
+    // The bench program.
+    LeadingZeroTaken: "a count with a leading zero is taken",
+    LowerCaseTaken: "lower-case digits are taken",
+    EmptyLineSkipped: "an empty line is no packet",
+    LastLineNeedsNewline: "a last line without newline is dropped",
+    BadLineStops: "a malformed line ends the run",
+}
+
+/// The rules in force: the right ones, or in tests the right ones but one.
+#[derive(Clone, Copy, Debug, PartialEq, Eq)]
+pub struct Rules {
+    #[cfg(test)]
+    mistake: Option<Mistake>,
+}
+
+impl Rules {
+    pub const RIGHT: Rules = Rules {
+        #[cfg(test)]
+        mistake: None,
+    };
+
+    /// The right rules but for one mistake.
+    #[cfg(test)]
+    pub fn with(mistake: Mistake) -> Rules {
+        Rules {
+            mistake: Some(mistake),
+        }
+    }
+
+    /// Whether this mistake is being made.
+    #[cfg(test)]
+    pub fn slips(self, mistake: Mistake) -> bool {
+        self.mistake == Some(mistake)
+    }
+
+    /// Whether this mistake is being made: never outside the tests.
+    #[cfg(not(test))]
+    pub fn slips(self, _mistake: Mistake) -> bool {
+        false
+    }
+}

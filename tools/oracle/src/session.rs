@@ -1,0 +1,548 @@
+//! "The host session": addressing the chain, sending commands, taking
+//! replies and keeping a record of each node.
+
+use crate::command::{Command, Place, Settings};
+use crate::packet;
+use crate::refusal::{require, Refusal};
+use crate::rules::{Mistake, Rules};
+use crate::status::{sum_is_right, MARK, T};
+
+/// The most nodes a session can have, and the entries it always keeps.
+pub const MOST_NODES: u8 = 31;
+
+/// The default group, which the walk gives to every node.
+const DEFAULT_GROUP: u8 = 0xFF;
+
+/// The address at which a node waits for its Set Address.
+const UNADDRESSED: u8 = 0x00;
+
+/// The six settings by name; the value is the setting's bit in `known`.
+#[derive(Clone, Copy, Debug, PartialEq, Eq)]
+#[repr(u8)]
+pub enum Setting {
+    Place = 0x01,
+    Mask = 0x02,
+    Outputs = 0x04,
+    Pwm = 0x08,
+    Held = 0x10,
+    TimerMode = 0x20,
+}
+
+impl Setting {
+    pub const ALL: [Setting; 6] = [
+        Setting::Place,
+        Setting::Mask,
+        Setting::Outputs,
+        Setting::Pwm,
+        Setting::Held,
+        Setting::TimerMode,
+    ];
+}
+
+/// All six known.
+pub const ALL_KNOWN: u8 = 0x3F;
+
+/// The record of one node: last known values, and which of them are known.
+#[derive(Clone, Copy, Debug, PartialEq, Eq)]
+pub struct Entry {
+    pub settings: Settings,
+    pub known: u8,
+}
+
+impl Entry {
+    pub const POWER_UP: Entry = Entry {
+        settings: Settings::POWER_UP,
+        known: ALL_KNOWN,
+    };
+
+    pub fn knows(&self, setting: Setting) -> bool {
+        self.known & setting as u8 != 0
+    }
+
+    fn put_in_doubt(&mut self, setting: Setting) {
+        self.known &= !(setting as u8);
+    }
+
+    /// Takes over one setting, known and new.
+    fn learn(&mut self, setting: Setting, new: &Settings) {
+        self.show(setting, new);
+        self.known |= setting as u8;
+    }
+
+    /// Shows a setting's value from `new`.
+    fn show(&mut self, setting: Setting, new: &Settings) {
+        match setting {
+            Setting::Place => self.settings.place = new.place,
+            Setting::Mask => self.settings.mask = new.mask,
+            Setting::Outputs => self.settings.outputs = new.outputs,
+            Setting::Pwm => self.settings.pwm = new.pwm,
+            Setting::Held => self.settings.held = new.held,
+            Setting::TimerMode => self.settings.timer_mode = new.timer_mode,
+        }
+    }
+}
+
+/// Which settings a command writes. "Nop, Read Status and Synch Input write
+/// no setting."
+fn written_by(command: Command) -> &'static [Setting] {
+    match command {
+        Command::SetAddress(_) => &[Setting::Place],
+        Command::DefineStatus(_) => &[Setting::Mask],
+        Command::SetPwm(_) => &[Setting::Pwm],
+        Command::SynchOutput => &[Setting::Outputs, Setting::Pwm],
+        Command::SetOutputs(_) => &[Setting::Outputs],
+        Command::SetSynchOutput(_) => &[Setting::Held],
+        Command::SetTimerMode(_) => &[Setting::TimerMode],
+        Command::HardReset => &Setting::ALL,
+        Command::ReadStatus(_) | Command::SynchInput | Command::Nop => &[],
+    }
+}
+
+/// Whom a command is for. The walk's Set Address is for the node that it
+/// gives its number, although it travels to 0x00.
+#[derive(Clone, Copy, Debug, PartialEq, Eq)]
+pub enum Target {
+    Node(u8),
+    Group(u8),
+}
+
+impl Target {
+    /// The address byte of a ready session's packet.
+    pub fn address(self) -> u8 {
+        match self {
+            Target::Node(address) | Target::Group(address) => address,
+        }
+    }
+
+    pub fn is_group(self) -> bool {
+        matches!(self, Target::Group(_))
+    }
+}
+
+/// "The open exchange holds the command that waits."
+#[derive(Clone, Copy, Debug, PartialEq, Eq)]
+pub enum Exchange {
+    Idle,
+    Waiting { target: Target, command: Command },
+}
+
+/// What a report says about the waiting command.
+#[derive(Clone, Copy, Debug, PartialEq, Eq)]
+pub enum Outcome {
+    /// A good and clear reply.
+    Confirmed,
+    /// A good reply with bit 1 set: "the record stays as before".
+    Marked,
+    /// "All else counts as silence: unconfirmed."
+    Unconfirmed,
+}
+
+/// A host session, as it can also be handed in by hand.
+#[derive(Clone, Debug, PartialEq, Eq)]
+pub struct Session {
+    pub rules: Rules,
+    pub open: bool,
+    pub n: u8,
+    pub walk: u8,
+    pub exchange: Exchange,
+    pub entries: [Entry; MOST_NODES as usize],
+}
+
+impl Session {
+    /// "A fresh session is closed and has no nodes."
+    pub fn fresh(rules: Rules) -> Session {
+        Session {
+            rules,
+            open: false,
+            n: 0,
+            walk: 0,
+            exchange: Exchange::Idle,
+            entries: [Entry::POWER_UP; MOST_NODES as usize],
+        }
+    }
+
+    /// Starts a session with n nodes, at any time; a bad n gives 6.
+    pub fn power_up(&mut self, n: u8) -> Result<(), Refusal> {
+        let taken = (1..=MOST_NODES).contains(&n)
+            || self.rules.slips(Mistake::PowerUpOf32) && [0, 32].contains(&n);
+        require(taken, Refusal::OffRange)?;
+        let mut new = Session::fresh(self.rules);
+        if self.rules.slips(Mistake::PowerUpKeepsExchange) {
+            new.exchange = self.exchange;
+        }
+        if self.rules.slips(Mistake::PowerUpKeepsRecord) {
+            new.entries = self.entries;
+        }
+        *self = Session {
+            open: true,
+            n,
+            ..new
+        };
+        Ok(())
+    }
+
+    /// "Next" sends Set Address to 0x00 with the next address.
+    pub fn next(&mut self, buffer: &mut [u8]) -> Result<usize, Refusal> {
+        self.require_idle()?;
+        require(self.next_is_due(), Refusal::NotDue)?;
+        let node = self.walk + 1;
+        self.send(UNADDRESSED, Target::Node(node), walk_command(node), buffer)
+    }
+
+    /// "Ask": a Nop to the new address, due only after an unconfirmed one.
+    pub fn ask(&mut self, buffer: &mut [u8]) -> Result<usize, Refusal> {
+        self.require_idle()?;
+        let anytime = self.rules.slips(Mistake::AskAnytime) && self.walks();
+        require(self.ask_is_due() || anytime, Refusal::NotDue)?;
+        let node = self.walk + 1;
+        self.send(node, Target::Node(node), Command::Nop, buffer)
+    }
+
+    /// One of the ten commands of a ready session, to a node or a group.
+    pub fn command(
+        &mut self,
+        target: Target,
+        command: Command,
+        buffer: &mut [u8],
+    ) -> Result<usize, Refusal> {
+        self.slip_into_range_check(target)?;
+        self.require_idle()?;
+        match target {
+            Target::Group(group) => require(group >= 0x80, Refusal::OffRange)?,
+            Target::Node(node) => self.require_node(node)?,
+        }
+        self.require_walk_ended()?;
+        let length = self.send(target.address(), target, command, buffer)?;
+        if command == Command::HardReset {
+            self.hard_reset(target);
+        }
+        Ok(length)
+    }
+
+    /// "Regroup sends Set Address to node k with address k, group and leader
+    /// wish."
+    pub fn regroup(
+        &mut self,
+        node: u8,
+        group: u8,
+        leader: bool,
+        buffer: &mut [u8],
+    ) -> Result<usize, Refusal> {
+        self.slip_into_range_check(Target::Group(group))?;
+        self.require_idle()?;
+        if self.rules.slips(Mistake::NodeBeforeRange) {
+            self.require_node(node)?;
+        }
+        require(group >= 0x80, Refusal::OffRange)?;
+        self.require_node(node)?;
+        self.require_walk_ended()?;
+        if self.rules.slips(Mistake::RoomBeforeLeader) {
+            require(buffer.len() >= 6, Refusal::NoRoom)?;
+        }
+        let wish = leader || self.rules.slips(Mistake::JoiningForbidden);
+        require(
+            !wish || self.may_lead(node, group),
+            Refusal::LeaderForbidden,
+        )?;
+        let place = Place {
+            address: node,
+            group,
+            leader: leader && !self.rules.slips(Mistake::LeaderWishSentAsMember),
+        };
+        self.send(node, Target::Node(node), Command::SetAddress(place), buffer)
+    }
+
+    /// Closes the exchange with the bytes received. "Reporting gives only 8."
+    pub fn report(&mut self, bytes: &[u8]) -> Result<(), Refusal> {
+        self.close(self.judge(bytes))
+    }
+
+    /// Closes the exchange with silence.
+    pub fn silence(&mut self) -> Result<(), Refusal> {
+        self.close(Outcome::Unconfirmed)
+    }
+}
+
+/// The state that the calls look at.
+impl Session {
+    /// "One handed in with n above 31, a walk past n, or waiting on a node
+    /// not 1 to n counts as closed with no exchange open."
+    pub fn is_open(&self) -> bool {
+        self.open && (self.is_sound() || self.rules.slips(Mistake::HandedInTrusted))
+    }
+
+    fn is_sound(&self) -> bool {
+        let waits_in_range = match self.exchange {
+            Exchange::Waiting {
+                target: Target::Node(node),
+                ..
+            } => (1..=self.n).contains(&node),
+            _ => true,
+        };
+        self.n <= MOST_NODES && self.walk <= self.n && waits_in_range
+    }
+
+    /// Whether an exchange is open.
+    pub fn waits(&self) -> bool {
+        self.is_open() && self.exchange != Exchange::Idle
+    }
+
+    /// Whether the walk has not ended.
+    pub fn walks(&self) -> bool {
+        self.walk < self.n && self.walk < MOST_NODES
+    }
+
+    /// Whether "ask" is due: the last Set Address of the walk is unconfirmed.
+    pub fn ask_is_due(&self) -> bool {
+        self.walks() && !self.entries[usize::from(self.walk)].knows(Setting::Place)
+    }
+
+    /// Whether "next" is due.
+    pub fn next_is_due(&self) -> bool {
+        let refused = self.ask_is_due() && !self.rules.slips(Mistake::NextAfterSilence);
+        self.walks() && !refused
+    }
+
+    /// The first two of the host order, 12 and 7.
+    fn require_idle(&self) -> Result<(), Refusal> {
+        require(self.is_open(), Refusal::SessionClosed)?;
+        require(!self.waits(), Refusal::ExchangeOpen)
+    }
+
+    /// 10: node not 1 to n.
+    fn require_node(&self, node: u8) -> Result<(), Refusal> {
+        if self.rules.slips(Mistake::WalkBeforeNode) {
+            self.require_walk_ended()?;
+        }
+        require((1..=self.n).contains(&node), Refusal::NoSuchNode)
+    }
+
+    /// 9: walk not ended.
+    fn require_walk_ended(&self) -> Result<(), Refusal> {
+        require(!self.walks(), Refusal::NotDue)
+    }
+
+    /// 11: "leader wish, while another node leads that group or has its
+    /// place in doubt".
+    pub fn may_lead(&self, node: u8, group: u8) -> bool {
+        let own = self.rules.slips(Mistake::OwnLeadForbids);
+        (1..=self.n.min(MOST_NODES))
+            .filter(|other| own || *other != node)
+            .all(|other| self.leaves_lead_free(other, group))
+    }
+
+    fn leaves_lead_free(&self, node: u8, group: u8) -> bool {
+        let entry = &self.entries[usize::from(node - 1)];
+        if !entry.knows(Setting::Place) {
+            return self.rules.slips(Mistake::DoubtfulMayLead);
+        }
+        let place = entry.settings.place;
+        !(place.leader && place.group == group) || self.rules.slips(Mistake::TwoLeaders)
+    }
+
+    /// Mistake: the group's range is looked at before 12 and 7.
+    fn slip_into_range_check(&self, target: Target) -> Result<(), Refusal> {
+        match target {
+            Target::Group(group) if self.rules.slips(Mistake::RangeBeforeOpen) => {
+                require(group >= 0x80, Refusal::OffRange)
+            }
+            _ => Ok(()),
+        }
+    }
+}
+
+/// What the calls change.
+impl Session {
+    /// Builds the packet at the start of the lent buffer, or 5, and opens
+    /// the exchange.
+    fn send(
+        &mut self,
+        address: u8,
+        target: Target,
+        command: Command,
+        buffer: &mut [u8],
+    ) -> Result<usize, Refusal> {
+        let nibble = command.byte() & 0x0F;
+        let length = packet::build(self.rules, buffer, address, nibble, &command.data())?;
+        self.exchange = Exchange::Waiting { target, command };
+        Ok(length)
+    }
+
+    /// "Hard Reset closes the session and puts all settings in doubt", and
+    /// it opens no exchange.
+    fn hard_reset(&mut self, target: Target) {
+        if !self.rules.slips(Mistake::ResetWaits) {
+            self.exchange = Exchange::Idle;
+        }
+        self.open = self.rules.slips(Mistake::ResetKeepsSession);
+        if self.rules.slips(Mistake::ResetDoubtsTarget) {
+            self.doubt(target, Command::HardReset);
+        } else if !self.rules.slips(Mistake::ResetKeepsKnown) {
+            self.entries.iter_mut().for_each(|entry| entry.known = 0);
+        }
+    }
+
+    /// "A reply is good if it has 2 to T + 2 bytes and its sum is right;
+    /// clear if bit 1 is 0."
+    pub fn judge(&self, bytes: &[u8]) -> Outcome {
+        let least = 2 - usize::from(self.rules.slips(Mistake::LoneByteIsGood));
+        let most = T + 2 - usize::from(self.rules.slips(Mistake::ReplyOf16Items))
+            + usize::from(self.rules.slips(Mistake::ReplyOf18Items));
+        let whole = (least..=most).contains(&bytes.len());
+        let right =
+            bytes.len() < 2 || sum_is_right(bytes) || self.rules.slips(Mistake::BadSumConfirms);
+        let mark = if self.rules.slips(Mistake::OtherBitsMark) {
+            0xFF
+        } else {
+            MARK
+        };
+        match bytes.first() {
+            Some(status) if whole && right && status & mark == 0 => Outcome::Confirmed,
+            Some(_) if whole && right => Outcome::Marked,
+            _ => Outcome::Unconfirmed,
+        }
+    }
+
+    /// Closes the open exchange, or 8.
+    fn close(&mut self, outcome: Outcome) -> Result<(), Refusal> {
+        let open = self.waits() || self.rules.slips(Mistake::ClosedExchangeReports);
+        let (target, command) = match self.exchange {
+            Exchange::Waiting { target, command } if open => (target, command),
+            _ => return Err(Refusal::NothingToReport),
+        };
+        self.exchange = Exchange::Idle;
+        match self.slipped_outcome(outcome, target) {
+            Outcome::Confirmed => self.confirm(target, command),
+            Outcome::Marked => {}
+            Outcome::Unconfirmed => self.doubt(target, command),
+        }
+        Ok(())
+    }
+
+    /// The outcome, with the mistakes in taking it.
+    fn slipped_outcome(&self, outcome: Outcome, target: Target) -> Outcome {
+        match outcome {
+            Outcome::Unconfirmed if self.rules.slips(Mistake::SilenceIsNotDone) => Outcome::Marked,
+            Outcome::Unconfirmed if self.rules.slips(Mistake::SilenceIsDone) => Outcome::Confirmed,
+            Outcome::Unconfirmed
+                if self.rules.slips(Mistake::LeaderlessConfirms) && self.is_leaderless(target) =>
+            {
+                Outcome::Confirmed
+            }
+            Outcome::Marked if self.rules.slips(Mistake::MarkedConfirms) => Outcome::Confirmed,
+            Outcome::Marked if self.rules.slips(Mistake::MarkedDoubts) => Outcome::Unconfirmed,
+            _ => outcome,
+        }
+    }
+
+    fn is_leaderless(&self, target: Target) -> bool {
+        match target {
+            Target::Node(_) => false,
+            Target::Group(group) => self.may_lead(0, group),
+        }
+    }
+
+    /// "A confirmed command makes what it writes known and new, except at
+    /// nodes in doubt about their place when it went to a group, and except
+    /// copies of a held set in doubt: those go into doubt." A confirmed Set
+    /// Address of the walk, by its own reply or by an ask's, moves the walk.
+    fn confirm(&mut self, target: Target, command: Command) {
+        let in_walk = self.walks() && target == Target::Node(self.walk + 1);
+        let command = match command {
+            Command::Nop if in_walk && self.asks() => self.asked_after(),
+            other => other,
+        };
+        for index in self.may_be_written(target) {
+            confirm_entry(self.rules, &mut self.entries[index], target, command);
+        }
+        if in_walk && matches!(command, Command::SetAddress(_)) {
+            self.walk += 1;
+        }
+    }
+
+    /// The Set Address that an ask's reply confirms.
+    fn asked_after(&self) -> Command {
+        if self.rules.slips(Mistake::AskKeepsOldPlace) {
+            return Command::SetAddress(self.entries[usize::from(self.walk)].settings.place);
+        }
+        walk_command(self.walk + 1)
+    }
+
+    /// Whether a Nop to the walk's next node is an ask.
+    fn asks(&self) -> bool {
+        self.ask_is_due() && !self.rules.slips(Mistake::AskConfirmsNothing)
+    }
+
+    /// "Unconfirmed: all that it may write goes into doubt. A setting in
+    /// doubt shows its last known value."
+    fn doubt(&mut self, target: Target, command: Command) {
+        for index in self.may_be_written(target) {
+            doubt_entry(self.rules, &mut self.entries[index], command);
+        }
+    }
+
+    /// "Who may be written: node k for an individual command and for the
+    /// walk's Set Address that gives k; for a group, nodes known to be in it
+    /// and every node whose place is in doubt."
+    fn may_be_written(&self, target: Target) -> Vec<usize> {
+        let all = self.rules.slips(Mistake::BeyondNWritten);
+        let nodes = if all {
+            MOST_NODES
+        } else {
+            self.n.min(MOST_NODES)
+        };
+        let spared = self.rules.slips(Mistake::DoubtfulSpared);
+        (0..usize::from(nodes))
+            .filter(|index| match target {
+                Target::Node(node) => *index + 1 == usize::from(node),
+                Target::Group(group) => match self.entries[*index].knows(Setting::Place) {
+                    true => self.entries[*index].settings.place.group == group,
+                    false => !spared,
+                },
+            })
+            .collect()
+    }
+}
+
+/// The Set Address by which the walk gives a node its number.
+fn walk_command(node: u8) -> Command {
+    Command::SetAddress(Place::member(node, DEFAULT_GROUP))
+}
+
+/// A confirmed command at one node that it may have written.
+fn confirm_entry(rules: Rules, entry: &mut Entry, target: Target, command: Command) {
+    let new = entry.settings.after(command);
+    let lost_in_group = target.is_group()
+        && !entry.knows(Setting::Place)
+        && !rules.slips(Mistake::DoubtfulConfirmed);
+    let doubtful_copy = command == Command::SynchOutput
+        && !entry.knows(Setting::Held)
+        && !rules.slips(Mistake::DoubtfulCopied);
+    for setting in written_by(command) {
+        if lost_in_group || doubtful_copy {
+            entry.put_in_doubt(*setting);
+        } else {
+            entry.learn(*setting, &new);
+        }
+    }
+    if rules.slips(Mistake::ReplyHealsPlace) && !target.is_group() {
+        entry.known |= Setting::Place as u8;
+    }
+}
+
+/// An unconfirmed command at one node that it may have written.
+fn doubt_entry(rules: Rules, entry: &mut Entry, command: Command) {
+    let new = entry.settings.after(command);
+    if rules.slips(Mistake::SameValueSure) && new == entry.settings {
+        return;
+    }
+    for setting in written_by(command) {
+        entry.put_in_doubt(*setting);
+        if rules.slips(Mistake::DoubtShowsNew) {
+            entry.show(*setting, &new);
+        }
+    }
+    if rules.slips(Mistake::ReadStatusDoubts) && matches!(command, Command::ReadStatus(_)) {
+        entry.put_in_doubt(Setting::Mask);
+    }
+}

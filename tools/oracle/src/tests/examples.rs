@@ -1,0 +1,184 @@
+//! The examples of document 01, one by one, against what it says of them.
+
+use super::{answers, last_answer};
+use crate::bench;
+use crate::cases_bench::DOCUMENT_EXAMPLE;
+use crate::rules::Rules;
+use crate::session::{Entry, Outcome, Session, Setting, Target};
+
+use crate::command::Command;
+
+#[test]
+fn packets_read() {
+    for (line, answer) in [
+        ("11 AA 01 0E 0F", "00 01 0E"),
+        ("11 AA 00 21 01 FF 21", "00 00 01 01 FF"),
+        ("11 AA 01 13 04 18", "00 01 03 04"),
+        ("11 AA 02 26 05 00 2D", "00 02 06 05 00"),
+        ("11 AA 80 05 85", "00 80 05"),
+        ("11 AA 03 21 03 01 28", "00 03 01 03 01"),
+        ("11 AA 01 0E 10", "04"),
+        ("11 AA 01 13 04", "01"),
+        ("11 AA 01 0E 0F 00", "03"),
+        ("11 01 0E 0F", "02"),
+        (
+            "11 AA 00 F0 00 00 00 00 00 00 00 00 00 00 00 00 00 00 00 F0",
+            "00 00 00 00 00 00 00 00 00 00 00 00 00 00 00 00 00 00",
+        ),
+    ] {
+        assert_eq!(last_answer(&[line]), answer, "{line}");
+    }
+}
+
+#[test]
+fn packets_built() {
+    for (line, answer) in [
+        ("10 04 01 0E", "00 AA 01 0E 0F"),
+        ("10 06 00 01 01 FF", "00 AA 00 21 01 FF 21"),
+        ("10 05 01 03 04", "00 AA 01 13 04 18"),
+        ("10 08 02 06 05 00", "00 AA 02 26 05 00 2D 55 55"),
+        ("10 04 80 05", "00 AA 80 05 85"),
+        ("10 06 03 01 03 01", "00 AA 03 21 03 01 28"),
+    ] {
+        assert_eq!(last_answer(&[line]), answer, "{line}");
+    }
+}
+
+#[test]
+fn packets_sent() {
+    let ready = ["30 02", "31 06", "35 00 00", "31 06", "35 00 00"];
+    let answers = answers(&ready);
+    assert_eq!(answers[1], "00 AA 00 21 01 FF 21");
+    assert_eq!(answers[3], "00 AA 00 21 02 FF 22");
+    for (line, answer) in [
+        ("33 04 00 01 0E", "00 AA 01 0E 0F"),
+        ("33 05 00 01 13 04", "00 AA 01 13 04 18"),
+        ("33 06 00 02 26 05 00", "00 AA 02 26 05 00 2D"),
+        ("33 04 01 80 05", "00 AA 80 05 85"),
+        ("34 06 02 81 01", "00 AA 02 21 02 01 26"),
+    ] {
+        assert_eq!(last_answer(&[&ready[..], &[line]].concat()), answer);
+    }
+}
+
+#[test]
+fn bench_paragraph() {
+    let input = DOCUMENT_EXAMPLE.join("\n");
+    let output = bench::run(Rules::RIGHT, input.as_bytes());
+    assert_eq!(output, "00 00\n00 00\n00 00\n02 02\n-\n");
+}
+
+/// A session of n nodes, ready.
+fn ready(n: u8) -> Session {
+    let mut session = Session::fresh(Rules::RIGHT);
+    let mut buffer = [0; 19];
+    session.power_up(n).expect("1 to 31 nodes");
+    for _ in 0..n {
+        session.next(&mut buffer).expect("next is due");
+        session.report(&[0, 0]).expect("an exchange is open");
+    }
+    session
+}
+
+/// Sends a command and reports what came.
+fn exchange(session: &mut Session, target: Target, command: Command, reply: &[u8]) {
+    session
+        .command(target, command, &mut [0; 19])
+        .expect("a ready session");
+    session.report(reply).expect("an exchange is open");
+}
+
+/// The settings of a node that are in doubt.
+fn in_doubt(session: &Session, node: usize) -> Vec<Setting> {
+    let entry = &session.entries[node - 1];
+    let doubtful = Setting::ALL.into_iter();
+    doubtful.filter(|setting| !entry.knows(*setting)).collect()
+}
+
+#[test]
+fn outputs_silent_then_sent_again() {
+    let mut session = ready(2);
+    let before = session.clone();
+    exchange(&mut session, Target::Node(2), Command::SetOutputs(5), &[]);
+    assert_eq!(in_doubt(&session, 1), []);
+    assert_eq!(in_doubt(&session, 2), [Setting::Outputs]);
+    assert_eq!(session.entries[1].settings, before.entries[1].settings);
+    exchange(
+        &mut session,
+        Target::Node(2),
+        Command::SetOutputs(5),
+        &[0, 0],
+    );
+    assert_eq!(in_doubt(&session, 2), []);
+    assert_eq!(session.entries[1].settings.outputs, 5);
+}
+
+#[test]
+fn marked_reply_changes_nothing() {
+    let mut session = ready(2);
+    let before = session.clone();
+    exchange(
+        &mut session,
+        Target::Node(2),
+        Command::SetOutputs(5),
+        &[2, 2],
+    );
+    assert_eq!(session, before);
+    assert_eq!(session.judge(&[2, 2]), Outcome::Marked);
+}
+
+#[test]
+fn marked_reply_with_wrong_sum_is_silence() {
+    let mut session = ready(2);
+    exchange(
+        &mut session,
+        Target::Node(2),
+        Command::SetOutputs(5),
+        &[2, 3],
+    );
+    assert_eq!(in_doubt(&session, 2), [Setting::Outputs]);
+}
+
+#[test]
+fn synch_output_copies_a_doubtful_held_set() {
+    let mut session = ready(2);
+    let held = Command::decode(0x47, &[7, 1, 0x80, 0]).expect("Set Synch Output");
+    exchange(&mut session, Target::Node(2), held, &[]);
+    exchange(&mut session, Target::Node(2), Command::SynchOutput, &[0, 0]);
+    let expected = [Setting::Outputs, Setting::Pwm, Setting::Held];
+    assert_eq!(in_doubt(&session, 2), expected);
+    assert_eq!(session.entries[1].settings.outputs, 0);
+}
+
+#[test]
+fn a_second_leader_is_refused() {
+    let mut session = ready(2);
+    let mut buffer = [0x55; 19];
+    session.regroup(1, 0x80, true, &mut buffer).expect("free");
+    session.report(&[0, 0]).expect("an exchange is open");
+    let refused = session.regroup(2, 0x80, true, &mut buffer);
+    assert_eq!(refused.map_err(|refusal| refusal.number()), Err(11));
+    assert_eq!(session.regroup(2, 0x80, false, &mut buffer), Ok(6));
+}
+
+#[test]
+fn first_next_silent() {
+    let lines = [
+        "30 02", "31 06", "36", "31 06", "32 04", "35 00 00", "31 06",
+    ];
+    let answers = answers(&lines);
+    assert_eq!(answers[3], "09 55 55 55 55 55 55");
+    assert_eq!(answers[4], "00 AA 01 0E 0F");
+    assert_eq!(answers[6], "00 AA 00 21 02 FF 22");
+}
+
+#[test]
+fn a_fresh_session_is_closed_and_known() {
+    let session = Session::fresh(Rules::RIGHT);
+    assert!(!session.is_open());
+    assert!(session
+        .entries
+        .iter()
+        .all(|entry| *entry == Entry::POWER_UP));
+    assert_eq!(last_answer(&["31 00"]), "0C");
+}

@@ -1,0 +1,112 @@
+//! Every seeded mistake is noticed, and README.md says where.
+
+use crate::cases::{self, line_names};
+use crate::rules::{Mistake, Rules, ALL};
+use crate::{bench, cases_bench, cases_trials, demand3, trials};
+
+/// The seed and the steps of demand 3 that each mistake is tried on.
+const DEMAND3: (u64, usize) = (1, 12_000);
+
+/// Where the outputs for one input differ: how many lines, and the name of
+/// the first case among them.
+fn differences(right: &str, wrong: &str, names: &[String]) -> Option<(usize, String)> {
+    let (right, wrong): (Vec<_>, Vec<_>) = (right.lines().collect(), wrong.lines().collect());
+    let differing: Vec<usize> = (0..right.len().max(wrong.len()))
+        .filter(|line| right.get(*line) != wrong.get(*line))
+        .collect();
+    let first = names.get(*differing.first()?);
+    Some((differing.len(), first.cloned().unwrap_or_default()))
+}
+
+/// An input, what the right program prints, and its lines' names.
+struct Tried {
+    input: Vec<u8>,
+    right: String,
+    names: Vec<String>,
+    run: fn(Rules, &[u8]) -> String,
+}
+
+impl Tried {
+    fn new(input: Vec<u8>, names: Vec<String>, run: fn(Rules, &[u8]) -> String) -> Tried {
+        let right = run(Rules::RIGHT, &input);
+        Tried {
+            input,
+            right,
+            names,
+            run,
+        }
+    }
+
+    fn differences(&self, rules: Rules) -> Option<(usize, String)> {
+        differences(&self.right, &(self.run)(rules, &self.input), &self.names)
+    }
+}
+
+/// The stored bench input, then the further ones.
+fn bench_inputs() -> Vec<Tried> {
+    let names = line_names(&cases_bench::cases(), 5000);
+    let mut inputs = vec![Tried::new(cases::bench(), names, bench::run)];
+    for (name, input) in cases_bench::further_inputs() {
+        inputs.push(Tried::new(input, vec![format!("input {name}")], bench::run));
+    }
+    inputs
+}
+
+fn trials_input() -> Tried {
+    let names = line_names(&cases_trials::cases(), 5000);
+    Tried::new(cases::trials(), names, trials::run)
+}
+
+fn in_demand3(rules: Rules) -> bool {
+    demand3::run(rules, DEMAND3.0, DEMAND3.1).is_err()
+}
+
+fn cell(found: &Option<(usize, String)>) -> String {
+    match found {
+        Some((count, name)) => format!("{name} ({count})"),
+        None => "-".to_string(),
+    }
+}
+
+/// The table of README.md.
+fn table() -> String {
+    let (bench, trials) = (bench_inputs(), trials_input());
+    let mut text = String::new();
+    for (mistake, meaning) in ALL {
+        let rules = Rules::with(*mistake);
+        let in_bench = bench.iter().find_map(|tried| tried.differences(rules));
+        text += &format!(
+            "| {meaning} | {} | {} | {} |\n",
+            cell(&in_bench),
+            cell(&trials.differences(rules)),
+            if in_demand3(rules) { "yes" } else { "-" }
+        );
+    }
+    text
+}
+
+/// One row for every mistake, none of them empty, as README.md has it.
+#[test]
+fn every_mistake_is_noticed() {
+    let table = table();
+    for row in table.lines() {
+        assert!(!row.ends_with("| - | - | - |"), "unnoticed: {row}");
+    }
+    let readme = include_str!("../../README.md");
+    assert!(
+        readme.contains(&table),
+        "README.md's table is now:\n{table}"
+    );
+}
+
+/// The slips that document 01 rules out by name fail demand 3.
+#[test]
+fn the_named_slips_fail_demand_3() {
+    for mistake in [
+        Mistake::NextAfterSilence,
+        Mistake::SilenceIsNotDone,
+        Mistake::LeaderlessConfirms,
+    ] {
+        assert!(in_demand3(Rules::with(mistake)), "{mistake:?}");
+    }
+}

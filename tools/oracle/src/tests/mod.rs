@@ -1,0 +1,24 @@
+//! The oracle's own tests.
+
+mod examples;
+mod mistakes;
+mod programs;
+mod properties;
+mod stored;
+
+use crate::rules::Rules;
+use crate::trials::Trials;
+
+/// The answers of the right `trials` program to lines.
+fn answers(lines: &[&str]) -> Vec<String> {
+    let mut trials = Trials::new(Rules::RIGHT);
+    lines
+        .iter()
+        .map(|line| trials.answer(line.as_bytes()))
+        .collect()
+}
+
+/// The right answer to the last of some lines.
+fn last_answer(lines: &[&str]) -> String {
+    answers(lines).pop().expect("at least one line")
+}

@@ -1,0 +1,99 @@
+//! The two programs at the edges of their input.
+
+use super::last_answer;
+use crate::cases_bench::further_inputs;
+use crate::hex::MOST_INPUT;
+use crate::rules::Rules;
+use crate::{bench, trials};
+
+fn bench_output(input: &[u8]) -> String {
+    bench::run(Rules::RIGHT, input)
+}
+
+#[test]
+fn bench_counts() {
+    for (name, input) in further_inputs() {
+        let output = bench_output(&input);
+        match name {
+            "document" | "document-unended" => assert_eq!(output.lines().count(), 5),
+            "walk-of-31" => assert_eq!(output, "00 00\n".repeat(31)),
+            "walk-of-1" => assert_eq!(output, "00 00\n-\n"),
+            "count-alone" | "count-ended" => assert_eq!(output, ""),
+            "empty-packet" => assert_eq!(output, "refused 1\n"),
+            _ => assert_eq!(output, "refused 6\n", "{name}"),
+        }
+    }
+}
+
+#[test]
+fn bench_reads_64_kib() {
+    let mut input = b"1\n".to_vec();
+    input.resize(MOST_INPUT, b'\n');
+    assert_eq!(bench_output(&input).lines().count(), MOST_INPUT - 2);
+    input.push(b'\n');
+    assert_eq!(bench_output(&input), "refused 6\n");
+}
+
+#[test]
+fn bench_takes_the_longest_line() {
+    let mut input = b"1\nAA".to_vec();
+    while input.len() + 3 <= MOST_INPUT {
+        input.extend(b" 0E");
+    }
+    assert_eq!(bench_output(&input), "refused 3\n");
+    input[2] = b'B';
+    assert_eq!(bench_output(&input), "refused 2\n");
+}
+
+#[test]
+fn bench_goes_on_after_malformed_lines() {
+    for bad in [
+        "aa 01 0E 0F",
+        "AA  01",
+        "AA 01 0E 0F\r",
+        "\0",
+        " ",
+        "A",
+        "AA 01 0E 0F ",
+    ] {
+        let output = bench_output(format!("1\n{bad}\nAA 00 0E 0E\n").as_bytes());
+        assert_eq!(output, "refused 6\n00 00\n", "{bad:?}");
+    }
+    assert_eq!(bench_output(b"1\n\xC4\x84\n"), "refused 6\n");
+}
+
+#[test]
+fn trials_reads_64_kib() {
+    let mut input = vec![b'\n'; MOST_INPUT];
+    assert_eq!(trials::run(Rules::RIGHT, &input), "FF\n".repeat(MOST_INPUT));
+    input.push(b'\n');
+    assert_eq!(trials::run(Rules::RIGHT, &input), "FF\n");
+    assert_eq!(trials::run(Rules::RIGHT, b""), "");
+}
+
+#[test]
+fn a_shown_session_can_be_handed_in() {
+    let lines = ["30 02", "31 06", "36", "37"];
+    let shown = last_answer(&lines);
+    let hand_in = format!("38{}", &shown[2..]);
+    assert_eq!(last_answer(&[hand_in.as_str(), "37"]), shown);
+    let unknown_bit = format!("{}7F", &hand_in[..hand_in.len() - 2]);
+    assert_eq!(last_answer(&[unknown_bit.as_str()]), "FF");
+}
+
+#[test]
+fn no_nodes_and_open_counts_as_ready() {
+    let entries = " 00 FF 00 00 00 00 00 00 00 00 00 00 00 3F".repeat(31);
+    let hand_in = format!("38 01 00 00 00{entries}");
+    for (line, answer) in [
+        ("31 00", "09"),
+        ("32 00", "09"),
+        ("33 04 01 80 0E", "00 AA 80 0E 8E"),
+        ("33 00 00 01 0E", "0A"),
+        ("34 00 01 7F 01", "06"),
+        ("34 00 01 80 01", "0A"),
+        ("36", "08"),
+    ] {
+        assert_eq!(last_answer(&[hand_in.as_str(), line]), answer, "{line}");
+    }
+}

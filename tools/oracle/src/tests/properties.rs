@@ -1,0 +1,161 @@
+//! What must hold for every input, tried on many.
+
+use crate::chain::{deliver, Delivery};
+use crate::command::{Command, COMMAND_BYTES};
+use crate::demand3;
+use crate::hex;
+use crate::make_packets::{any_command, packet};
+use crate::make_trials;
+use crate::node::{BenchValues, Node};
+use crate::packet::{build, frame, read};
+use crate::prng::Prng;
+use crate::refusal::Refusal;
+use crate::rules::Rules;
+use crate::status;
+use crate::trials::Trials;
+
+const RIGHT: Rules = Rules::RIGHT;
+
+#[test]
+fn a_built_packet_reads_back() {
+    let mut prng = Prng::new(1);
+    for _ in 0..4000 {
+        let (address, command) = (prng.byte(), prng.between(0, 15));
+        let count = prng.below(16);
+        let data = prng.telling_bytes(count);
+        let mut buffer = [0x55; 24];
+        let length = build(RIGHT, &mut buffer, address, command, &data).expect("in range");
+        let packet = read(RIGHT, &buffer[..length]).expect("a built packet");
+        assert_eq!((packet.address, packet.command()), (address, command));
+        assert_eq!(packet.data, data);
+        assert!(buffer[length..].iter().all(|byte| *byte == 0x55));
+    }
+}
+
+#[test]
+fn an_accepted_packet_is_the_one_we_would_build() {
+    let mut prng = Prng::new(2);
+    let mut accepted = 0;
+    for _ in 0..4000 {
+        let bytes = packet(&mut prng, &[Node::powered_up(BenchValues::ZERO)]);
+        if let Ok(packet) = read(RIGHT, &bytes) {
+            let mut buffer = vec![0; bytes.len()];
+            let (address, command) = (packet.address, packet.command());
+            build(RIGHT, &mut buffer, address, command, packet.data).expect("its own parts");
+            assert_eq!(buffer, bytes);
+            accepted += 1;
+        }
+    }
+    assert!(accepted > 2000);
+}
+
+#[test]
+fn every_command_reads_back() {
+    let mut prng = Prng::new(3);
+    for _ in 0..2000 {
+        let byte = prng.pick(&COMMAND_BYTES);
+        let command = any_command(&mut prng, byte);
+        assert_eq!(command.byte(), byte);
+        assert_eq!(Command::decode(byte, &command.data()), Some(command));
+    }
+}
+
+#[test]
+fn a_changed_byte_is_noticed() {
+    let mut prng = Prng::new(4);
+    for _ in 0..2000 {
+        let whole = crate::packet::whole(prng.byte(), 0x7, &[1, 2, 0xAA, 4]);
+        let damaged = crate::make_packets::damage(&mut prng, whole);
+        assert_eq!(read(RIGHT, &damaged), Err(Refusal::WrongSum));
+        assert!(frame(RIGHT, &damaged).is_ok_and(|packet| !packet.intact));
+    }
+}
+
+#[test]
+fn the_items_add_up_to_t() {
+    assert_eq!(status::item_bytes(0xFF), status::T);
+    assert_eq!(status::item_bytes(0x00), 0);
+}
+
+#[test]
+fn a_reply_reads_under_its_mask() {
+    for mask in 0..=255 {
+        let mut nodes = [Node::powered_up(BenchValues::ZERO)];
+        let mut buffer = [0; 19];
+        let packet = crate::packet::whole(0x00, 0x2, &[mask]);
+        let delivery = deliver(RIGHT, &mut nodes, &packet, &mut buffer);
+        let Ok(Delivery::Reply(length)) = delivery else {
+            panic!("one node replies: {delivery:?}");
+        };
+        assert!(status::read(RIGHT, mask, &buffer[..length]).is_ok());
+    }
+}
+
+/// "All numbers but 0 and 13 leave record, chain and buffers as they stood."
+#[test]
+fn a_refusal_changes_nothing() {
+    for seed in 0..12 {
+        let mut trials = Trials::new(RIGHT);
+        for line in hex::lines(&make_trials::make(seed, 2000)) {
+            let before = trials.session.clone();
+            let answer = trials.answer(line);
+            let answer = hex::parse(RIGHT, answer.as_bytes()).expect("a line of bytes");
+            if answer[0] == 0 || answer[0] == 13 {
+                continue;
+            }
+            assert_eq!(trials.session, before);
+            assert!(keeps_what_was_lent(line, &answer), "{answer:02X?}");
+        }
+    }
+}
+
+/// Whether a refusal's answer shows buffer and records as they were lent.
+fn keeps_what_was_lent(line: &[u8], answer: &[u8]) -> bool {
+    let bytes = hex::parse(RIGHT, line).unwrap_or_default();
+    match bytes.first() {
+        Some(0x20) if answer.len() > 1 => {
+            let room = usize::from(bytes[1]);
+            let records = &answer[2 + room..];
+            answer[1] == 0
+                && answer[2..2 + room].iter().all(|byte| *byte == 0x55)
+                && *records == bytes[3..3 + records.len()]
+        }
+        _ => answer[1..].iter().all(|byte| *byte == 0x55),
+    }
+}
+
+/// The numbers come under their own calls only.
+#[test]
+fn numbers_keep_to_their_calls() {
+    for seed in 20..32 {
+        let mut trials = Trials::new(RIGHT);
+        for line in hex::lines(&make_trials::make(seed, 2000)) {
+            let call = hex::parse(RIGHT, line).unwrap_or_default();
+            let answer = trials.answer(line);
+            let number = hex::parse(RIGHT, answer.as_bytes()).expect("a line of bytes")[0];
+            let own: &[u8] = match call.first() {
+                Some(0x10) => &[0, 5, 6],
+                Some(0x11) => &[0, 1, 2, 3, 4],
+                Some(0x12) => &[0, 1, 3, 4],
+                Some(0x20) => &[0, 1, 2, 3, 5, 6, 13],
+                Some(0x30) => &[0, 6],
+                Some(0x31 | 0x32) => &[0, 5, 7, 9, 12],
+                Some(0x33) => &[0, 5, 6, 7, 9, 10, 12],
+                Some(0x34) => &[0, 5, 6, 7, 9, 10, 11, 12],
+                Some(0x35 | 0x36) => &[0, 8],
+                Some(0x37 | 0x38) => &[0],
+                _ => &[],
+            };
+            assert!(number == 0xFF || own.contains(&number), "{call:02X?}");
+        }
+    }
+}
+
+#[test]
+fn demand_3_holds() {
+    for seed in 0..4 {
+        let counts = demand3::run(RIGHT, seed, 20_000);
+        let counts = counts.unwrap_or_else(|violation| panic!("{violation}"));
+        assert!(counts.ready > 50 && counts.doubts > 1000 && counts.refused > 100);
+    }
+}

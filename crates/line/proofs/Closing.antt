@@ -21,9 +21,10 @@ use Rattle.ledger.specs.Ledger.{blank, reachOf}
 use Rattle.session.specs.declared.Exchange.the-variants.{Idle, Waiting}
 use Rattle.session.specs.declared.Session.{Session}
 use Rattle.session.specs.declared.Step.{Step}
-use Rattle.session.specs.Session.{Sound, offChain, entryOf, closedOf, askDue, givenPlace, nodeAt}
-use Rattle.session.proofs.Sessions.{valid-from}
+use Rattle.session.specs.Session.{Sound, offChain, entryOf, askDue, givenPlace, nodeAt}
+use Rattle.session.proofs.Sessions.{valid-from, open-is}
 use Rattle.host.specs.Calls.{isReset, opened}
+use Rattle.host.proofs.Sent.{opened-waits}
 use Rattle.reports.specs.Report.{giving, asking, onWalk, concluded, finished}
 use Rattle.reports.proofs.Concluding.{meant, walkAfter, concluded-at, concluded-walk, concluded-n, concluded-idle, concluded-started, finished-waiting, report-is}
 use Rattle.reports.proofs.Soundness.{concluded-sound}
@@ -86,9 +87,8 @@ due-waits (ask l k) = refl
 due-waits {c = c} (order w o e) = not-reset c e
 due-waits (regroup w o f) = refl
 
-pub opened-waits : {h : Session} {what : Sending} {line to : Address} {c : Command} → Due h what line to c → opened h to c ≡ waitingAt h to c
-unfolding opened
-opened-waits d = rw (due-waits d) refl
+pub due-opens : {h : Session} {what : Sending} {line to : Address} {c : Command} → Due h what line to c → opened h to c ≡ waitingAt h to c
+due-opens {h} {what} {line} {to} {c} d = opened-waits h to c (due-waits d)
 
 on-chain : (n k : ℕ) → 1 ≤ k → k ≤ n → offChain n (nodeAt k) ≡ false
 on-chain n k l m = rw (le-ltb k 1 l, le-ltb n k m) refl
@@ -99,14 +99,11 @@ due-on-chain {h = h} (ask l k) = on-chain (h .n) (h .walk + 1) (omega arith) (om
 due-on-chain (order w o e) = o
 due-on-chain {h = h} (regroup {i = i} w o f) = on-chain (h .n) (i .0) (o .low) (o .high)
 
-waiting-sound : (h : Session) (to : Address) (c : Command) → h .n ≤ 31 → h .walk ≤ h .n → length (h .entries) ≡ 31 → offChain (h .n) to ≡ false → Sound (waitingAt h to c)
+waiting-sound : (h : Session) (to : Address) (c : Command) → h .n ≤ 31 → h .walk ≤ h .n → length (h .entries) ≡ 31 → offChain (h .n) to ≡ false
+    → Sound (waitingAt h to c)
 waiting-sound h to c f w l o = record { valid = valid-from (waitingAt h to c) f w o; whole = l }
 
 -- ---- the report closes it
-
-not-closed : (s : Session) → Sound s → s .started ≡ true → closedOf s ≡ false
-unfolding closedOf
-not-closed s v e = rw (v .valid, e) refl
 
 reported-finished : (s : Session) (r : Option (List ℕ)) → reportedOf s r ≡ finished s (heardIn r)
 reported-finished s none = refl
@@ -172,14 +169,15 @@ module _ (h : Session) (few : h .n ≤ 31) where
   walked-is (regroup w o f) Marked = refl
   walked-is (regroup w o f) Silent = refl
 
-module _ {h : Session} {what : Sending} {line to : Address} {c : Command} (d : Due h what line to c) (few : h .n ≤ 31) (on : h .walk ≤ h .n) (full : length (h .entries) ≡ 31) where
+module _ {h : Session} {what : Sending} {line to : Address} {c : Command} (d : Due h what line to c)
+    (few : h .n ≤ 31) (on : h .walk ≤ h .n) (full : length (h .entries) ≡ 31) where
   sound : Sound (waitingAt h to c)
   sound = waiting-sound h to c few on full (due-on-chain d)
 
   pub reported-concludes : h .started ≡ true → (r : Option (List ℕ)) → reportedOf (waitingAt h to c) r .session ≡ concluded (waitingAt h to c) to c (heardIn r)
   reported-concludes s r =
       ap (λ (t : Step). t .session)
-      (reported-finished (waitingAt h to c) r ∙ finished-waiting (waitingAt h to c) (heardIn r) to c (not-closed (waitingAt h to c) sound s) refl)
+      (reported-finished (waitingAt h to c) r ∙ finished-waiting (waitingAt h to c) (heardIn r) to c (open-is (waitingAt h to c) (sound .valid) s) refl)
 
   pub conclusion : (a : Answer) → Concluded h a to (settles what a c) (walked what a (h .walk)) (concluded (waitingAt h to c) to c a)
   conclusion a = record {

@@ -28,8 +28,8 @@ use Rattle.line.specs.History.{Sending, Sent, counted}
 use Rattle.line.specs.Call.{Call, calledOf, whatOf, resets, Typed}
 use Rattle.line.specs.Line.{Line, quiet, going, coming, Arrives, Returns, nodesAfter, saidAfter, reportedOf, heardIn}
 use Rattle.line.specs.World.{World, hosting, callEnded, called, Comes, start, power, unpowered, call, deliver, report, stray, bench}
-use Rattle.line.proofs.Due.{Due, Accepted, accepted, call-stays}
-use Rattle.line.proofs.Closing.{waitingAt, walked, opened-waits, reported-concludes, conclusion}
+use Rattle.line.proofs.Due.{Due, Accepted, accepted, call-not-done, call-stays}
+use Rattle.line.proofs.Closing.{waitingAt, walked, due-opens, reported-concludes, conclusion}
 use Rattle.line.proofs.Exactly.{Exactly, exactly-step}
 use Rattle.line.proofs.Invariant.{at, Invariant, Exchanged}
 use Rattle.line.proofs.Peace.{no-clash}
@@ -97,7 +97,7 @@ call-goes h t ns past k p s a = record {
     range = a .goes .range;
     fits = a .goes .fits;
     typed = a .typed;
-    now = a .goes .after ∙ opened-waits (a .due);
+    now = a .goes .after ∙ due-opens (a .due);
   };
   packet = a .goes .packet;
 }
@@ -185,8 +185,8 @@ call-holds w holds k typed out = go (calledOf k (w .host) out .answer .end) refl
         let a = accepted k typed (u .0) (w .host) out n e in
         let s = when-idle (w .host) (w .nodes) (w .past) (w .line) (holds (u .1)) (a .ready .idle) in
         call-goes (w .host) t (w .nodes) (w .past) k (take n (calledOf k (w .host) out .left)) s a
-    go ends.Done e up = stands (call-stays k (w .host) out (λ n f. let z : _≡_ {A = ℕ} 0 1 = cc (sym e ∙ f) in omega arith)) up
-    go (ends.Refused why) e up = stands (call-stays k (w .host) out (λ n f. let z : _≡_ {A = ℕ} 0 1 = cc (sym e ∙ f) in omega arith)) up
+    go ends.Done e up = absurd (call-not-done k (w .host) out e)
+    go (ends.Refused why) e up = stands (call-stays k (w .host) out (refused-not-done (calledOf k (w .host) out .answer) why e)) up
 
 pub holds : {w : World} → Comes w → Holds w
 holds (start ns) up = absurd (false≢true up)

@@ -1,28 +1,36 @@
 -- What may be sent while a session is open: by whom it is heard, whose record it is, and the command.
-use Prim.Native.Nat.{ℕ, _+_, _<_}
+use Prim.Native.Nat.{ℕ, _+_, _≤_, _<_}
 use mathlib.Core.Bool.{Bool, true, false, true≢false}
-use mathlib.Core.List.{List}
-use mathlib.Core.Path.{_≡_, refl}
+use mathlib.Core.List.{List, _++_}
+use mathlib.Core.Path.{_≡_, refl, sym, ap, _∙_}
 use native.Mathlib.Omega.{arith}
-use lib.ListN.{take}
+use lib.ListN.{length, take, drop}
+use lib.Seq.{take-append-seam}
+use borrow.Author.Tests.{lt-ltb}
+use Rattle.wire.specs.Numbers.{done}
+use Rattle.wire.specs.Promise.{Outcome}
+use Rattle.wire.specs.Address.{isIndividual, isGroup, inRange}
 use Rattle.wire.specs.declared.address.Individual.{Individual}
 use Rattle.wire.specs.declared.address.Group.{Group}
 use Rattle.wire.specs.declared.address.Address.{Address}
 use Rattle.wire.specs.declared.address.Address.the-variants as address
 use Rattle.command.specs.declared.Command.{Command}
 use Rattle.command.specs.declared.Command.the-variants.{SetAddress, DefineStatus, ReadStatus, SetPwm, SynchOutput, SetOutputs, SetSynchOutput, SetTimerMode, SynchInput, Nop, HardReset}
-use Rattle.command.specs.Build.{Typed}
+use Rattle.command.specs.Build.{fitsOf, Typed, packetFor}
 use Rattle.node.specs.Setting.{place}
 use Rattle.node.specs.Effect.{effect, writes}
 use Rattle.entry.specs.Entry.{knows}
 use Rattle.ledger.specs.Ledger.{isLed}
 use Rattle.session.specs.declared.Session.{Session}
-use Rattle.session.specs.declared.End.the-variants.{Sent}
-use Rattle.session.specs.Session.{offChain, entryOf, isPlacing, givenPlace, nodeAt}
-use Rattle.host.specs.Calls.{isReset}
-use Rattle.session.proofs.Sessions.{OnChain}
-use Rattle.host.proofs.Clear.{Ready, wish-free}
-use Rattle.host.proofs.Accepted.{Goes, next-unsent, ask-unsent, order-unsent, regroup-unsent, next-accepts, ask-accepts, order-accepts, regroup-accepts}
+use Rattle.session.specs.declared.End.{End}
+use Rattle.session.specs.declared.End.the-variants.{Done, Sent}
+use Rattle.session.specs.declared.Step.{Step}
+use Rattle.session.specs.Session.{offChain, entryOf, isPlacing, givenPlace, nodeAt, endNumber, stepNumber}
+use Rattle.host.specs.Calls.{isReset, badGroup, opened}
+use Rattle.session.proofs.Sessions.{OnChain, on-chain, not-false}
+use Rattle.host.proofs.Clear.{Ready, next-says, ask-says, order-says, regroup-says, wish-free}
+use Rattle.host.proofs.Sent.{sending, next-went, ask-went, order-went, regroup-went}
+use Rattle.host.proofs.Stands.{next-stands, ask-stands, order-stands, regroup-stands}
 use Rattle.line.specs.History.{Sending, gives, asks, sends}
 use Rattle.line.specs.Call as calls
 use Rattle.line.specs.Call.{Call, calledOf, whatOf, resets}
@@ -39,32 +47,43 @@ pub data Due (h : Session) : Sending → Address → Address → Command → Typ
       → Due h (sends (address.Individual i) (SetAddress (record { address = i; group = g; leader = leader }))) (address.Individual i) (address.Individual i)
       (SetAddress (record { address = i; group = g; leader = leader }))
 
--- what an order sends writes no place, unless it is a Hard Reset
-order-places : (c : Command) → isPlacing c ≡ false → isReset c ≡ false → writes (effect c place) ≡ false
-order-places (SetAddress p) e f = absurd (true≢false e)
-order-places (DefineStatus m) e f = refl
-order-places (ReadStatus m) e f = refl
-order-places (SetPwm w) e f = refl
-order-places SynchOutput e f = refl
-order-places (SetOutputs w) e f = refl
-order-places (SetSynchOutput h) e f = refl
-order-places (SetTimerMode m) e f = refl
-order-places SynchInput e f = refl
-order-places Nop e f = refl
-order-places HardReset e f = absurd (true≢false f)
+-- what an order sends writes no place, unless it is a Hard Reset; and its values are of their range
+order-sends : (c : Command) → isPlacing c ≡ false → isReset c ≡ false → (writes (effect c place) ≡ false) × (fitsOf c ≡ true) × Typed c
+order-sends (SetAddress p) e f = absurd (true≢false e)
+order-sends (DefineStatus m) e f = (refl, refl, tt)
+order-sends (ReadStatus m) e f = (refl, refl, tt)
+order-sends (SetPwm w) e f = (refl, refl, tt)
+order-sends SynchOutput e f = (refl, refl, tt)
+order-sends (SetOutputs w) e f = (refl, refl, tt)
+order-sends (SetSynchOutput h) e f = (refl, refl, tt)
+order-sends (SetTimerMode m) e f = (refl, refl, tt)
+order-sends SynchInput e f = (refl, refl, tt)
+order-sends Nop e f = (refl, refl, tt)
+order-sends HardReset e f = absurd (true≢false f)
 
-order-typed : (c : Command) → isPlacing c ≡ false → Typed c
-order-typed (SetAddress p) e = absurd (true≢false e)
-order-typed (DefineStatus m) e = tt
-order-typed (ReadStatus m) e = tt
-order-typed (SetPwm w) e = tt
-order-typed SynchOutput e = tt
-order-typed (SetOutputs w) e = tt
-order-typed (SetSynchOutput h) e = tt
-order-typed (SetTimerMode m) e = tt
-order-typed SynchInput e = tt
-order-typed Nop e = tt
-order-typed HardReset e = tt
+-- a node 1 to n has an individual address, and what an order may go to is of its range
+node-range : (n k : ℕ) → n ≤ 31 → k ≤ n → isIndividual k ≡ true
+node-range n k f l = lt-ltb k 0x80 (omega arith)
+
+order-range : (n : ℕ) (to : Address) → n ≤ 31 → badGroup to ≡ false → offChain n to ≡ false → inRange to ≡ true
+order-range n (address.Individual i) f g o = node-range n (i .0) f (on-chain n i o .high)
+order-range n (address.Group g) f b o = not-false (isGroup (g .0)) b
+
+-- a command was put on the line
+pub record Goes (s : Session) (line to : Address) (c : Command) (p : List ℕ) (t : Session) : Type 0 where
+  pub range : inRange line ≡ true
+  pub fits : fitsOf c ≡ true
+  pub packet : p ≡ packetFor line c
+  pub after : t ≡ opened s to c
+
+seam : (p out : List ℕ) (n : ℕ) → length p ≡ n → take n (p ++ drop (length p) out) ≡ p
+seam p out n e = rw (← e) (take-append-seam p (drop (length p) out))
+
+goes : (s : Session) (line to : Address) (c : Command) (out : List ℕ) (o : Outcome Step (List ℕ)) (n : ℕ) → o ≡ sending s line to c out → o .answer .end ≡ Sent n
+    → inRange line ≡ true → fitsOf c ≡ true → Goes s line to c (take n (o .left)) (o .answer .session)
+goes s line to c out o n e f range fits =
+    let m : Sent (length (packetFor line c)) ≡ Sent n = sym (ap (λ (x : Outcome Step (List ℕ)). x .answer .end) e) ∙ f in
+    record { range = range; fits = fits; packet = rw e (seam (packetFor line c) out n (cc m)); after = ap (λ (x : Outcome Step (List ℕ)). x .answer .session) e }
 
 -- a call that sends, and isn't a Hard Reset
 pub record Accepted (s : Session) (k : Call) (p : List ℕ) (t : Session) : Type 0 where
@@ -79,53 +98,77 @@ pub record Accepted (s : Session) (k : Call) (p : List ℕ) (t : Session) : Type
 pub accepted : (k : Call) → calls.Typed k → resets k ≡ false → (s : Session) (out : List ℕ) (n : ℕ) → calledOf k s out .answer .end ≡ Sent n
     → Accepted s k (take n (calledOf k s out .left)) (calledOf k s out .answer .session)
 accepted calls.next t o s out n e =
-    let r = next-accepts s out n e in
+    let w = next-went s out (ap endNumber e) in
+    let k = next-says s (w .clear) in
+    let l = k .walking in
+    let f = node-range (s .n) (s .walk + 1) (k .session .valid .few) (omega arith) in
+    let g = goes s _ _ _ out _ n (w .result) e refl (rw f refl) in
     record {
       line = nodeAt 0x00;
       to = nodeAt (s .walk + 1);
       command = SetAddress (givenPlace (s .walk + 1));
-      ready = r .clear .session;
-      due = rw (r .goes .packet) (next (r .clear .walking) (r .clear .placed));
+      ready = k .session;
+      due = rw (g .packet) (next l (k .placed));
       typed = omega arith;
-      goes = r .goes;
+      goes = g;
     }
 accepted calls.ask t o s out n e =
-    let r = ask-accepts s out n e in
+    let w = ask-went s out (ap endNumber e) in
+    let k = ask-says s (w .clear) in
+    let l = k .walking in
+    let g = goes s _ _ _ out _ n (w .result) e (node-range (s .n) (s .walk + 1) (k .session .valid .few) (omega arith)) refl in
     record {
       line = nodeAt (s .walk + 1);
       to = nodeAt (s .walk + 1);
       command = Nop;
-      ready = r .clear .session;
-      due = rw (r .goes .packet) (ask (r .clear .walking) (r .clear .doubtful));
+      ready = k .session;
+      due = rw (g .packet) (ask l (k .doubtful));
       typed = tt;
-      goes = r .goes;
+      goes = g;
     }
 accepted (calls.order to c) t o s out n e =
-    let r = order-accepts s out n to c e in
+    let w = order-went s out to c (ap endNumber e) in
+    let k = order-says s to c (w .clear) in
+    let r = order-sends c (k .ordinary) o in
     record {
       line = to;
       to = to;
       command = c;
-      ready = r .clear .session;
-      due = order (r .clear .ended) (r .clear .node) (order-places c (r .clear .ordinary) o);
-      typed = order-typed c (r .clear .ordinary);
-      goes = r .goes;
+      ready = k .session;
+      due = order (k .ended) (k .node) (r .0);
+      typed = r .2;
+      goes = goes s to to c out _ n (w .result) e (order-range (s .n) to (k .session .valid .few) (k .group) (k .node)) (r .1);
     }
 accepted (calls.regroup i g leader) t o s out n e =
-    let r = regroup-accepts s out n i g leader e in
+    let w = regroup-went s out i g leader (ap endNumber e) in
+    let k = regroup-says s i g leader (w .clear) in
+    let f = node-range (s .n) (i .0) (k .session .valid .few) (k .node .high) in
     record {
       line = address.Individual i;
       to = address.Individual i;
       command = SetAddress (record { address = i; group = g; leader = leader });
-      ready = r .clear .session;
-      due = regroup {leader = leader} (r .clear .ended) (r .clear .node) (λ l. wish-free s i g (rw l at (r .clear .free)));
+      ready = k .session;
+      due = regroup {leader = leader} (k .ended) (k .node) (λ l. wish-free s i g (rw l at (k .free)));
       typed = t;
-      goes = r .goes;
+      goes = goes s _ _ _ out _ n (w .result) e f (rw (f, k .group) refl);
     }
 
--- a call that doesn't send leaves the session as it was
-pub call-stays : (k : Call) (s : Session) (out : List ℕ) → ((n : ℕ) → calledOf k s out .answer .end ≡ Sent n → ⊥) → calledOf k s out .answer .session ≡ s
-call-stays calls.next s out = next-unsent s out
-call-stays calls.ask s out = ask-unsent s out
-call-stays (calls.order to c) s out = order-unsent s out to c
-call-stays (calls.regroup i g leader) s out = regroup-unsent s out i g leader
+-- a call that doesn't send is refused, and leaves the session as it was
+sent-not-done : {e : End} {n : ℕ} → e ≡ Sent n → e ≡ Done → ⊥
+sent-not-done p q = let z : _≡_ {A = ℕ} 0 1 = cc (sym p ∙ q) in omega arith
+
+endOf : Outcome Step (List ℕ) → End
+endOf o = o .answer .end
+
+pub call-not-done : (k : Call) (s : Session) (out : List ℕ) → calledOf k s out .answer .end ≡ Done → ⊥
+unfolding endOf
+call-not-done calls.next s out e = sent-not-done (ap endOf (next-went s out (ap endNumber e) .result)) e
+call-not-done calls.ask s out e = sent-not-done (ap endOf (ask-went s out (ap endNumber e) .result)) e
+call-not-done (calls.order to c) s out e = sent-not-done (ap endOf (order-went s out to c (ap endNumber e) .result)) e
+call-not-done (calls.regroup i g leader) s out e = sent-not-done (ap endOf (regroup-went s out i g leader (ap endNumber e) .result)) e
+
+pub call-stays : (k : Call) (s : Session) (out : List ℕ) → (stepNumber (calledOf k s out .answer) ≡ done → ⊥) → calledOf k s out .answer .session ≡ s
+call-stays calls.next s out f = next-stands s out f .0
+call-stays calls.ask s out f = ask-stands s out f .0
+call-stays (calls.order to c) s out f = order-stands s out to c f .0
+call-stays (calls.regroup i g leader) s out f = regroup-stands s out i g leader f .0

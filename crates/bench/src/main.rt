@@ -12,7 +12,7 @@ fn input_room() -> [u8; 65537]
     [0; 65537]
 }
 
-// Room for the longest output.
+// Room for the longest output (script/proofs/Bound).
 fn output_room() -> [u8; 655360]
     ensures { λ r. ⌜ 655360 ≡ length r ⌝ }
 {
@@ -28,7 +28,7 @@ fn main() {
         Built::Bytes(m) => {
             io::write_all(STDOUT_FILENO, &output[..m]);
         }
-        // It never comes to this: script/proofs/Bound says that the output has room.
+        // It never comes to this: the output has room.
         Built::Refused(_) => {}
     }
 }

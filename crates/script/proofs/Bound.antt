@@ -1,7 +1,7 @@
 -- The output is never longer than ten times 64 KiB, so that in this room no rehearsal is refused; and 5 leaves the output as it stood.
 use Prim.Native.Nat.{ℕ, suc, _+_, _*_, _≤_, _<_}
 use mathlib.Core.Bool.{Bool, true, false, cond}
-use mathlib.Core.List.{List, [], _∷_, _++_}
+use mathlib.Core.List.{List, [], _∷_}
 use mathlib.Core.Path.{_≡_, refl}
 use native.Mathlib.Omega.{arith}
 use lib.Dec.{eqb, ltb}
@@ -9,11 +9,10 @@ use lib.ListN.{length, replicate, take, length-append, length-take}
 use borrow.Author.Tests.{le-ltb, ltb-true, ltb-false}
 use Rattle.wire.specs.Promise.{Outcome}
 use Rattle.wire.specs.Buffer.{written, place}
-use Rattle.wire.specs.declared.refusal.Refusal.{Refusal}
-use Rattle.wire.specs.declared.refusal.Refusal.the-variants.{Short, Header, Range}
+use Rattle.wire.specs.declared.refusal.Refusal.the-variants.{Range}
 use Rattle.text.specs.Lines.{newline, linesOf, grown}
 use Rattle.text.specs.Digits.{decimalOf, decimalIn}
-use Rattle.text.specs.Hex.{hexText, hexLine, Content, bytes, malformed, bytesIn}
+use Rattle.text.specs.Hex.{hexText, Content, bytes, malformed, bytesIn}
 use Rattle.text.specs.declared.digits.Decimal.{Decimal}
 use Rattle.text.specs.declared.digits.Decimal.the-variants.{Value, Malformed}
 use Rattle.text.proofs.Puts.{length-line}
@@ -23,7 +22,7 @@ use Rattle.chain.specs.declared.table.Delivered.{Delivered}
 use Rattle.chain.specs.declared.table.Delivery.{Delivery}
 use Rattle.chain.specs.declared.table.Delivery.the-variants.{Silent, Replied, Collision, Refused}
 use Rattle.chain.specs.Table.{deliveredOf}
-use Rattle.script.specs.Answers.{refusedWord, numberEnd, refusedLine, answerLine}
+use Rattle.script.specs.Answers.{numberEnd, answerLine}
 use Rattle.script.specs.Bench.{heard, onContent, stepOf, played, wrong, onCount, onDecimal, onLines, benchOf, startOf}
 use Rattle.script.proofs.Lined.{line-short, refused-short}
 use Rattle.script.proofs.Deliveries.{deliver-brief, deliver-left}

@@ -1,5 +1,5 @@
 -- The line for each answer, and that it has at most 64 bytes.
-use Prim.Native.Nat.{ℕ, _+_, _*_, _/_, _%_, _≤_, _<_}
+use Prim.Native.Nat.{ℕ, _+_, _/_, _%_, _≤_, _<_}
 use mathlib.Core.Bool.{Bool, true, false, cond}
 use mathlib.Core.List.{List, [], _∷_, _++_}
 use mathlib.Core.Path.{_≡_, refl, sym, ap, _∙_}
@@ -17,7 +17,7 @@ use Rattle.wire.specs.declared.buffer.Built.{Built}
 use Rattle.wire.specs.declared.buffer.Built.the-variants as built
 use Rattle.text.specs.Lines.{newline}
 use Rattle.text.specs.Digits.{decimalOf}
-use Rattle.text.specs.Hex.{hexText, hexLine}
+use Rattle.text.specs.Hex.{hexLine}
 use Rattle.text.proofs.Puts.{length-line}
 use Rattle.chain.specs.declared.table.Delivery.{Delivery}
 use Rattle.chain.specs.declared.table.Delivery.the-variants.{Silent, Replied, Collision, Refused}

@@ -1,17 +1,17 @@
 -- What was placed in a buffer stands within it.
 use Prim.Native.Nat.{ℕ, _≤_}
 use mathlib.Core.Bool.{Bool, true, false, cond}
-use mathlib.Core.List.{List, _++_}
-use mathlib.Core.Path.{_≡_, refl, sym, ap, _∙_}
+use mathlib.Core.List.{List}
+use mathlib.Core.Path.{_≡_, sym, _∙_}
 use native.Mathlib.Omega.{arith}
 use lib.Dec.{ltb}
 use lib.ListN.{length, take, drop, length-append}
 use lib.Seq.{length-take-le}
-use Rattle.wire.specs.Promise.{Outcome, Lending}
+use Rattle.wire.specs.Promise.{Lending}
 use Rattle.wire.specs.Buffer.{written, refused, place, builtNumber}
 use Rattle.wire.specs.declared.refusal.Refusal.the-variants.{Room}
 use Rattle.wire.specs.declared.buffer.Built.{Built}
-use Rattle.wire.specs.declared.buffer.Built.the-variants.{Bytes, Refused}
+use Rattle.wire.specs.declared.buffer.Built.the-variants.{Bytes}
 
 chosen : (t : Bool) (p out left : List ℕ) (n : ℕ) → Bytes n ≡ cond t (refused Room out) (written p out) .answer → left ≡ cond t (refused Room out) (written p out) .left → n ≤ length left
 chosen true p out left n e f = absurd (let z : _≡_ {A = ℕ} 0 1 = cc in let y : ⊥ = omega arith in y)

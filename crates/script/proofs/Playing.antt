@@ -1,14 +1,11 @@
 -- One line, and all lines, as the code plays them.
 use Prim.Native.Nat.{ℕ, suc, _+_, _*_, _≤_, _<_}
-use mathlib.Core.List.{List, [], _∷_, _++_}
+use mathlib.Core.List.{List, _∷_}
 use mathlib.Core.Path.{_≡_, refl, sym, ap, _∙_, subst}
 use native.Mathlib.Omega.{arith}
-use native.Mathlib.Nat.{add-suc}
-use native.Mathlib.Numerals.{add-one}
-use lib.ListN.{length, take, drop, getD, replicate, length-drop, drop-of-length-le}
+use lib.ListN.{length, take, drop, replicate, length-drop, drop-of-length-le}
 use lib.Seq.{drop-drop}
 use Rattle.wire.specs.Promise.{Outcome, Lending}
-use Rattle.wire.specs.declared.refusal.Refusal.the-variants.{Range}
 use Rattle.wire.specs.Change.{AllBytes}
 use Rattle.wire.proofs.Bytes.{byte-at}
 use Rattle.text.specs.Lines.{lineOf, linesOf}
@@ -22,8 +19,8 @@ use Rattle.node.specs.Node.{powerUp}
 use Rattle.chain.specs.declared.table.Table.{Table}
 use Rattle.chain.specs.declared.table.Delivered.{Delivered}
 use Rattle.chain.specs.Table.{deliveredNumber, deliveredOf}
-use Rattle.script.specs.Answers.{answerLine, refusedLine}
-use Rattle.script.specs.Wrote.{far, Wrote, Line}
+use Rattle.script.specs.Answers.{answerLine}
+use Rattle.script.specs.Wrote.{Wrote, Line}
 use Rattle.script.specs.Bench.{zeros, startOf, Stepped, heard, refusedStep, onContent, stepOf, played, Lined}
 use Rattle.script.specs.declared.rehearsal.Step.{Step}
 use Rattle.script.proofs.Deliveries.{deliver-kept}

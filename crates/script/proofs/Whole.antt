@@ -12,14 +12,14 @@ use Rattle.wire.specs.declared.refusal.Refusal.the-variants.{Room}
 use Rattle.wire.specs.declared.buffer.Built.the-variants as built
 use Rattle.wire.proofs.Writing.{no-room, has-room}
 use Rattle.text.specs.Lines.{lineOf, linesOf}
-use Rattle.text.specs.Digits.{digitOf, decimalIn, decimalNumber}
+use Rattle.text.specs.Digits.{decimalIn, decimalNumber}
 use Rattle.text.specs.declared.digits.Decimal.{Decimal}
 use Rattle.text.specs.declared.digits.Decimal.the-variants.{Value, Malformed}
 use Rattle.text.proofs.Parts.{lines-step}
 use Rattle.text.proofs.Puts.{sets-start}
 use Rattle.chain.specs.declared.table.Table.{Table}
 use Rattle.script.specs.Wrote.{Wrote, Line}
-use Rattle.script.specs.Bench.{startOf, played, wrong, onCount, onDecimal, onLines, benchOf}
+use Rattle.script.specs.Bench.{startOf, played, wrong, onCount, onDecimal, benchOf}
 
 -- ---- by the count
 

@@ -3,7 +3,6 @@
 use chain::Delivery;
 use wire::Built;
 use wire::Refusal;
-ghost use mathlib.Core.Path.{_≡_};
 ghost use Prim.Native.Nat.{_+_, _≤_, _<_};
 ghost use lib.ListN.{length};
 ghost use Rattle.text.specs.Hex.{hexLine};
@@ -47,6 +46,7 @@ fn put_reply(out: &mut [u8], at: usize, reply: &[u8]) -> usize
     let mut line = [0; 64];
     match text::write_line(reply, &mut line) {
         Built::Bytes(n) => append(out, at, text::first(&line, n)),
+        // It never comes to this.
         Built::Refused(_) => at,
     }
 }

@@ -2,6 +2,4 @@
 mod answers;
 mod rehearsal;
 
-pub use rehearsal::MOST;
-pub use rehearsal::ROOM;
 pub use rehearsal::rehearse;

@@ -19,10 +19,7 @@ ghost use Rattle.script.specs.Wrote.{far, Wrote};
 ghost use Rattle.script.specs.Bench.{startOf, heard, refusedStep, stepOf, played, onCount, benchOf, Lined};
 
 // The longest input, 64 KiB.
-pub const MOST: usize = 65536;
-
-// Room for the longest output: no input has a longer one.
-pub const ROOM: usize = 655360;
+const MOST: usize = 65536;
 
 // The table after a line, and the place behind what was written for it.
 pub(crate) struct Step {

@@ -2,19 +2,17 @@
 use Prim.Native.Nat.{ℕ, _+_, _-_, _*_, _/_, _%_, _≤_, _<_}
 use mathlib.Core.Bool.{Bool, true, false, cond}
 use mathlib.Core.List.{List, [], _∷_, _++_}
-use mathlib.Core.Path.{_≡_, refl, sym, ap, _∙_}
+use mathlib.Core.Path.{_≡_, refl, sym, _∙_}
 use native.Mathlib.Omega.{arith}
 use native.Mathlib.Nat.{not-suc-le-zero}
 use lib.Dec.{eqb, ltb}
-use lib.ListN.{length, getD}
+use lib.ListN.{length}
 use borrow.Author.Tests.{lt-ltb, le-ltb, ne-eqb, ltb-true, ltb-false, eqb-true}
 use Rattle.wire.specs.Change.{AllBytes}
 use Rattle.text.specs.Lines.{newline, linesOf}
 use Rattle.text.specs.Digits.{digitOf, charOf, decimalOf, oneDigit, twoDigits, decimalIn}
 use Rattle.text.specs.Hex.{space, hexOf, hexRest, hexText, Content, bytes, malformed, pairBy, pairOf, before, onPair, packetIn, bytesIn}
-use Rattle.text.specs.declared.digits.Decimal.{Decimal}
 use Rattle.text.specs.declared.digits.Decimal.the-variants as decimal
-use Rattle.text.specs.declared.pairs.Pair.{Pair}
 use Rattle.text.specs.declared.pairs.Pair.the-variants.{Last, More, Bad}
 
 -- ---- digits

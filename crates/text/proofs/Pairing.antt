@@ -1,17 +1,16 @@
 -- A line of bytes, read pair by pair.
 use Prim.Native.Nat.{ℕ, suc, _+_, _*_, _≤_, _<_}
 use mathlib.Core.Bool.{Bool, true, false, cond, false≢true}
-use mathlib.Core.List.{List, [], _∷_, _++_}
+use mathlib.Core.List.{List, [], _∷_}
 use mathlib.Core.Path.{_≡_, refl, sym, ap, _∙_}
 use native.Mathlib.Omega.{arith}
 use native.Mathlib.Nat.{add-suc, suc-add, zero-add, not-suc-le-zero}
 use native.Mathlib.Numerals.{add-one}
 use lib.Dec.{eqb, ltb}
-use lib.ListN.{length, take, drop, getD, set, length-drop, length-set}
+use lib.ListN.{length, drop, getD, set, length-drop, length-set}
 use lib.Seq.{drop-drop, sets, take-nil}
 use borrow.Author.Tests.{le-ltb, ltb-false}
 use Rattle.wire.specs.Promise.{Lending, lent}
-use Rattle.wire.specs.Change.{AllBytes}
 use Rattle.text.specs.Digits.{digitOf}
 use Rattle.text.specs.Hex.{space, Content, bytes, malformed, pairBy, pairOf, before, onPair, packetIn, bytesIn, over, readInto, parsedNumber, Seen, whole, none, seen, laidFrom}
 use Rattle.text.specs.declared.pairs.Pair.{Pair}

@@ -105,12 +105,9 @@ laid x bs out h =
     ∙ sets-start out (hexLine (x ∷ bs)) (omega arith)
     ∙ ap (λ (i : ℕ). hexLine (x ∷ bs) ++ drop i out) m
 
-module _ (bytes out a d : List ℕ) (h : 1 ≤ length bytes) (fits : length bytes ≤ length out / 3) (e : a ≡ sets out 0 (hexOf (getD bytes 0 0))) (f : d ≡ drop 1 bytes) where
-  pub rest-room : 2 + 3 * length d ≤ length a
-  rest-room = rw (e, f) (omega (arith, length-drop 1 bytes, length-sets out 0 (hexOf (getD bytes 0 0))))
-
-  pub end-room : (b : List ℕ) → b ≡ sets a 2 (hexRest d) → 3 * length bytes - 1 < length b
-  end-room b g = rw (g, e) (omega (arith, length-sets (sets out 0 (hexOf (getD bytes 0 0))) 2 (hexRest d), length-sets out 0 (hexOf (getD bytes 0 0))))
+pub rest-room : (bytes out a d : List ℕ) → 1 ≤ length bytes → length bytes ≤ length out / 3 → a ≡ sets out 0 (hexOf (getD bytes 0 0)) → d ≡ drop 1 bytes
+    → 2 + 3 * length d ≤ length a
+rest-room bytes out a d h fits e f = rw (e, f) (omega (arith, length-drop 1 bytes, length-sets out 0 (hexOf (getD bytes 0 0))))
 
 pub line-long : (out a b d : List ℕ) (x i v : ℕ) → a ≡ sets out 0 (hexOf x) → b ≡ sets a 2 d → length (set b i v) ≡ length out
 line-long out a b d x i v e f = length-set b i v ∙ put-long a b d 2 (length out) f (put-long out a (hexOf x) 0 (length out) e refl)

@@ -1,6 +1,5 @@
 // Parts of a text: its first bytes, the rest, its first line.
 ghost use mathlib.Core.Path.{_≡_};
-ghost use Prim.Native.Nat.{_≤_};
 ghost use lib.ListN.{length, take, drop};
 ghost use Rattle.text.specs.Lines.{lineOf};
 

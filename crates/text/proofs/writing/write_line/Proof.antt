@@ -1,6 +1,6 @@
 -- The first byte, the others, the newline, where three characters for each byte have room.
 use borrow.Author.Needs.{needs}
-use Rattle.text.proofs.Puts.{line-empty, line-room, rest-room, end-room, line-long, line-done}
+use Rattle.text.proofs.Puts.{line-empty, line-room, rest-room, line-long, line-done}
 use Rattle.text.proofs.writing.write_line.Statement.{statement}
 use Rattle.text.proofs.writing.write_line.Tie as tie
 

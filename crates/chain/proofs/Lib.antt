@@ -5,5 +5,6 @@ pub mod Acting
 pub mod Validity
 pub mod Delivering
 pub mod Meaning
+pub mod Clashes
 pub mod Refusals
 pub mod Unique

@@ -14,10 +14,9 @@ use Rattle.wire.specs.declared.address.Individual.{Individual}
 use Rattle.wire.specs.declared.address.Group.{Group}
 use Rattle.wire.specs.declared.address.Address.{Address}
 use Rattle.wire.specs.declared.address.Address.the-variants as address
-use Rattle.wire.specs.Numbers.{done, numberOf}
+use Rattle.wire.specs.Numbers.{done}
 use Rattle.wire.specs.declared.refusal.Refusal.{Refusal}
 use Rattle.wire.specs.declared.refusal.Refusal.the-variants.{Room}
-use Rattle.wire.specs.declared.refusal.Refusal.the-variants as refusal
 use Rattle.command.specs.declared.Command.{Command}
 use Rattle.command.specs.declared.Command.the-variants.{SetAddress, DefineStatus, ReadStatus, SetPwm, SynchOutput, SetOutputs, SetSynchOutput, SetTimerMode, SynchInput, Nop, HardReset}
 use Rattle.command.specs.Build.{fitsOf, packetFor}
@@ -27,6 +26,7 @@ use Rattle.session.specs.declared.Exchange.the-variants.{Idle, Waiting}
 use Rattle.session.specs.declared.Session.{Session}
 use Rattle.session.specs.declared.End.the-variants.{Sent}
 use Rattle.session.specs.declared.Step.{Step}
+use Rattle.wire.proofs.Refusals.{not-done}
 use Rattle.host.specs.declared.checks.Check.{Check}
 use Rattle.host.specs.declared.checks.Check.the-variants.{Clear, Refuse}
 use Rattle.session.specs.Session.{offChain, refusedStep, isPlacing, nodeAt, givenPlace, stepNumber}
@@ -141,21 +141,6 @@ module _ (s : Session) (out : List ℕ) (why : Refusal) where
   pub regroup-refuses : (i : Individual) (g : Group) (leader : Bool) → regroupCheck s i g leader ≡ Refuse why → regroupOf s i g leader out ≡ refusing s why out
   unfolding regroupOf
   regroup-refuses i g leader h = rw h
-
--- no refusal has the number of a call that is done
-not-done : (why : Refusal) → numberOf why ≡ done → ⊥
-not-done refusal.Short h = omega arith
-not-done refusal.Header h = omega arith
-not-done refusal.Long h = omega arith
-not-done refusal.Sum h = omega arith
-not-done refusal.Room h = omega arith
-not-done refusal.Range h = omega arith
-not-done refusal.Busy h = omega arith
-not-done refusal.Idle h = omega arith
-not-done refusal.NotDue h = omega arith
-not-done refusal.NoNode h = omega arith
-not-done refusal.Led h = omega arith
-not-done refusal.Closed h = omega arith
 
 -- a call with number 0: its check was clear, and its packet went out
 pub record Went (k : Check) (s : Session) (line to : Address) (c : Command) (out : List ℕ) (o : Outcome Step (List ℕ)) : Type 0 where

@@ -28,15 +28,16 @@ use Rattle.line.specs.History.{Sending, Sent, counted}
 use Rattle.line.specs.Call.{Call, calledOf, whatOf, resets, Typed}
 use Rattle.line.specs.Line.{Line, quiet, going, coming, Arrives, Returns, nodesAfter, saidAfter, reportedOf, heardIn}
 use Rattle.line.specs.World.{World, hosting, callEnded, called, Comes, start, power, unpowered, call, deliver, report, stray, bench}
+use Rattle.wire.proofs.Refusals.{not-done}
 use Rattle.line.proofs.Due.{Due, Accepted, accepted, call-not-done, call-stays}
-use Rattle.line.proofs.Closing.{waitingAt, walked, due-opens, reported-concludes, conclusion}
+use Rattle.line.proofs.Closing.{waitingAt, due-opens, reported-concludes, conclusion}
 use Rattle.line.proofs.Exactly.{Exactly, exactly-step}
 use Rattle.line.proofs.Invariant.{at, Invariant, Exchanged}
 use Rattle.line.proofs.Peace.{no-clash}
 use Rattle.line.proofs.Delivery.{exchanged}
 use Rattle.line.proofs.Exchange.{exchange-step}
 use Rattle.line.proofs.Benching.{Benched, set-benched, benched-exchange, benched-invariant}
-use Rattle.line.proofs.Powering.{not-done, accepted-power, powered-invariant, powered-exactly}
+use Rattle.line.proofs.Powering.{accepted-power, powered-invariant, powered-exactly}
 
 -- no exchange is open
 pub record Settled (h : Session) (ns : List Node) (past : List Sent) : Type 0 where

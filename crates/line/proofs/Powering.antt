@@ -8,10 +8,7 @@ use native.Mathlib.Omega.{arith}
 use lib.Dec.{ltb}
 use lib.ListN.{length}
 use borrow.Author.Tests.{ltb-false}
-use Rattle.wire.specs.Numbers.{numberOf}
-use Rattle.wire.specs.declared.refusal.Refusal.{Refusal}
-use Rattle.wire.specs.declared.refusal.Refusal.the-variants as refusal
-use Rattle.wire.specs.declared.refusal.Refusal.the-variants.{Short, Header, Long, Sum, Room, Range, Busy, NotDue, NoNode, Led, Closed}
+use Rattle.wire.specs.declared.refusal.Refusal.the-variants.{Range}
 use Rattle.node.specs.declared.state.Bench.{Bench}
 use Rattle.node.specs.Effect.{settingsUp}
 use Rattle.node.specs.Node.{powerUp}
@@ -26,21 +23,6 @@ use Rattle.session.specs.Session.{poweredOf}
 use Rattle.session.proofs.Sessions.{or-false}
 use Rattle.line.proofs.Exactly.{Exactly}
 use Rattle.line.proofs.Invariant.{at, Invariant}
-
--- no refusal has the number 0
-pub not-done : (why : Refusal) → numberOf why ≡ 0 → ⊥
-not-done Short e = omega arith
-not-done Header e = omega arith
-not-done Long e = omega arith
-not-done Sum e = omega arith
-not-done Room e = omega arith
-not-done Range e = omega arith
-not-done Busy e = omega arith
-not-done refusal.Idle e = omega arith
-not-done NotDue e = omega arith
-not-done NoNode e = omega arith
-not-done Led e = omega arith
-not-done Closed e = omega arith
 
 -- the session of a power-up with n nodes
 abbrev pub freshAt : ℕ → Session

@@ -1,9 +1,0 @@
--- A second result that meets the contract is equal to the first.
-use mathlib.Core.Path.{_≡_, sym, _∙_}
-use denote.Ref.{now}
-use Rattle.chain.proofs.table.deliver.Reads as deliver
-
--- the answer with its table, and what the reply buffer holds
-pub deliver-unique : (κs : _) (a : _) (r r′ : _) (s s′ : _) → deliver.Post κs a r s → deliver.Post κs a r′ s′
-    → (r ≡ r′) × (now (s .1 .1 .0) ≡ now (s′ .1 .1 .0))
-deliver-unique κs a r r′ s s′ p q = (p .answer ∙ sym (q .answer), p .leaves ∙ sym (q .leaves))

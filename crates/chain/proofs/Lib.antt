@@ -1,10 +1,10 @@
 pub mod Ones
-pub mod Long
-pub mod Searching
-pub mod Acting
-pub mod Validity
-pub mod Delivering
+pub mod Members
+pub mod Surveying
+pub mod Deciding
 pub mod Meaning
 pub mod Clashes
+pub mod Flags
+pub mod Joining
 pub mod Refusals
 pub mod Unique

@@ -1,14 +1,9 @@
 -- A set of nodes is a number: node i is in it exactly if its binary digit i, counted from the lowest, is 1.
-use Prim.Native.Nat.{ℕ, zero, suc, _+_, _-_, _*_, _/_, _%_, _^_}
-use mathlib.Core.Bool.{Bool, true, false, cond}
+use Prim.Native.Nat.{ℕ, zero, suc, _+_, _-_, _/_, _%_, _^_}
+use mathlib.Core.Bool.{Bool, cond}
 use mathlib.Core.List.{List, [], _∷_}
 use lib.Count.{trailingZeros}
 use lib.Dec.{eqb}
-
--- those of a list of answers that are true, the first at index 0
-abbrev pub setOf : List Bool → ℕ
-setOf [] = 0
-setOf (b ∷ bs) = cond b 1 0 + setOf bs * 2
 
 -- the node of digit `weight` joins, in 32 digits
 abbrev pub joined : ℕ → ℕ → Bool → ℕ

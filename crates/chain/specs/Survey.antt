@@ -22,7 +22,7 @@ use Rattle.chain.specs.declared.survey.Seen.{Seen}
 use Rattle.chain.specs.declared.survey.Plan.{Plan}
 use Rattle.chain.specs.declared.survey.Plan.the-variants.{Refuse, Deliver}
 use Rattle.chain.specs.declared.survey.Survey.{Survey}
-use Rattle.chain.specs.One.{hears, meant, replies, sound, heardAs}
+use Rattle.chain.specs.One.{acts, replies, sound, heardAs}
 use Rattle.chain.specs.Chain.{replierOf}
 use Rattle.chain.specs.Sets.{joined, members}
 
@@ -38,18 +38,22 @@ incomingOf p = incomingBy (frameOf p) p
 abbrev pub start : Seen
 start = record { near = true; weight = 1; acting = 0; replying = 0; sound = true }
 
+-- every record so far is sound
+abbrev pub soundWith : Bool → Node → Bool
+soundWith b n = b && sound n
+
 -- one node more
 unfoldable pub glanceFor : Address → Seen → Node → Seen
 glanceFor to s n = record {
   near = n .addressed;
   weight = (s .weight + s .weight) % 2 ^ 32;
-  acting = joined (s .acting) (s .weight) (hears (s .near) n && meant to n);
+  acting = joined (s .acting) (s .weight) (acts to (s .near) n);
   replying = joined (s .replying) (s .weight) (replies to (s .near) n);
-  sound = s .sound && sound n;
+  sound = soundWith (s .sound) n;
 }
 
 unfoldable pub glancePast : Seen → Node → Seen
-glancePast s n = record { near = s .near; weight = s .weight; acting = s .acting; replying = s .replying; sound = s .sound && sound n }
+glancePast s n = record { near = s .near; weight = s .weight; acting = s .acting; replying = s .replying; sound = soundWith (s .sound) n }
 
 abbrev pub glanceOf : Incoming → Seen → Node → Seen
 glanceOf (Whole to h) s n = glanceFor to s n
@@ -61,8 +65,11 @@ glancesOf c s [] = s
 glancesOf c s (n ∷ ns) = glancesOf c (glanceOf c s n) ns
 
 -- who replies, if the packet is answered at all, and who acts
-unfoldable pub planFor : Heard → Seen → Plan
-planFor h s = Deliver (cond (isAnswered h) (replierOf (members (s .replying))) None) (s .acting) h
+unfoldable pub replierTo : Heard → ℕ → Replier
+replierTo h s = cond (isAnswered h) (replierOf (members s)) None
+
+abbrev pub planFor : Heard → Seen → Plan
+planFor h s = Deliver (replierTo h (s .replying)) (s .acting) h
 
 abbrev pub planBy : Incoming → Seen → Plan
 planBy (Whole to h) s = planFor h s

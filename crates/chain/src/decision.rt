@@ -1,7 +1,5 @@
 // What a delivery comes to, and who then acts.
 use crate::sets::Replier;
-use crate::sets::first;
-use crate::sets::without_first;
 use crate::survey::Plan;
 use crate::survey::Survey;
 use node::Heard;
@@ -82,8 +80,9 @@ fn decide_by(
 pub(crate) fn decide(survey: Survey, reply: &mut [u8]) -> Decided
     ensures { λ r. ⌜ record { answer = r; left = now (reply .exit) } ≡ decidedOf survey (now (reply .entry)) ⌝ }
 {
+    let plan = survey.plan;
     let speaker = survey.speaker;
-    match survey.plan {
+    match plan {
         Plan::Refuse(why) => refuse(why),
         Plan::Deliver {
             replier,
@@ -107,5 +106,6 @@ pub(crate) fn reach(n: usize) -> usize
 pub(crate) fn act(n: Node, d: Decided) -> Node
     ensures { λ r. ⌜ r ≡ taken (d .heard) n ⌝ }
 {
-    n.take(d.heard)
+    let heard = d.heard;
+    n.take(heard)
 }

@@ -2,7 +2,7 @@
 use node::Node;
 use wire::Address;
 ghost use mathlib.Core.Path.{_≡_};
-ghost use Rattle.chain.specs.One.{hears, meant, answers, sound, replies};
+ghost use Rattle.chain.specs.One.{hears, meant, answers, acts, replies, sound};
 
 // Near: the node is first, or the node before it is addressed.
 pub(crate) fn does_hear(n: Node, near: bool) -> bool
@@ -47,6 +47,16 @@ pub(crate) fn is_sound(n: Node) -> bool
     let group = n.settings.place.group;
     if address.in_range() {
         return group.in_range();
+    }
+    false
+}
+
+// Whether the node acts on a packet.
+pub(crate) fn does_act(n: Node, near: bool, to: Address) -> bool
+    ensures { λ r. ⌜ r ≡ acts to near n ⌝ }
+{
+    if does_hear(n, near) {
+        return is_meant(n, to);
     }
     false
 }

@@ -1,7 +1,6 @@
 // A packet and a look at each node: who acts, who replies, and whether the table can be used at all.
-use crate::one::does_hear;
+use crate::one::does_act;
 use crate::one::does_reply;
-use crate::one::is_meant;
 use crate::one::is_sound;
 use crate::sets::Replier;
 use crate::sets::join;
@@ -13,7 +12,7 @@ use packet::Framed;
 use wire::Address;
 use wire::Refusal;
 ghost use mathlib.Core.Path.{_≡_};
-ghost use Rattle.chain.specs.Survey.{incomingOf, start, glanceFor, glancePast, glanceOf, planFor, planOf, speakerIn, speakerOf, surveyWith, surveyAlone};
+ghost use Rattle.chain.specs.Survey.{incomingOf, start, soundWith, glanceFor, glancePast, glanceOf, replierTo, planFor, planOf, speakerIn, speakerOf, surveyWith, surveyAlone};
 
 // A packet as it comes in: whom it is for and what it says, or why it can't be read.
 pub(crate) enum Incoming {
@@ -78,24 +77,26 @@ pub(crate) fn start() -> Seen
     }
 }
 
+// Whether every record so far is sound, with this one.
+fn is_still_sound(sound: bool, n: Node) -> bool
+    ensures { λ r. ⌜ r ≡ soundWith sound n ⌝ }
+{
+    if sound {
+        return is_sound(n);
+    }
+    false
+}
+
 // One node more, of a packet for `to`.
 fn glance_for(seen: Seen, n: Node, to: Address) -> Seen
     ensures { λ r. ⌜ r ≡ glanceFor to seen n ⌝ }
 {
-    let mut acts = false;
-    if does_hear(n, seen.near) {
-        acts = is_meant(n, to);
-    }
-    let mut sound = false;
-    if seen.sound {
-        sound = is_sound(n);
-    }
     Seen {
         near: n.addressed,
         weight: std::num::wrapping_add_u32(seen.weight, seen.weight),
-        acting: join(seen.acting, seen.weight, acts),
+        acting: join(seen.acting, seen.weight, does_act(n, seen.near, to)),
         replying: join(seen.replying, seen.weight, does_reply(n, seen.near, to)),
-        sound,
+        sound: is_still_sound(seen.sound, n),
     }
 }
 
@@ -103,12 +104,8 @@ fn glance_for(seen: Seen, n: Node, to: Address) -> Seen
 fn glance_past(seen: Seen, n: Node) -> Seen
     ensures { λ r. ⌜ r ≡ glancePast seen n ⌝ }
 {
-    let mut sound = false;
-    if seen.sound {
-        sound = is_sound(n);
-    }
     let mut next = seen;
-    next.sound = sound;
+    next.sound = is_still_sound(seen.sound, n);
     next
 }
 
@@ -122,16 +119,22 @@ pub(crate) fn glance(seen: Seen, n: Node, incoming: Incoming) -> Seen
     }
 }
 
+// Who replies to a packet, of those that it calls.
+fn replier_to(heard: Heard, replying: u32) -> Replier
+    ensures { λ r. ⌜ r ≡ replierTo heard replying ⌝ }
+{
+    if heard.is_answered() {
+        return search(replying);
+    }
+    Replier::None
+}
+
 // A packet that says `heard`, to a table that can be used.
 fn plan_for(heard: Heard, seen: Seen) -> Plan
     ensures { λ r. ⌜ r ≡ planFor heard seen ⌝ }
 {
-    let mut replier = Replier::None;
-    if heard.is_answered() {
-        replier = search(seen.replying);
-    }
     Plan::Deliver {
-        replier,
+        replier: replier_to(heard, seen.replying),
         acting: seen.acting,
         heard,
     }

@@ -146,8 +146,3 @@ actors-turn to h near (n ∷ ns) =
     let bs = flags (acts to) (n .addressed) ns in
     visit-step h b (setOf (b ∷ bs)) n ns (turnedFrom to h (n .addressed) ns) (low b bs)
     (ap (λ (x : ℕ). visited h x ns) (high b bs) ∙ actors-turn to h (n .addressed) ns)
-
--- nobody acts
-pub nobody-acts : (h : Heard) (ns : List Node) → visited h 0 ns ≡ ns
-nobody-acts h [] = refl
-nobody-acts h (n ∷ ns) = ap (λ (l : List Node). n ∷ l) (nobody-acts h ns)

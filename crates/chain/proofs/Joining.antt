@@ -39,7 +39,8 @@ use Rattle.chain.specs.Sets.{membersFrom, members}
 use Rattle.chain.specs.Survey.{incomingBy, incomingOf, start, glancesOf, replierTo, planBy, planOf, speakerIn, speakerOf, nobody, surveyOf}
 use Rattle.chain.specs.Decision.{decidedBuilt, decidedOne, decidedBy, decidedPlan, decidedOf, visited}
 use Rattle.chain.specs.Delivery.{Lent, valid, onBuilt, onSaid, deliveredTo, onFrame, deliveredOn, refused, deliveryNumber}
-use Rattle.chain.proofs.Flags.{flags, setOf, seen-acting, seen-replying, seen-sound, repliers-are, actors-turn, nobody-acts}
+use Rattle.chain.proofs.Flags.{flags, setOf, seen-acting, seen-replying, seen-sound, repliers-are, actors-turn}
+use Rattle.chain.proofs.Visiting.{visit-none}
 use Rattle.chain.proofs.Meaning.{replier-below}
 
 -- what a decision comes to, on the nodes ns
@@ -54,12 +55,12 @@ getD-any (x ∷ l) (suc i) d e p = getD-any l i d e (le-of-suc-le-suc p)
 
 -- a refusal leaves all as it stood
 refused-all : (why : Refusal) (n : Node) (ns : List Node) (out : List ℕ) → came (decidedPlan (Refuse why) n out) ns ≡ refused why ns out
-refused-all why n ns out = rw (nobody-acts Other ns)
+refused-all why n ns out = rw (visit-none Other ns)
 
 module _ (to : Address) (h : Heard) (ns : List Node) (out : List ℕ) (acting : ℕ) (acted : visited h acting ns ≡ after to h ns) where
   by-built : (b : Built) (left : List ℕ) → came (record { answer = decidedBuilt b acting h; left = left }) ns ≡ onBuilt b to h ns left
   by-built (built.Bytes n) left = rw acted
-  by-built (built.Refused why) left = rw (nobody-acts Other ns)
+  by-built (built.Refused why) left = rw (visit-none Other ns)
 
   -- by who replies; the one that does is a node of the chain
   by-replier : (r : Replier) → ((i : ℕ) → r ≡ One i → i < length ns)

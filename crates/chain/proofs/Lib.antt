@@ -1,10 +1,12 @@
 pub mod Ones
 pub mod Members
+pub mod Visiting
 pub mod Surveying
+pub mod Seeing
 pub mod Deciding
 pub mod Meaning
 pub mod Clashes
 pub mod Flags
 pub mod Joining
 pub mod Refusals
-pub mod Unique
+pub mod Lengths

@@ -10,3 +10,4 @@ pub mod Flags
 pub mod Joining
 pub mod Refusals
 pub mod Lengths
+pub mod Unique

@@ -31,7 +31,7 @@ use Rattle.session.specs.declared.Session.{Session}
 use Rattle.session.specs.Session.{validOf, poweredOf, closedOf, askDue, givenPlace, nodeAt}
 use Rattle.host.specs.Calls.{waitingOf, readyCheck, nextCheck, askCheck, orderCheck, opened, transmitted, nextOf, askOf, orderOf}
 use Rattle.reports.specs.Report.{giving, asking, concluded, finished, reportOf}
-use Rattle.reports.specs.Examples.{buffer, knownBut, entryWith, addressed, pair}
+use Rattle.examples.specs.Example.{buffer, knownBut, entryWith, addressed, pair}
 use Rattle.line.specs.History.{Sending, Sent, gives, asks, sends}
 use Rattle.line.specs.Call as calls
 use Rattle.line.specs.Line.{Line, quiet, going, Arrives, Returns, nodesAfter, saidAfter, reportedOf, heardIn}

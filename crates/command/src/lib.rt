@@ -1,4 +1,6 @@
 // The commands of an LS-773: one enum, whose cases carry their own data; read from a packet's parts, and built.
+// Promised: a built packet reads back as the same command, an accepted one is the one built from its command.
+// Left to others: header and sum (packet), and what a command does (node).
 use wire::Address;
 use wire::Built;
 use wire::Group;

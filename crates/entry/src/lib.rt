@@ -1,4 +1,6 @@
 // One node's entry in the host's record: its settings as last known, which of them are known, and what an answer makes of it.
+// Promised: only what the command writes changes, by the node's own table of effects; doubt changes no value.
+// Left to others: which nodes a command goes to (ledger), and how a reply is judged (status).
 use command::Command;
 use node::Settings;
 use status::Answer;

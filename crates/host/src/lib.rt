@@ -1,4 +1,6 @@
-// The calls that send: the host addresses the chain and sends commands. It never guesses.
+// The calls that send: the host addresses the chain and sends commands.
+// Promised: the refusals in the paper's order, else the packet at the start of the lent buffer and its exchange opened; any number but 0 changes nothing.
+// Left to others: the bytes on the line, how long to wait for a reply (the caller), and what it comes to (reports).
 mod calls;
 mod checks;
 

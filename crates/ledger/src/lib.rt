@@ -1,4 +1,6 @@
 // The host's record of all nodes: 31 entries, of which those of nodes 1 to n are told of every exchange.
+// Promised: node by node what its entry makes of the exchange; who stands in a leader's way.
+// Left to others: which command waits, and how far the walk is (session, reports).
 use command::Command;
 use entry::Entry;
 use entry::Reach;

@@ -1,4 +1,6 @@
-// The commands of a ready session, each to a node 1 to n or to a group. Set Address is not among them: see host's "next" and "regroup".
+// The ten commands of a ready session, each to a node 1 to n or to a group.
+// Promised: each is `host::order` of its own command.
+// Left to others: Set Address, which host's `next` and `regroup` send.
 use command::Command;
 use command::Held;
 use command::Pwm;

@@ -1,5 +1,5 @@
 -- What a reply is: its length, its sum, how the host judges it, and that it reads back under its mask as its items.
-use Prim.Native.Nat.{ℕ, suc, _+_, _-_, _≤_, _<_}
+use Prim.Native.Nat.{ℕ, suc, _+_, _≤_, _<_}
 use mathlib.Core.List.{List, [], _∷_}
 use mathlib.Core.Bool.{Bool, true, false}
 use mathlib.Core.Path.{_≡_, refl, ap, _∙_}
@@ -9,7 +9,7 @@ use Rattle.wire.specs.Sum.{endsInSum}
 use Rattle.wire.specs.Change.{Altered, AllBytes}
 use Rattle.wire.proofs.Sums.{with-sum-ends}
 use Rattle.wire.proofs.Bytes.{append-bytes}
-use Rattle.status.specs.Status.{T, statusOf, itemsOf, cleared, judged}
+use Rattle.status.specs.Status.{T, itemsOf, cleared, judged}
 use Rattle.status.specs.declared.Status.the-variants.{Whole}
 use Rattle.status.specs.declared.Answer.the-variants.{Clear, Marked, Silent}
 use Rattle.status.proofs.Replies.{status-length, built-reads, built-items, judged-built, judged-altered}
@@ -21,8 +21,8 @@ use Rattle.node.specs.declared.heard.Heard.{Heard}
 use Rattle.node.specs.declared.heard.Heard.the-variants.{Intact, Other, Spoilt}
 use Rattle.node.specs.Heard.{taken}
 use Rattle.reply.specs.declared.Item.{Item}
-use Rattle.reply.specs.Items.{bytesOf, itemTable, counts, bit, asked, askedFrom, itemBytes, countFrom, sizeOf}
-use Rattle.reply.specs.Reply.{maskFor, statusByte, replyOf}
+use Rattle.reply.specs.Items.{bytesOf, itemTable, bit, asked, askedFrom, itemBytes, sizeOf}
+use Rattle.reply.specs.Reply.{maskFor, statusByte, replyOf, readUnder}
 use Rattle.reply.proofs.Bytes.{bytes-are}
 use Rattle.reply.proofs.Counts.{items-length, items-fit, count-fits}
 
@@ -67,21 +67,27 @@ altered-silent h n t a = judged-altered (statusByte h) (itemBytes (maskFor h n) 
 -- ---- read back under the mask
 
 -- as a whole status packet, with the status byte that was sent
-pub reply-reads : (h : Heard) (n : Node) → statusOf (replyOf h n) (sizeOf (maskFor h n) - 2) ≡ Whole (statusByte h)
-unfolding replyOf sizeOf
+pub reply-reads : (h : Heard) (n : Node) → readUnder (maskFor h n) (replyOf h n) ≡ Whole (statusByte h)
+unfolding replyOf readUnder
 reply-reads h n =
     let m : ℕ = maskFor h n in
-    let k : 2 + countFrom 0 m counts - 2 ≡ length (itemBytes m (taken h n)) = omega (arith, items-length m (taken h n)) in
-    rw k (built-reads (statusByte h) (itemBytes m (taken h n)))
+    rw (← (items-length m (taken h n))) (built-reads (statusByte h) (itemBytes m (taken h n)))
 
 -- and the items asked for, as the node holds them once it has acted
 pub reply-items : (h : Heard) (n : Node) → itemsOf (replyOf h n) ≡ itemBytes (maskFor h n) (taken h n)
 unfolding replyOf
 reply-items h n = built-items (statusByte h) (itemBytes (maskFor h n) (taken h n))
 
+-- ---- others
+
+-- "replied to as a Nop is"
+pub other-as-nop : (n : Node) → replyOf Other n ≡ replyOf (Intact Nop) n
+unfolding replyOf
+other-as-nop n = refl
+
 -- ---- which mask
 
--- "The status packet returned in response to this command will include the additional data bytes specified": Define Status is answered under its own mask
+-- Define Status is answered under the mask that it sets
 pub define-mask : (m : ℕ) (n : Node) → maskFor (Intact (DefineStatus m)) n ≡ m
 define-mask m n = refl
 

@@ -1,4 +1,6 @@
 // Reporting: an open exchange is closed by what was received, or by silence.
+// Promised: the record after it, node by node, and the walk; 8 where no exchange is open.
+// Left to others: when silence is silence (the caller).
 use command::Command;
 use entry::Entry;
 use session::End;

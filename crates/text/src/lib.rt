@@ -1,4 +1,6 @@
 // Text of the bench: lines, bytes as two-digit capitals with single spaces, decimal numbers.
+// Promised: what is written is read back, and only what is so written is of its form.
+// Left to others: what the bytes mean, and how many of them a caller keeps.
 mod digits;
 mod lines;
 mod pairs;

@@ -1,4 +1,6 @@
 // What every LDCN packet is made of: the paper's numbers, addresses, the 8-bit sum, and writing into a lent buffer.
+// Promised: a byte names one address and comes back from it; one changed byte always breaks a sum; what has no room leaves the buffer.
+// Left to others: what a packet is (packet, status), and which refusal comes first.
 mod address;
 mod buffer;
 mod checksum;

@@ -1,0 +1,32 @@
+-- A status packet has two bytes besides its items.
+use borrow.Author.Needs.{needs}
+use native.Mathlib.Omega.{arith}
+use Prim.Native.Nat.{ℕ, _-_, _≤_}
+use mathlib.Core.List.{List}
+use mathlib.Core.Path.{_≡_}
+use Rattle.wire.specs.Promise.{Promise}
+use Rattle.status.specs.Status.{statusOf, statusNumber}
+use Rattle.status.specs.declared.Status.{Status}
+use Rattle.reply.specs.Items.{counts, countFrom, sizeOf}
+use Rattle.reply.specs.Reply.{readUnder}
+use Rattle.reply.proofs.read.Statement.{statement}
+use Rattle.reply.proofs.read.Tie as tie
+
+two : (m k : ℕ) → k ≡ sizeOf m → 2 ≤ k
+unfolding sizeOf
+two m k e = omega arith
+
+under : (m k : ℕ) (s : List ℕ) (r : Status) → k ≡ sizeOf m → Promise statusNumber r (statusOf s (k - 2)) → Promise statusNumber r (readUnder m s)
+unfolding sizeOf readUnder
+under m k s r e p =
+    let n : k - 2 ≡ countFrom 0 m counts = omega arith in
+    rw n at p
+
+pub read-spec : {M : Type 1} → statement M
+read-spec =
+    tie.close
+    (tie.spec
+    (λ c κs. search needs)
+    (λ c. omega (arith, two _ _ (c .size .ensures)))
+    (λ c κs. search needs)
+    (λ c. search under))

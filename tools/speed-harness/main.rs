@@ -66,8 +66,8 @@ const ROUNDS: usize = 41;
 const CHECKED: usize = 200_000;
 const CHECKED_TEXTS: u64 = 100;
 
-/// The last two columns but one and the last say how many times as long ours
-/// takes, and how many times as many instructions it runs.
+/// Ours takes so many times as long as that side, and runs so many times as
+/// many instructions.
 const HEAD: &str = "\
 | Nodes | Side                    | Packets/s | ns/packet | Ours takes | Instructions/packet | Ours runs |
 |------:|-------------------------|----------:|----------:|-----------:|--------------------:|----------:|";

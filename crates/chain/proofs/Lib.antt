@@ -1,6 +1,7 @@
 pub mod Ones
 pub mod Members
 pub mod Visiting
+pub mod Shared
 pub mod Surveying
 pub mod Seeing
 pub mod Deciding

@@ -92,6 +92,13 @@ pub(crate) fn decide(survey: Survey, reply: &mut [u8]) -> Decided
     }
 }
 
+// The answer alone.
+pub(crate) fn answer_of(d: Decided) -> Delivery
+    ensures { λ r. ⌜ r ≡ d .answer ⌝ }
+{
+    d.answer
+}
+
 // How far a set of nodes reaches along a table of n.
 pub(crate) fn reach(n: usize) -> usize
     ensures { λ r. ⌜ r ≡ reachOf n ⌝ }

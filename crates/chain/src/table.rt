@@ -2,6 +2,7 @@
 use crate::decision::Decided;
 use crate::decision::Delivery;
 use crate::decision::act;
+use crate::decision::answer_of;
 use crate::decision::decide;
 use crate::decision::reach;
 use crate::sets::first;
@@ -63,5 +64,5 @@ pub fn deliver(table: &mut [Node], packet: &[u8], reply: &mut [u8]) -> Delivery
     let seen = survey_all(table, incoming);
     let decided = decide(seen, reply);
     act_all(table, decided);
-    decided.answer
+    answer_of(decided)
 }

@@ -1,7 +1,6 @@
 -- A second result that meets a contract is equal to the first, for each public function.
 use mathlib.Core.Path.{_≡_, sym, _∙_}
 use denote.Ref.{now}
-use Rattle.wire.specs.Promise.{Lending}
 use Rattle.host.proofs.calls.next.Reads as next
 use Rattle.host.proofs.calls.ask.Reads as ask
 use Rattle.host.proofs.calls.order.Reads as order

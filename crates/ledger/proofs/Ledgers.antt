@@ -16,7 +16,8 @@ use Rattle.command.specs.declared.Command.the-variants.{HardReset}
 use Rattle.status.specs.declared.Answer.{Answer}
 use Rattle.node.specs.Setting.{place}
 use Rattle.entry.specs.declared.Entry.{Entry}
-use Rattle.entry.specs.Entry.{knows, shows, entryUp, noted, doubted}
+use Rattle.entry.specs.Entry.{knows, shows, entryUp, noted, doubted, Quiet}
+use Rattle.entry.proofs.Entries.{quiet-noted}
 use Rattle.ledger.specs.Ledger.{ledgerUp, leastOf, reachOf, eachFrom, settling, settled, forgotten, rivals, ledFrom, isLed}
 use Rattle.ledger.proofs.Turns.{length-each}
 
@@ -57,6 +58,17 @@ module _ (a : Answer) (to : Address) (c : Command) (n : ℕ) (es : List Entry) w
   pub settled-past : (i : ℕ) (d : Entry) → n ≤ 31 → n ≤ i → getD (settled a to c n es) i d ≡ getD es i d
   unfolding settled
   settled-past i d h p = past-each (settling a to c) 1 (leastOf n) i es d (rw (least-is n h) p)
+
+same-each : (f : ℕ → Entry → Entry) → ((k : ℕ) (e : Entry) → f k e ≡ e) → (j n : ℕ) (es : List Entry) → eachFrom f j n es ≡ es
+unfolding eachFrom
+same-each f h j zero es = refl
+same-each f h j (suc n) [] = refl
+same-each f h j (suc n) (e ∷ es) = rw (h j e, same-each f h (suc j) n es)
+
+-- Nop, Read Status and Synch Input leave the record
+pub settled-quiet : {c : Command} → Quiet c → (a : Answer) (to : Address) (n : ℕ) (es : List Entry) → settled a to c n es ≡ es
+unfolding settled
+settled-quiet {c} q a to n es = same-each (settling a to c) (λ k e. quiet-noted q a (reachOf to k e) e) 1 (leastOf n) es
 
 -- after a Hard Reset
 pub length-forgotten : (es : List Entry) → length (forgotten es) ≡ length es

@@ -1,7 +1,6 @@
 -- A second result that meets a contract is equal to the first, for each public function: the result, and what the lent buffer holds.
 use mathlib.Core.Path.{_≡_, sym, _∙_}
 use denote.Ref.{now}
-use Rattle.wire.specs.Promise.{Lending}
 use Rattle.orders.proofs.nop.Reads as nop
 use Rattle.orders.proofs.define_status.Reads as define-status
 use Rattle.orders.proofs.read_status.Reads as read-status

@@ -1,6 +1,5 @@
 -- A second result that meets a contract is equal to the first, for each public function.
 use mathlib.Core.Path.{sym, _∙_}
-use Rattle.wire.specs.Promise.{Promise}
 use Rattle.wire.proofs.OneResult.{OneResult}
 use Rattle.reports.proofs.report.Reads as report
 use Rattle.reports.proofs.silence.Reads as silence

@@ -1,4 +1,4 @@
--- A packet laid out by stores: what `build` and `build_status` leave in the buffer.
+-- A packet laid out by stores: what `packet::build` and `status::build` leave in the buffer.
 use Prim.Native.Nat.{ℕ, suc, _+_, _≤_, _<_}
 use mathlib.Core.Bool.{Bool, true, false, cond}
 use mathlib.Core.Path.{_≡_, refl, ap, _∙_}

@@ -15,6 +15,7 @@ use Rattle.wire.specs.declared.refusal.Refusal.{Refusal}
 use Rattle.wire.specs.declared.refusal.Refusal.the-variants.{Short, Header, Long, Sum, Room, Range, Busy, Idle, NotDue, NoNode, Led, Closed}
 use Rattle.wire.specs.declared.buffer.Built.{Built}
 use Rattle.wire.specs.declared.buffer.Built.the-variants as built
+use Rattle.wire.proofs.Writing.{place-long}
 use Rattle.text.specs.Lines.{newline}
 use Rattle.text.specs.Digits.{decimalOf}
 use Rattle.text.specs.Hex.{hexLine}

@@ -12,6 +12,8 @@ ghost use Prim.Native.Nat.{_≤_};
 ghost use lib.ListN.{length};
 
 // How many records a line may lend, and a table has room for.
+const MOST_RECORDS: u8 = 33;
+
 const NODES: usize = 33;
 
 // Whether s starts with so many node records.
@@ -89,7 +91,7 @@ pub(crate) fn deliver(args: &[u8], out: &mut [u8]) -> usize {
         return 0;
     }
     let count = args[1];
-    if NODES < count as usize {
+    if MOST_RECORDS < count {
         return 0;
     }
     let records = rest(args, 2);

@@ -1,4 +1,4 @@
--- At most 31 turns.
+-- At most 33 turns.
 use Prim.Native.Nat.{_-_}
 use mathlib.Core.Path.{_≡_}
 use lib.ListN.{length}
@@ -10,7 +10,7 @@ abbrev Inv-loop : tie.InvT-loop
 Inv-loop out₀ at count t end₀ i₀ out end i = length out ≡ length out₀
 
 abbrev μ-loop : tie.MeasureT-loop
-μ-loop out₀ at count t end₀ i₀ out end i = 31 - i
+μ-loop out₀ at count t end₀ i₀ out end i = 33 - i
 
 pub put-nodes-spec : {M : Type 1} → statement M
 put-nodes-spec =

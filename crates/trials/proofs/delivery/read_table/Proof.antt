@@ -1,14 +1,14 @@
--- 31 turns.
+-- 33 turns.
 use Prim.Native.Nat.{_≤_, _-_}
 use borrow.Author.Needs.{needs}
 use Rattle.trials.proofs.delivery.read_table.Statement.{statement}
 use Rattle.trials.proofs.delivery.read_table.Tie as tie
 
 abbrev Inv-loop : tie.InvT-loop
-Inv-loop s count table₀ i₀ table i = i ≤ 31
+Inv-loop s count table₀ i₀ table i = i ≤ 33
 
 abbrev μ-loop : tie.MeasureT-loop
-μ-loop s count table₀ i₀ table i = 31 - i
+μ-loop s count table₀ i₀ table i = 33 - i
 
 pub read-table-spec : {M : Type 1} → statement M
 read-table-spec =

@@ -9,8 +9,8 @@ use Rattle.wire.specs.declared.address.Address.{Address}
 use Rattle.node.specs.declared.state.Node.{Node}
 use Rattle.node.specs.declared.heard.Heard.{Heard}
 use Rattle.node.specs.Heard.{isAnswered}
-use Rattle.chain.specs.declared.table.Replier.{Replier}
-use Rattle.chain.specs.declared.table.Replier.the-variants.{None, One, Several}
+use Rattle.chain.specs.declared.sets.Replier.{Replier}
+use Rattle.chain.specs.declared.sets.Replier.the-variants.{None, One, Several}
 use Rattle.chain.specs.One.{replies}
 use Rattle.chain.specs.Chain.{repliersFrom, replierOf, replierIn, silence, clash, said, saidBy, blank, nearAt, repliesAt}
 

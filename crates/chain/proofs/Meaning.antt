@@ -5,20 +5,17 @@ use mathlib.Core.List.{List, [], _∷_}
 use mathlib.Core.Path.{_≡_, refl, sym, ap, _∙_}
 use native.Mathlib.Omega.{arith}
 use native.Mathlib.Nat.{not-suc-le-zero, le-of-suc-le-suc, add-suc, suc-add, add-zero, zero-add}
-use lib.ListN.{length, getD, drop}
-use lib.Seq.{drop-at, length-take-le}
+use lib.ListN.{length, getD}
 use Rattle.wire.specs.declared.address.Address.{Address}
 use Rattle.node.specs.declared.state.Node.{Node}
 use Rattle.node.specs.declared.heard.Heard.{Heard}
 use Rattle.node.specs.declared.heard.Heard.the-variants.{Other, Spoilt}
 use Rattle.node.specs.Heard.{taken, isAnswered}
 use Rattle.reply.specs.Reply.{replyOf}
-use Rattle.chain.specs.declared.table.Table.{Table}
-use Rattle.chain.specs.declared.table.Replier.{Replier}
-use Rattle.chain.specs.declared.table.Replier.the-variants.{None, One, Several}
-use Rattle.chain.specs.One.{hears, meant, replies, turned}
+use Rattle.chain.specs.declared.sets.Replier.{Replier}
+use Rattle.chain.specs.declared.sets.Replier.the-variants.{None, One, Several}
+use Rattle.chain.specs.One.{hears, meant, acts, replies, turned}
 use Rattle.chain.specs.Chain.{turnedFrom, after, repliersFrom, replierOf, replierIn, Said, silence, reply, said, saidBy, blank, nearAt, hearsAt, repliesAt}
-use Rattle.chain.specs.Table.{nodesOf, tableAfter}
 
 -- ---- the nodes afterwards
 
@@ -40,7 +37,7 @@ turned-at to h near (n ∷ ns) (suc (suc i)) b = turned-at to h (n .addressed) n
 -- a node that hears and is meant has taken the packet; every other stands as it stood
 pub after-at : (to : Address) (h : Heard) (l : List Node) (i : ℕ) → i < length l
     → getD (after to h l) i blank ≡ cond (hearsAt l i && meant to (getD l i blank)) (taken h (getD l i blank)) (getD l i blank)
-unfolding after turned
+unfolding after turned acts
 after-at to h l i b = turned-at to h true l i b
 
 same : (t : Bool) (n : Node) → cond t n n ≡ n
@@ -48,7 +45,7 @@ same true n = refl
 same false n = refl
 
 unmoved : (to : Address) (h : Heard) → ((n : Node) → taken h n ≡ n) → (near : Bool) (l : List Node) → turnedFrom to h near l ≡ l
-unfolding turned
+unfolding turned acts
 unmoved to h f near [] = refl
 unmoved to h f near (n ∷ ns) = rw (f n, same (hears near n && meant to n) n, unmoved to h f (n .addressed) ns)
 
@@ -60,15 +57,6 @@ spoilt-stays to l = unmoved to Spoilt (λ n. refl) true l
 pub other-stays : (to : Address) (l : List Node) → after to Other l ≡ l
 unfolding after
 other-stays to l = unmoved to Other (λ n. refl) true l
-
--- nodes past the count are never touched
-pub past-stays : (to : Address) (h : Heard) (t : Table) → t .count ≤ length (t .nodes)
-    → (drop (t .count) (tableAfter to h t .nodes) ≡ drop (t .count) (t .nodes)) × (tableAfter to h t .count ≡ t .count)
-unfolding tableAfter
-past-stays to h t b = (
-  drop-at (after to h (nodesOf t)) (drop (t .count) (t .nodes)) (t .count) (length-after to h (nodesOf t) ∙ length-take-le (t .count) (t .nodes) b),
-  refl,
-)
 
 -- ---- what is heard on the line
 
@@ -156,6 +144,10 @@ found-step to near n ns i m false y f e = shift to near n ns i m (f e)
 found-from : (to : Address) (i : ℕ) (near : Bool) (l : List Node) (m : ℕ) → replierOf (repliersFrom to i near l) ≡ One m → Found to near l i m
 found-from to i near [] m e = absurd (none-one m e)
 found-from to i near (n ∷ ns) m e = found-step to near n ns i m (replies to near n) refl (found-from to (suc i) (n .addressed) ns m) e
+
+pub replier-below : (to : Address) (l : List Node) (i : ℕ) → replierIn to l ≡ One i → i < length l
+unfolding replierIn
+replier-below to l i e = let f = found-from to 0 true l i e in omega (arith, f .index, f .inside)
 
 -- the one reply is that of a node of the chain that hears and is called
 pub record Replying (to : Address) (h : Heard) (l : List Node) (r : List ℕ) : Type 0 where

@@ -9,7 +9,7 @@ use Rattle.wire.specs.declared.address.Address.the-variants as address
 use Rattle.node.specs.declared.state.Node.{Node}
 use Rattle.node.specs.declared.heard.Heard.{Heard}
 use Rattle.node.specs.Heard.{taken}
-use Rattle.chain.specs.One.{hears, meant, answers, sound, replies, turned}
+use Rattle.chain.specs.One.{hears, meant, answers, acts, sound, replies}
 
 -- an address that was matched as d
 pub told-meant : (to d : Address) (n : Node) (r : Bool) → to ≡ d → r ≡ meant d n → r ≡ meant to n
@@ -36,6 +36,14 @@ module _ (n : Node) (a g : Bool) (p : a ≡ isIndividual (n .settings .place .ad
   not-sound e = rw (sym p ∙ e)
 
 module _ (to : Address) (near : Bool) (n : Node) (h : Bool) (q : h ≡ hears near n) where
+  pub acts-heard : (x : Bool) → x ≡ meant to n → h ≡ true → x ≡ acts to near n
+  unfolding acts
+  acts-heard x p e = rw (sym q ∙ e) p
+
+  pub acts-unheard : h ≡ false → false ≡ acts to near n
+  unfolding acts
+  acts-unheard e = rw (sym q ∙ e)
+
   pub reply-heard : (x : Bool) → x ≡ answers to n → h ≡ true → x ≡ replies to near n
   unfolding replies
   reply-heard x p e = rw (sym q ∙ e) p
@@ -43,16 +51,3 @@ module _ (to : Address) (near : Bool) (n : Node) (h : Bool) (q : h ≡ hears nea
   pub reply-unheard : h ≡ false → false ≡ replies to near n
   unfolding replies
   reply-unheard e = rw (sym q ∙ e)
-
-  module _ (heard : Heard) where
-    pub turn-acts : (x : Node) (m : Bool) → x ≡ taken heard n → h ≡ true → m ≡ meant to n → m ≡ true → x ≡ turned to heard near n
-    unfolding turned
-    turn-acts x m p e f g = rw (sym q ∙ e, sym f ∙ g) p
-
-    pub turn-stays : (m : Bool) → h ≡ true → m ≡ meant to n → m ≡ false → n ≡ turned to heard near n
-    unfolding turned
-    turn-stays m e f g = rw (sym q ∙ e, sym f ∙ g)
-
-    pub turn-deaf : h ≡ false → n ≡ turned to heard near n
-    unfolding turned
-    turn-deaf e = rw (sym q ∙ e)

@@ -8,8 +8,8 @@ use Rattle.node.specs.declared.state.Node.{Node}
 use Rattle.node.specs.declared.heard.Heard.{Heard}
 use Rattle.node.specs.Heard.{isAnswered}
 use Rattle.reply.specs.Reply.{replyOf}
-use Rattle.chain.specs.declared.table.Replier.{Replier}
-use Rattle.chain.specs.declared.table.Replier.the-variants.{None, One, Several}
+use Rattle.chain.specs.declared.sets.Replier.{Replier}
+use Rattle.chain.specs.declared.sets.Replier.the-variants.{None, One, Several}
 use Rattle.chain.specs.One.{hears, answers, replies, turned, sound}
 
 -- each node after the packet; "Who hears is fixed before the packet acts", "Places are those before the packet acts"

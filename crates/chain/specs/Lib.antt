@@ -1,3 +1,6 @@
 pub mod One
 pub mod Chain
-pub mod Table
+pub mod Delivery
+pub mod Sets
+pub mod Survey
+pub mod Decision

@@ -26,13 +26,17 @@ abbrev pub answers : Address → Node → Bool
 answers (address.Individual i) n = eqb (i .0) (n .settings .place .address .0)
 answers (address.Group g) n = n .settings .place .leader && eqb (g .0) (n .settings .place .group .0)
 
+-- "A hearing node acts once if .."
+unfoldable pub acts : Address → Bool → Node → Bool
+acts to near n = hears near n && meant to n
+
 -- it replies to a packet that is answered at all
 unfoldable pub replies : Address → Bool → Node → Bool
 replies to near n = hears near n && answers to n
 
--- "A hearing node acts once if .."; every other stays as it is
+-- a node after a packet: one that doesn't act stays as it is
 unfoldable pub turned : Address → Heard → Bool → Node → Node
-turned to h near n = cond (hears near n && meant to n) (taken h n) n
+turned to h near n = cond (acts to near n) (taken h n) n
 
 -- 6: "a lent node record with individual address above 0x7F or group below 0x80"
 unfoldable pub sound : Node → Bool

@@ -1,8 +1,9 @@
 // The bench model of the chain: who hears a packet, who acts on it, who replies.
+mod decision;
 mod one;
+mod sets;
+mod survey;
 mod table;
 
-pub use table::Delivered;
-pub use table::Delivery;
-pub use table::Table;
+pub use decision::Delivery;
 pub use table::deliver;

@@ -1,9 +1,8 @@
 // One node of the chain and a packet: what the whole table is made of.
-use node::Heard;
 use node::Node;
 use wire::Address;
 ghost use mathlib.Core.Path.{_≡_};
-ghost use Rattle.chain.specs.One.{hears, meant, answers, sound, replies, turned, heardAs};
+ghost use Rattle.chain.specs.One.{hears, meant, answers, acts, replies, sound};
 
 // Near: the node is first, or the node before it is addressed.
 pub(crate) fn does_hear(n: Node, near: bool) -> bool
@@ -52,6 +51,16 @@ pub(crate) fn is_sound(n: Node) -> bool
     false
 }
 
+// Whether the node acts on a packet.
+pub(crate) fn does_act(n: Node, near: bool, to: Address) -> bool
+    ensures { λ r. ⌜ r ≡ acts to near n ⌝ }
+{
+    if does_hear(n, near) {
+        return is_meant(n, to);
+    }
+    false
+}
+
 // Whether the node replies to a packet that is answered.
 pub(crate) fn does_reply(n: Node, near: bool, to: Address) -> bool
     ensures { λ r. ⌜ r ≡ replies to near n ⌝ }
@@ -60,24 +69,4 @@ pub(crate) fn does_reply(n: Node, near: bool, to: Address) -> bool
         return is_answering(n, to);
     }
     false
-}
-
-// The node after a packet: it acts once, if it hears and is meant.
-pub(crate) fn turn(n: Node, near: bool, to: Address, heard: Heard) -> Node
-    ensures { λ r. ⌜ r ≡ turned to heard near n ⌝ }
-{
-    if does_hear(n, near) {
-        if is_meant(n, to) {
-            return n.take(heard);
-        }
-    }
-    n
-}
-
-// What a whole packet with this command nibble says.
-pub(crate) fn hear(command: u8, p: &[u8]) -> Heard
-    ensures { λ r. ⌜ r ≡ heardAs command (now (p .entry)) ⌝ }
-{
-    let reading = command::read(command, packet::data_part(p));
-    Heard::of(reading, packet::is_intact(p))
 }

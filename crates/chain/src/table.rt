@@ -1,187 +1,68 @@
-// The chain as a table of nodes by value, and a packet delivered to it.
-use crate::one::does_reply;
-use crate::one::hear;
-use crate::one::is_sound;
-use crate::one::turn;
-use node::Heard;
+// The chain as node records side by side in a table that the caller lends.
+use crate::decision::Decided;
+use crate::decision::Delivery;
+use crate::decision::act;
+use crate::decision::answer_of;
+use crate::decision::decide;
+use crate::decision::reach;
+use crate::sets::first;
+use crate::sets::without_first;
+use crate::survey::Incoming;
+use crate::survey::Survey;
+use crate::survey::glance;
+use crate::survey::hear;
+use crate::survey::plan_of;
+use crate::survey::speaker;
+use crate::survey::start;
+use crate::survey::survey_alone;
+use crate::survey::survey_with;
 use node::Node;
-use packet::Framed;
-use wire::Address;
-use wire::Built;
-use wire::Refusal;
 ghost use mathlib.Core.Path.{_≡_};
-ghost use Prim.Native.Nat.{_≤_, _<_};
 ghost use Rattle.wire.specs.Promise.{Lending};
-ghost use Rattle.chain.specs.Chain.{replierIn, saidBy};
-ghost use Rattle.chain.specs.Table.{nodesOf, tableAfter, validOf, deliveredNumber, onSaid, deliveredTo, deliveredOf};
-ghost use Rattle.chain.specs.declared.table.Replier.the-variants.{One};
+ghost use Rattle.chain.specs.Survey.{surveyOf};
+ghost use Rattle.chain.specs.Decision.{visited};
+ghost use Rattle.chain.specs.Delivery.{deliveredOn, deliveryNumber};
 
-// The first `count` of the nodes, in the order of the cable.
-pub struct Table {
-    pub nodes: [Node; 31],
-    pub count: usize,
-}
-
-// What a packet to the chain comes to: nobody replied; one node did, with so many bytes; several did at once; or the refusal.
-pub enum Delivery {
-    Silent,
-    Replied(usize),
-    Collision,
-    Refused(Refusal),
-}
-
-pub struct Delivered {
-    pub answer: Delivery,
-    pub table: Table,
-}
-
-// Who replies: nobody, the node of an index, or several.
-pub(crate) enum Replier {
-    None,
-    One(usize),
-    Several,
-}
-
-// 1 to 31 nodes, each of a sound record.
-fn is_valid(t: Table) -> bool
-    ensures { λ r. ⌜ r ≡ validOf t ⌝ }
+// A look at every node, in order, and then at the one that replies.
+fn survey_all(table: &[Node], incoming: Incoming) -> Survey
+    ensures { λ r. ⌜ r ≡ surveyOf incoming (now (table .entry)) ⌝ }
 {
-    let count = t.count;
-    if count < 1 {
-        return false;
-    }
-    if 31 < count {
-        return false;
-    }
-    let mut i = 0;
-    while i < count {
-        let n = t.nodes[i];
-        if is_sound(n) {
-            i += 1;
-        } else {
-            return false;
-        }
-    }
-    true
-}
-
-// The chain is searched in order, and left at the second replier.
-fn search(t: Table, to: Address) -> Replier
-    requires { ⌜ t .count ≤ 31 ⌝ }
-    ensures { λ r. ⌜ r ≡ replierIn to (nodesOf t) ⌝ }
-{
-    let count = t.count;
+    let n = table.len();
+    let mut seen = start();
     let mut i: usize = 0;
-    let mut near = true;
-    let mut found = Replier::None;
-    loop {
-        if count <= i {
-            break found;
-        }
-        let n = t.nodes[i];
-        if does_reply(n, near, to) {
-            match found {
-                Replier::None => {
-                    found = Replier::One(i);
-                }
-                _ => {
-                    break Replier::Several;
-                }
-            }
-        }
-        near = n.addressed;
+    while i < n {
+        seen = glance(seen, table[i], incoming);
         i += 1;
     }
+    let p = plan_of(incoming, seen, n);
+    let k = speaker(p);
+    if k < n {
+        return survey_with(p, table[k]);
+    }
+    survey_alone(p)
 }
 
-// Every node that hears the packet and is meant acts once.
-fn act_all(t: Table, to: Address, heard: Heard) -> Table
-    requires { ⌜ t .count ≤ 31 ⌝ }
-    ensures { λ r. ⌜ r ≡ tableAfter to heard t ⌝ }
+// Every node that is to act acts once.
+fn act_all(table: &mut [Node], decided: Decided)
+    ensures { λ _. ⌜ now (table .exit) ≡ visited (decided .heard) (decided .acting) (now (table .entry)) ⌝ }
 {
-    let count = t.count;
-    let mut next = t;
-    let mut i: usize = 0;
-    let mut near = true;
-    while i < count {
-        let n = next.nodes[i];
-        next.nodes[i] = turn(n, near, to, heard);
-        near = n.addressed;
-        i += 1;
-    }
-    next
-}
-
-// Node i alone replies: 5 where its reply has no room, before any node acts.
-fn deliver_one(t: Table, i: usize, to: Address, heard: Heard, out: &mut [u8]) -> Delivered
-    requires { ⌜ (i < t .count) × (t .count ≤ 31) ⌝ }
-    ensures { λ r. ⌜ Lending deliveredNumber r (now (out .exit)) (onSaid (saidBy heard (nodesOf t) (One i)) to heard t (now (out .entry))) ⌝ }
-{
-    let n = t.nodes[i];
-    match reply::reply(n, heard, out) {
-        Built::Bytes(count) => Delivered {
-            answer: Delivery::Replied(count),
-            table: act_all(t, to, heard),
-        },
-        Built::Refused(why) => Delivered {
-            answer: Delivery::Refused(why),
-            table: t,
-        },
-    }
-}
-
-// A packet that is answered, if a node is meant by it.
-fn deliver_answered(t: Table, to: Address, heard: Heard, out: &mut [u8]) -> Delivered
-    requires { ⌜ t .count ≤ 31 ⌝ }
-    ensures { λ r. ⌜ Lending deliveredNumber r (now (out .exit)) (onSaid (saidBy heard (nodesOf t) (replierIn to (nodesOf t))) to heard t (now (out .entry))) ⌝ }
-{
-    match search(t, to) {
-        Replier::None => Delivered {
-            answer: Delivery::Silent,
-            table: act_all(t, to, heard),
-        },
-        Replier::Several => Delivered {
-            answer: Delivery::Collision,
-            table: act_all(t, to, heard),
-        },
-        Replier::One(i) => deliver_one(t, i, to, heard, out),
-    }
-}
-
-// A packet that was read, to a valid table.
-fn deliver_to(t: Table, to: Address, heard: Heard, out: &mut [u8]) -> Delivered
-    requires { ⌜ t .count ≤ 31 ⌝ }
-    ensures { λ r. ⌜ Lending deliveredNumber r (now (out .exit)) (deliveredTo to heard t (now (out .entry))) ⌝ }
-{
-    if heard.is_answered() {
-        return deliver_answered(t, to, heard, out);
-    }
-    Delivered {
-        answer: Delivery::Silent,
-        table: act_all(t, to, heard),
+    let n = reach(table.len());
+    let mut rest = decided.acting;
+    let mut i = first(rest);
+    while i < n {
+        table[i] = act(table[i], decided);
+        rest = without_first(rest);
+        i = first(rest);
     }
 }
 
 // A packet to the chain. 6 comes first, then 1, 2 and 3 as the packet is read, then 5, before any node acts.
-pub fn deliver(t: Table, p: &[u8], out: &mut [u8]) -> Delivered
-    ensures { λ r. ⌜ Lending deliveredNumber r (now (out .exit)) (deliveredOf t (now (p .entry)) (now (out .entry))) ⌝ }
+pub fn deliver(table: &mut [Node], packet: &[u8], reply: &mut [u8]) -> Delivery
+    ensures { λ r. ⌜ Lending deliveryNumber r (record { nodes = now (table .exit); reply = now (reply .exit) }) (deliveredOn (now (table .entry)) (now (packet .entry)) (now (reply .entry))) ⌝ }
 {
-    if is_valid(t) {
-        match packet::frame(p) {
-            Framed::Whole {
-                address,
-                command,
-                count: _,
-            } => deliver_to(t, address, hear(command, p), out),
-            Framed::Refused(why) => Delivered {
-                answer: Delivery::Refused(why),
-                table: t,
-            },
-        }
-    } else {
-        Delivered {
-            answer: Delivery::Refused(Refusal::Range),
-            table: t,
-        }
-    }
+    let incoming = hear(packet);
+    let seen = survey_all(table, incoming);
+    let decided = decide(seen, reply);
+    act_all(table, decided);
+    answer_of(decided)
 }

@@ -21,7 +21,7 @@ use Rattle.node.specs.Effect.{settingsUp}
 use Rattle.node.specs.Node.{powerUp, nothing}
 use Rattle.reply.specs.Items.{itemBytes}
 use Rattle.reply.specs.Reply.{replyOf}
-use Rattle.chain.specs.One.{replies, turned}
+use Rattle.chain.specs.One.{acts, replies, turned}
 use Rattle.chain.specs.Chain.{after, replierIn, reply, said}
 use Rattle.entry.specs.declared.Entry.{Entry}
 use Rattle.entry.specs.Entry.{entryUp}
@@ -31,7 +31,7 @@ use Rattle.session.specs.declared.Session.{Session}
 use Rattle.session.specs.Session.{validOf, poweredOf, closedOf, askDue, givenPlace, nodeAt}
 use Rattle.host.specs.Calls.{waitingOf, readyCheck, nextCheck, askCheck, orderCheck, opened, transmitted, nextOf, askOf, orderOf}
 use Rattle.reports.specs.Report.{giving, asking, concluded, finished, reportOf}
-use Rattle.reports.specs.Examples.{buffer, knownBut, entryWith, addressed, pair}
+use Rattle.examples.specs.Example.{buffer, knownBut, entryWith, addressed, pair}
 use Rattle.line.specs.History.{Sending, Sent, gives, asks, sends}
 use Rattle.line.specs.Call as calls
 use Rattle.line.specs.Line.{Line, quiet, going, Arrives, Returns, nodesAfter, saidAfter, reportedOf, heardIn}
@@ -155,19 +155,19 @@ heard-good = refl
 
 -- the packets at the nodes
 takes-1 : nodesAfter (some (given 1)) (up ∷ up ∷ []) ≡ placed 1 0 ∷ up ∷ []
-unfolding frameOf dataOf intactOf endsInSum total readingOf rowsOf after turned
+unfolding frameOf dataOf intactOf endsInSum total readingOf rowsOf after turned acts
 takes-1 = refl
 
 takes-2 : nodesAfter (some (given 2)) (placed 1 0 ∷ up ∷ []) ≡ placed 1 0 ∷ placed 2 0 ∷ []
-unfolding frameOf dataOf intactOf endsInSum total readingOf rowsOf after turned
+unfolding frameOf dataOf intactOf endsInSum total readingOf rowsOf after turned acts
 takes-2 = refl
 
 takes-ask : nodesAfter (some nop1) (placed 1 0 ∷ up ∷ []) ≡ placed 1 0 ∷ up ∷ []
-unfolding frameOf dataOf intactOf endsInSum total readingOf rowsOf after turned
+unfolding frameOf dataOf intactOf endsInSum total readingOf rowsOf after turned acts
 takes-ask = refl
 
 takes-5 : (old : ℕ) → nodesAfter (some set5) (placed 1 0 ∷ placed 2 old ∷ []) ≡ placed 1 0 ∷ placed 2 5 ∷ []
-unfolding frameOf dataOf intactOf endsInSum total readingOf rowsOf after turned
+unfolding frameOf dataOf intactOf endsInSum total readingOf rowsOf after turned acts
 takes-5 old = refl
 
 says-1 : saidAfter (some (given 1)) (up ∷ up ∷ []) ≡ reply good

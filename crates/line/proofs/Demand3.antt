@@ -13,7 +13,6 @@ use Rattle.node.specs.declared.state.Node.{Node}
 use Rattle.node.specs.Setting.{Setting}
 use Rattle.chain.specs.One.{sound}
 use Rattle.chain.specs.Chain.{clash}
-use Rattle.chain.specs.Table.{nodesOf}
 use Rattle.entry.specs.Entry.{knows}
 use Rattle.session.specs.declared.Session.{Session}
 use Rattle.session.specs.Session.{entryOf}
@@ -26,7 +25,7 @@ use Rattle.line.proofs.Exact.{Exact}
 use Rattle.line.proofs.Closing.{entryAt}
 use Rattle.line.proofs.Peace.{no-clash}
 use Rattle.line.proofs.Delivery.{whole-means, damaged-means}
-use Rattle.line.proofs.Tables.{delivers}
+use Rattle.line.proofs.Calls.{delivers}
 use Rattle.line.proofs.Course.{Opened, Going, Stands, when-idle, holds, steady}
 
 -- an index, and the node's number
@@ -74,11 +73,10 @@ pub no-collision : promised.NoCollision
 no-collision w comes up what p e =
     peace (w .host) (w .nodes) (w .past) what p (subst (λ (l : Line). Stands (w .host) (w .nodes) (w .past) l) e (holds comes up))
 
-pub by-table : promised.ByTable
+pub by-call : promised.ByCall
 unfolding sound
-by-table w comes up t e c q out room =
+by-call w comes up q out room =
     let s = steady (w .host) (w .nodes) (w .past) (w .line) (holds comes up) in
     let n = s .nodes in
     let i = s .inv in
-    let full : length (nodesOf t) ≡ t .count = ap length e ∙ sym c in
-    delivers t full out room (omega (arith, i .some, i .long)) (omega (arith, i .few, i .long)) (λ j l. rw e (i .fit j (omega (arith, i .long)))) q
+    delivers (w .nodes) out room (omega (arith, i .some, i .long)) (omega (arith, i .few, i .long)) (λ j l. i .fit j (omega (arith, i .long))) q

@@ -15,6 +15,6 @@ pub mod Exchange
 pub mod Benching
 pub mod Powering
 pub mod Course
-pub mod Tables
+pub mod Calls
 pub mod Demand3
 pub mod Courses

@@ -11,12 +11,11 @@ use Rattle.wire.specs.declared.address.Address.the-variants as address
 use Rattle.status.specs.Status.{T}
 use Rattle.node.specs.declared.state.Node.{Node}
 use Rattle.node.specs.Setting.{Setting, get}
-use Rattle.chain.specs.declared.table.Table.{Table}
-use Rattle.chain.specs.declared.table.Delivery.{Delivery}
-use Rattle.chain.specs.declared.table.Delivery.the-variants.{Silent, Replied, Collision, Refused}
+use Rattle.chain.specs.declared.decision.Delivery.{Delivery}
+use Rattle.chain.specs.declared.decision.Delivery.the-variants.{Silent, Replied, Collision, Refused}
 use Rattle.chain.specs.One.{answers}
 use Rattle.chain.specs.Chain.{blank, Said, silence, reply, clash}
-use Rattle.chain.specs.Table.{nodesOf, validOf, deliveredOf}
+use Rattle.chain.specs.Delivery.{valid, deliveredOn}
 use Rattle.entry.specs.Entry.{knows, shows}
 use Rattle.session.specs.declared.Exchange.the-variants.{Idle}
 use Rattle.session.specs.Session.{entryOf}
@@ -60,12 +59,11 @@ heardBy (Replied n) left = reply (take n left)
 heardBy Collision left = clash
 heardBy (Refused why) left = silence
 
--- the chain's call over a table of these nodes, with room for a reply, isn't refused for the table, and does to nodes and line what is said of the list
-pub record Delivers (t : Table) (q out : List ℕ) : Type 0 where
-  pub valid : validOf t ≡ true
-  pub nodes : nodesOf (deliveredOf t q out .answer .table) ≡ nodesAfter (some q) (nodesOf t)
-  pub says : heardBy (deliveredOf t q out .answer .answer) (deliveredOf t q out .left) ≡ saidAfter (some q) (nodesOf t)
+-- the chain's call over these nodes, with room for a reply, isn't refused for the table, and does to nodes and line what is said of the list
+pub record Delivers (ns : List Node) (q out : List ℕ) : Type 0 where
+  pub taken : valid ns ≡ true
+  pub nodes : deliveredOn ns q out .left .nodes ≡ nodesAfter (some q) ns
+  pub says : heardBy (deliveredOn ns q out .answer) (deliveredOn ns q out .left .reply) ≡ saidAfter (some q) ns
 
-abbrev pub ByTable : Type 0
-ByTable = (w : World) → Comes w → w .up ≡ true → (t : Table) → nodesOf t ≡ w .nodes → t .count ≡ length (w .nodes)
-    → (q out : List ℕ) → T + 2 ≤ length out → Delivers t q out
+abbrev pub ByCall : Type 0
+ByCall = (w : World) → Comes w → w .up ≡ true → (q out : List ℕ) → T + 2 ≤ length out → Delivers (w .nodes) q out

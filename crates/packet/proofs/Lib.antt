@@ -1,4 +1,3 @@
 pub mod Packets
 pub mod Laws
-pub mod Examples
 pub mod Unique

@@ -1,3 +1,2 @@
 pub mod Packet
 pub mod Build
-pub mod Examples

@@ -1,5 +1,4 @@
 pub mod Closing
 pub mod Concluding
 pub mod Soundness
-pub mod Examples
 pub mod Unique

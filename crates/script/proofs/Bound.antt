@@ -17,15 +17,15 @@ use Rattle.text.specs.declared.digits.Decimal.{Decimal}
 use Rattle.text.specs.declared.digits.Decimal.the-variants.{Value, Malformed}
 use Rattle.text.proofs.Puts.{length-line}
 use Rattle.text.proofs.Meaning.{read-written}
-use Rattle.chain.specs.declared.table.Table.{Table}
-use Rattle.chain.specs.declared.table.Delivered.{Delivered}
-use Rattle.chain.specs.declared.table.Delivery.{Delivery}
-use Rattle.chain.specs.declared.table.Delivery.the-variants.{Silent, Replied, Collision, Refused}
-use Rattle.chain.specs.Table.{deliveredOf}
+use Rattle.table.specs.declared.Table.{Table}
+use Rattle.chain.specs.declared.decision.Delivery.{Delivery}
+use Rattle.chain.specs.declared.decision.Delivery.the-variants.{Silent, Replied, Collision, Refused}
+use Rattle.chain.specs.Delivery.{Lent}
+use Rattle.chain.proofs.Lengths.{deliver-brief, deliver-left}
+use Rattle.table.specs.Table.{nodesOf, keptBy, deliveredOf}
 use Rattle.script.specs.Answers.{numberEnd, answerLine}
 use Rattle.script.specs.Bench.{heard, onContent, stepOf, played, wrong, onCount, onDecimal, onLines, benchOf, startOf}
 use Rattle.script.proofs.Lined.{line-short, refused-short}
-use Rattle.script.proofs.Deliveries.{deliver-brief, deliver-left}
 
 -- the output for the input's longest, 65536 bytes
 abbrev pub most : ℕ
@@ -45,12 +45,13 @@ long-enough p h = omega (arith, length-line p (omega arith), length-append (hexT
 
 module _ (t : Table) (l : List ℕ) where
   brief : (p : List ℕ) → length p < 4 → length (heard (deliveredOf t p (replicate 19 0)) .line) ≤ 10
-  unfolding numberEnd decimalOf
-  brief p h = deliver-brief t p (replicate 19 0) h (λ (o : Outcome Delivered (List ℕ)). length (heard o .line) ≤ 10) (omega arith) (omega arith) (omega arith)
+  unfolding numberEnd decimalOf deliveredOf
+  brief p h = deliver-brief (nodesOf t) p (replicate 19 0) h (λ (o : Outcome Delivery Lent). length (heard (keptBy t o) .line) ≤ 10) (omega arith) (omega arith) (omega arith)
 
   any : (p : List ℕ) → length (heard (deliveredOf t p (replicate 19 0)) .line) ≤ 57
+  unfolding deliveredOf
   any p =
-      let z : length (deliveredOf t p (replicate 19 0) .left) ≡ 19 = deliver-left t p (replicate 19 0) in
+      let z : length (deliveredOf t p (replicate 19 0) .left) ≡ 19 = deliver-left (nodesOf t) p (replicate 19 0) in
       answer-short (deliveredOf t p (replicate 19 0) .answer .answer) (deliveredOf t p (replicate 19 0) .left) (omega arith)
 
   by-length : (p : List ℕ) (b : Bool) → ltb (length p) 4 ≡ b → l ≡ hexText p → length (heard (deliveredOf t p (replicate 19 0)) .line) ≤ 10 * (length l + 1)

@@ -9,17 +9,18 @@ use Rattle.text.specs.Digits.{digitOf, charOf, oneDigit, twoDigits, decimalOf, 
 use Rattle.text.specs.Hex.{hexRest, pairBy, pairOf}
 use Rattle.reply.specs.Items.{itemBytes}
 use Rattle.reply.specs.Reply.{replyOf}
-use Rattle.chain.specs.One.{replies, turned, sound}
+use Rattle.chain.specs.One.{acts, replies, turned, sound}
 use Rattle.chain.specs.Chain.{after, replierIn, said}
-use Rattle.chain.specs.Table.{tableAfter, validOf, deliveredTo, deliveredOf}
+use Rattle.chain.specs.Delivery.{valid, deliveredTo, deliveredOn}
+use Rattle.table.specs.Table.{deliveredOf}
 use Rattle.script.specs.Answers.{numberEnd}
 use Rattle.script.specs.Bench.{startOf, stepOf, played, onCount, benchOf}
 use Rattle.script.specs.Example.{Shown, paper, edges}
 
 pub example : benchOf (paper .input) ≡ paper .output
-unfolding place total endsInSum dataOf frameOf intactOf rowsOf readingOf digitOf charOf oneDigit twoDigits decimalOf decimalIn hexRest pairBy pairOf itemBytes replyOf replies turned sound after replierIn said tableAfter validOf deliveredTo deliveredOf numberEnd startOf stepOf played onCount benchOf
+unfolding place total endsInSum dataOf frameOf intactOf rowsOf readingOf digitOf charOf oneDigit twoDigits decimalOf decimalIn hexRest pairBy pairOf itemBytes replyOf acts replies turned sound after replierIn said valid deliveredTo deliveredOn deliveredOf numberEnd startOf stepOf played onCount benchOf
 example = refl
 
 pub edge : map (λ (e : Shown). benchOf (e .input)) edges ≡ map (λ (e : Shown). e .output) edges
-unfolding place total endsInSum dataOf frameOf intactOf rowsOf readingOf digitOf charOf oneDigit twoDigits decimalOf decimalIn hexRest pairBy pairOf itemBytes replyOf replies turned sound after replierIn said tableAfter validOf deliveredTo deliveredOf numberEnd startOf stepOf played onCount benchOf
+unfolding place total endsInSum dataOf frameOf intactOf rowsOf readingOf digitOf charOf oneDigit twoDigits decimalOf decimalIn hexRest pairBy pairOf itemBytes replyOf acts replies turned sound after replierIn said valid deliveredTo deliveredOn deliveredOf numberEnd startOf stepOf played onCount benchOf
 edge = refl

@@ -19,8 +19,8 @@ use Rattle.text.specs.Lines.{newline}
 use Rattle.text.specs.Digits.{decimalOf}
 use Rattle.text.specs.Hex.{hexLine}
 use Rattle.text.proofs.Puts.{length-line}
-use Rattle.chain.specs.declared.table.Delivery.{Delivery}
-use Rattle.chain.specs.declared.table.Delivery.the-variants.{Silent, Replied, Collision, Refused}
+use Rattle.chain.specs.declared.decision.Delivery.{Delivery}
+use Rattle.chain.specs.declared.decision.Delivery.the-variants.{Silent, Replied, Collision, Refused}
 use Rattle.script.specs.Answers.{silentLine, collisionLine, refusedWord, numberEnd, refusedLine, answerLine}
 use Rattle.script.specs.Wrote.{far, Wrote, Line}
 use Rattle.script.proofs.Appends.{wrote-then}
@@ -75,17 +75,6 @@ module _ (why : Refusal) (n at p : ℕ) (out m : List ℕ) (e : n ≡ numberOf w
       record { wrote = wrote-then f (rw e at g); near = omega (arith, refused-short why) }
 
 -- ---- a reply
-
-chosen-long : (t : Bool) (p out : List ℕ) → ltb (length out) (length p) ≡ t → length (cond t (refused Room out) (written p out) .left) ≡ length out
-chosen-long true p out e = refl
-chosen-long false p out e =
-    let h : length p ≤ length out = ltb-false (length out) (length p) e in
-    omega (arith, length-append p (drop (length p) out), length-drop (length p) out)
-
--- a buffer in which something was placed, or refused, keeps its length
-pub place-long : (p out : List ℕ) → length (place p out .left) ≡ length out
-unfolding place
-place-long p out = chosen-long (ltb (length out) (length p)) p out refl
 
 pub line-short : (d : List ℕ) → length d ≤ 19 → length (hexLine d) ≤ 57
 line-short [] h = omega arith

@@ -16,9 +16,9 @@ use Rattle.text.proofs.Parts.{line-short, lines-step}
 use Rattle.text.proofs.Meaning.{read-written}
 use Rattle.node.specs.declared.state.Node.{Node}
 use Rattle.node.specs.Node.{powerUp}
-use Rattle.chain.specs.declared.table.Table.{Table}
-use Rattle.chain.specs.declared.table.Delivered.{Delivered}
-use Rattle.chain.specs.Table.{deliveredNumber, deliveredOf}
+use Rattle.table.specs.declared.Table.{Table}
+use Rattle.table.specs.declared.Delivered.{Delivered}
+use Rattle.table.specs.Table.{deliveredNumber, deliveredOf}
 use Rattle.script.specs.Answers.{answerLine}
 use Rattle.script.specs.Wrote.{Wrote, Line}
 use Rattle.script.specs.Bench.{zeros, startOf, Stepped, heard, refusedStep, onContent, stepOf, played, Lined}
@@ -28,7 +28,7 @@ use Rattle.script.proofs.Appends.{Going, going-on, going-done}
 
 -- ---- the start
 
-pub start-done : (n : Node) (k : ℕ) → n ≡ powerUp zeros → record { nodes = replicate 31 n; count = k } ≡ startOf k
+pub start-done : (n : Node) (k : ℕ) → n ≡ powerUp zeros → record { nodes = replicate 33 n; count = k } ≡ startOf k
 unfolding startOf
 start-done n k e = rw e
 

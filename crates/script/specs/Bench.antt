@@ -9,9 +9,9 @@ use Rattle.wire.specs.Promise.{Outcome}
 use Rattle.wire.specs.declared.refusal.Refusal.the-variants.{Range}
 use Rattle.node.specs.declared.state.Bench.{Bench}
 use Rattle.node.specs.Node.{powerUp}
-use Rattle.chain.specs.declared.table.Table.{Table}
-use Rattle.chain.specs.declared.table.Delivered.{Delivered}
-use Rattle.chain.specs.Table.{deliveredOf}
+use Rattle.table.specs.declared.Table.{Table}
+use Rattle.table.specs.declared.Delivered.{Delivered}
+use Rattle.table.specs.Table.{deliveredOf}
 use Rattle.text.specs.declared.digits.Decimal.{Decimal}
 use Rattle.text.specs.declared.digits.Decimal.the-variants.{Value, Malformed}
 use Rattle.text.specs.Lines.{linesOf}
@@ -27,7 +27,7 @@ zeros = record { inputs = 0; counter = 0; analog0 = 0; analog1 = 0; analog2 = 0;
 
 -- "All nodes start in power-up state"
 unfoldable pub startOf : ℕ → Table
-startOf k = record { nodes = replicate 31 (powerUp zeros); count = k }
+startOf k = record { nodes = replicate 33 (powerUp zeros); count = k }
 
 -- ---- a line
 

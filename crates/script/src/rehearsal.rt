@@ -1,9 +1,9 @@
 // The bench program as a function on slices: a node count, then a packet a line; an answer a line.
 use crate::answers::put_answer;
 use crate::answers::put_refused;
-use chain::Table;
 use node::Bench;
 use node::Node;
+use table::Table;
 use text::Decimal;
 use text::Parsed;
 use wire::Built;
@@ -13,7 +13,7 @@ ghost use Prim.Native.Nat.{_≤_};
 ghost use lib.ListN.{length, replicate};
 ghost use Rattle.wire.specs.Promise.{Lending};
 ghost use Rattle.wire.specs.Buffer.{builtNumber, place};
-ghost use Rattle.chain.specs.Table.{deliveredOf};
+ghost use Rattle.table.specs.Table.{deliveredOf};
 ghost use Rattle.text.specs.Lines.{linesOf};
 ghost use Rattle.script.specs.Wrote.{far, Wrote};
 ghost use Rattle.script.specs.Bench.{startOf, heard, refusedStep, stepOf, played, onCount, benchOf, Lined};
@@ -42,7 +42,7 @@ fn start(count: usize) -> Table
     };
     let fresh = Node::power_up(bench);
     Table {
-        nodes: [fresh; 31],
+        nodes: [fresh; 33],
         count,
     }
 }
@@ -53,7 +53,7 @@ fn send(table: Table, packet: &[u8], out: &mut [u8], at: usize) -> Step
     ensures { λ r. ⌜ Lined (heard (deliveredOf table (now (packet .entry)) (replicate 19 0))) at (now (out .entry)) r (now (out .exit)) ⌝ }
 {
     let mut reply = [0; 19];
-    let d = chain::deliver(table, packet, &mut reply);
+    let d = table::deliver(table, packet, &mut reply);
     let answer = d.answer;
     let after = d.table;
     let p = put_answer(out, at, answer, &reply);

@@ -1,11 +1,12 @@
-// The host's calls, on the one session: 30 power-up, 31 next, 32 ask, 33 a command, 34 regroup, 35 report, 36 silence.
-use crate::parts::put;
-use crate::parts::room_end;
-use crate::state::Order;
-use crate::state::Tried;
-use crate::state::read_order;
-use crate::state::same;
+// The host's calls, on the one session: 30 power-up, 31 next, 32 ask, 33 a command, 34 regroup, 35 report, 36 silence, 38 a session made by hand.
+// Whether a line is of its form is asked first, and then the call is made.
+use crate::parts::byte;
+use crate::state::handed_in;
+use crate::state::is_state;
+use crate::state::read_command;
+use crate::state::target;
 use command::Command;
+use command::Reading;
 use session::End;
 use session::Session;
 use session::Step;
@@ -14,11 +15,9 @@ use wire::Address;
 use wire::Group;
 use wire::Individual;
 use wire::Refusal;
-ghost use Prim.Native.Nat.{_≤_};
-ghost use lib.ListN.{length};
 
 // The number of a call's end.
-fn end_number(end: End) -> u8 {
+pub(crate) fn end_number(end: End) -> u8 {
     match end {
         End::Done => wire::DONE,
         End::Sent(_) => wire::DONE,
@@ -26,146 +25,101 @@ fn end_number(end: End) -> u8 {
     }
 }
 
-// What a call comes to, with its number at the start of an answer of this length.
-fn told(step: Step, length: usize, out: &mut [u8]) -> Tried {
-    let end = step.end;
-    let s = step.session;
-    put(out, 0, end_number(end));
-    same(s, length)
-}
-
-// `n`: `NN`.
-pub(crate) fn power_up(s: Session, args: &[u8], out: &mut [u8]) -> Tried {
-    if args.len() != 1 {
-        return same(s, 0);
+// Whether a call lends a buffer: its line has a room then.
+pub(crate) fn is_sending(kind: u8) -> bool {
+    match kind {
+        0x31..=0x34 => true,
+        _ => false,
     }
-    told(session::power_up(s, args[0]), 1, out)
-}
-
-// `bytes..`: `NN`.
-pub(crate) fn report(s: Session, args: &[u8], out: &mut [u8]) -> Tried {
-    told(reports::report(s, args), 1, out)
-}
-
-// Nothing: `NN`.
-pub(crate) fn silence(s: Session, args: &[u8], out: &mut [u8]) -> Tried {
-    if 0 < args.len() {
-        return same(s, 0);
-    }
-    told(reports::silence(s), 1, out)
-}
-
-// A call that sends, read from a line.
-enum Call {
-    Next,
-    Ask,
-    Order {
-        to: Address,
-        command: Command,
-    },
-    Regroup {
-        node: Individual,
-        group: Group,
-        leader: bool,
-    },
-    Malformed,
 }
 
 // `kind target command-byte data..`: Set Address is not among the ten commands.
-fn read_command(s: &[u8]) -> Call {
-    match read_order(s) {
-        Order::Read { to, command } => {
+fn is_order(s: &[u8]) -> bool {
+    match read_command(s) {
+        Reading::Known(command) => {
             if is_placing(command) {
-                return Call::Malformed;
+                return false;
             }
-            Call::Order { to, command }
+            true
         }
-        Order::Malformed => Call::Malformed,
+        Reading::Other => false,
     }
 }
 
 // `k group leader`.
-fn read_regroup(s: &[u8]) -> Call {
+fn is_regroup(s: &[u8]) -> bool {
     if s.len() != 3 {
-        return Call::Malformed;
+        return false;
     }
-    let wish = s[2];
-    if 1 < wish {
-        return Call::Malformed;
-    }
-    let node = Individual(s[0]);
-    let group = Group(s[1]);
-    let leader = wish == 1;
-    Call::Regroup {
-        node,
-        group,
-        leader,
+    byte(s, 2) < 2
+}
+
+// Whether what stands behind kind and room is of the kind's form.
+pub(crate) fn is_formed(kind: u8, s: &[u8]) -> bool {
+    match kind {
+        0x30 => s.len() == 1,
+        0x31 | 0x32 | 0x36 => s.len() < 1,
+        0x33 => is_order(s),
+        0x34 => is_regroup(s),
+        0x35 => true,
+        0x38 => is_state(s),
+        _ => false,
     }
 }
 
-// The call of a line of this kind, from what stands behind its room.
-fn read_call(kind: u8, s: &[u8]) -> Call {
-    if kind == 0x33 {
-        return read_command(s);
-    }
-    if kind == 0x34 {
-        return read_regroup(s);
-    }
-    if 0 < s.len() {
-        return Call::Malformed;
-    }
-    if kind == 0x31 {
-        return Call::Next;
-    }
-    Call::Ask
-}
-
-// A command of a ready session, by its own call. Set Address has none: no line of the form comes to it.
+// A command of a ready session, by its own call: those with data.
 fn order(s: Session, to: Address, c: Command, lent: &mut [u8]) -> Step {
     match c {
-        Command::SetAddress(_) => session::refuse(s, Refusal::Range),
         Command::DefineStatus(mask) => orders::define_status(s, to, mask, lent),
         Command::ReadStatus(mask) => orders::read_status(s, to, mask, lent),
         Command::SetPwm(pwm) => orders::set_pwm(s, to, pwm, lent),
-        Command::SynchOutput => orders::synch_output(s, to, lent),
         Command::SetOutputs(outputs) => orders::set_outputs(s, to, outputs, lent),
         Command::SetSynchOutput(held) => orders::set_synch_output(s, to, held, lent),
         Command::SetTimerMode(mode) => orders::set_timer_mode(s, to, mode, lent),
+        _ => order_bare(s, to, c, lent),
+    }
+}
+
+// Those without. Set Address has no call: no line of the form comes to it.
+fn order_bare(s: Session, to: Address, c: Command, lent: &mut [u8]) -> Step {
+    match c {
+        Command::SynchOutput => orders::synch_output(s, to, lent),
         Command::SynchInput => orders::synch_input(s, to, lent),
         Command::Nop => orders::nop(s, to, lent),
         Command::HardReset => orders::hard_reset(s, to, lent),
+        _ => session::refuse(s, Refusal::Range),
     }
 }
 
-// A call that sends, with its packet into out[1..end].
-fn make(s: Session, call: Call, end: usize, out: &mut [u8]) -> Tried
-    requires { ⌜ (1 ≤ end) × (end ≤ length (now out)) ⌝ }
-{
-    match call {
-        Call::Next => told(host::next(s, &mut out[1..end]), end, out),
-        Call::Ask => told(host::ask(s, &mut out[1..end]), end, out),
-        Call::Order { to, command } => told(order(s, to, command, &mut out[1..end]), end, out),
-        Call::Regroup {
-            node,
-            group,
-            leader,
-        } => told(
-            host::regroup(s, node, group, leader, &mut out[1..end]),
-            end,
-            out,
-        ),
-        Call::Malformed => same(s, 0),
+// A command that was read: every line of the form has one.
+fn order_read(s: Session, to: Address, read: Reading, lent: &mut [u8]) -> Step {
+    match read {
+        Reading::Known(c) => order(s, to, c, lent),
+        Reading::Other => session::refuse(s, Refusal::Range),
     }
 }
 
-// `room ..`: `NN buffer`.
-pub(crate) fn send(s: Session, kind: u8, args: &[u8], out: &mut [u8]) -> Tried {
-    if args.len() < 1 {
-        return same(s, 0);
+// A call that sends.
+pub(crate) fn send(s: Session, kind: u8, args: &[u8], lent: &mut [u8]) -> Step {
+    match kind {
+        0x31 => host::next(s, lent),
+        0x32 => host::ask(s, lent),
+        0x33 => order_read(s, target(args), read_command(args), lent),
+        _ => {
+            let node = Individual(byte(args, 0));
+            let group = Group(byte(args, 1));
+            let leader = byte(args, 2) == 1;
+            host::regroup(s, node, group, leader, lent)
+        }
     }
-    let end = room_end(out.len(), 1, args[0]);
-    if end < 1 {
-        return same(s, 0);
+}
+
+// A call that doesn't.
+pub(crate) fn call(s: Session, kind: u8, args: &[u8]) -> Step {
+    match kind {
+        0x30 => session::power_up(s, byte(args, 0)),
+        0x35 => reports::report(s, args),
+        0x36 => reports::silence(s),
+        _ => handed_in(args),
     }
-    make(s, read_call(kind, text::rest(args, 1)), end, out)
 }

@@ -4,20 +4,15 @@ use crate::layout::is_node;
 use crate::layout::put_node;
 use crate::layout::read_node;
 use crate::parts::put;
-use crate::parts::put_all;
 use crate::parts::room_end;
 use chain::Delivery;
-use chain::Table;
-use text::first;
+use table::Table;
 use text::rest;
 ghost use Prim.Native.Nat.{_≤_};
 ghost use lib.ListN.{length};
 
-// How many nodes a table has room for.
-const NODES: usize = 31;
-
-// How many records a line may lend.
-const MOST_RECORDS: u8 = 33;
+// How many records a line may lend, and a table has room for.
+const NODES: usize = 33;
 
 // Whether s starts with so many node records.
 fn are_nodes(s: &[u8], count: u8) -> bool {
@@ -33,11 +28,11 @@ fn are_nodes(s: &[u8], count: u8) -> bool {
     true
 }
 
-// The table of so many records at the start of s. What has no place in it is not looked at: such a table is refused.
+// The table of so many records at the start of s.
 fn read_table(s: &[u8], count: usize) -> Table {
     let n = read_node(s);
     let mut table = Table {
-        nodes: [n; 31],
+        nodes: [n; 33],
         count,
     };
     let mut i = 0;
@@ -49,7 +44,7 @@ fn read_table(s: &[u8], count: usize) -> Table {
     table
 }
 
-// Puts the nodes of a table, as many of `count` as it has room for; the place behind them.
+// Puts the first `count` nodes of a table; the place behind them.
 fn put_nodes(out: &mut [u8], at: usize, t: Table, count: usize) -> usize {
     let mut end = at;
     let mut i = 0;
@@ -94,7 +89,7 @@ pub(crate) fn deliver(args: &[u8], out: &mut [u8]) -> usize {
         return 0;
     }
     let count = args[1];
-    if MOST_RECORDS < count {
+    if NODES < count as usize {
         return 0;
     }
     let records = rest(args, 2);
@@ -110,11 +105,10 @@ fn deliver_to(records: &[u8], count: usize, end: usize, out: &mut [u8]) -> usize
 {
     let length = count * NODE;
     let table = read_table(records, count);
-    let delivered = chain::deliver(table, rest(records, length), &mut out[2..end]);
+    let delivered = table::deliver(table, rest(records, length), &mut out[2..end]);
     let answer = delivered.answer;
     let after = delivered.table;
     put(out, 0, number(answer));
     put(out, 1, reply_length(answer));
-    let at = put_nodes(out, end, after, count);
-    put_all(out, at, rest(first(records, length), NODES * NODE))
+    put_nodes(out, end, after, count)
 }

@@ -1,10 +1,12 @@
 // The layouts of a node record and of an entry of the host's record.
 use crate::parts::byte;
 use crate::parts::flag;
+use crate::parts::high;
+use crate::parts::high_word;
 use crate::parts::long;
+use crate::parts::low;
+use crate::parts::low_word;
 use crate::parts::put_all;
-use crate::parts::put_long;
-use crate::parts::put_word;
 use crate::parts::word;
 use command::Held;
 use command::Place;
@@ -139,48 +141,57 @@ pub(crate) fn read_entry(s: &[u8]) -> Entry {
     Entry { settings, known }
 }
 
-fn put_place(out: &mut [u8], at: usize, p: Place) -> usize {
-    put_all(out, at, &[p.address.0, p.group.0, flag(p.leader)])
-}
-
-fn put_pwm(out: &mut [u8], at: usize, p: Pwm) -> usize {
-    put_all(out, at, &[p.first, p.second])
-}
-
-// The settings behind the place.
-fn put_settings(out: &mut [u8], at: usize, s: Settings) -> usize {
+// The bytes of a node record.
+fn node_bytes(n: Node) -> [u8; 31] {
+    let s = n.settings;
+    let place = s.place;
     let pwm = s.pwm;
     let held = s.held;
-    let held_pwm = held.pwm;
-    let mut end = put_all(out, at, &[s.mask]);
-    end = put_word(out, end, s.outputs);
-    end = put_pwm(out, end, pwm);
-    end = put_word(out, end, held.outputs);
-    end = put_pwm(out, end, held_pwm);
-    put_all(out, end, &[s.timer])
-}
-
-fn put_bench(out: &mut [u8], at: usize, b: Bench) -> usize {
-    let mut end = put_word(out, at, b.inputs);
-    end = put_long(out, end, b.counter);
-    put_all(
-        out,
-        end,
-        &[b.analog0, b.analog1, b.analog2, b.id, b.version],
-    )
+    let later = held.pwm;
+    let b = n.bench;
+    let counter = low_word(b.counter);
+    let counter_top = high_word(b.counter);
+    let c = n.captured;
+    let captured = low_word(c.counter);
+    let captured_top = high_word(c.counter);
+    [
+        place.address.0,
+        place.group.0,
+        flag(place.leader),
+        flag(n.addressed),
+        s.mask,
+        low(s.outputs),
+        high(s.outputs),
+        pwm.first,
+        pwm.second,
+        low(held.outputs),
+        high(held.outputs),
+        later.first,
+        later.second,
+        s.timer,
+        low(b.inputs),
+        high(b.inputs),
+        low(counter),
+        high(counter),
+        low(counter_top),
+        high(counter_top),
+        b.analog0,
+        b.analog1,
+        b.analog2,
+        b.id,
+        b.version,
+        low(c.inputs),
+        high(c.inputs),
+        low(captured),
+        high(captured),
+        low(captured_top),
+        high(captured_top),
+    ]
 }
 
 // Puts a node record; the place behind it.
 pub(crate) fn put_node(out: &mut [u8], at: usize, n: Node) -> usize {
-    let settings = n.settings;
-    let place = settings.place;
-    let captured = n.captured;
-    let mut end = put_place(out, at, place);
-    end = put_all(out, end, &[flag(n.addressed)]);
-    end = put_settings(out, end, settings);
-    end = put_bench(out, end, n.bench);
-    end = put_word(out, end, captured.inputs);
-    put_long(out, end, captured.counter)
+    put_all(out, at, &node_bytes(n))
 }
 
 // The bits of what is known.
@@ -190,12 +201,27 @@ fn known_bits(k: Known) -> u8 {
     low + high * 8
 }
 
-// Puts an entry; the place behind it.
-pub(crate) fn put_entry(out: &mut [u8], at: usize, e: Entry) -> usize {
-    let settings = e.settings;
-    let place = settings.place;
-    let known = e.known;
-    let mut end = put_place(out, at, place);
-    end = put_settings(out, end, settings);
-    put_all(out, end, &[known_bits(known)])
+// The bytes of an entry.
+pub(crate) fn entry_bytes(e: Entry) -> [u8; 14] {
+    let s = e.settings;
+    let place = s.place;
+    let pwm = s.pwm;
+    let held = s.held;
+    let later = held.pwm;
+    [
+        place.address.0,
+        place.group.0,
+        flag(place.leader),
+        s.mask,
+        low(s.outputs),
+        high(s.outputs),
+        pwm.first,
+        pwm.second,
+        low(held.outputs),
+        high(held.outputs),
+        later.first,
+        later.second,
+        s.timer,
+        known_bits(e.known),
+    ]
 }

@@ -7,12 +7,16 @@ mod packets;
 mod parts;
 mod state;
 
+use calls::is_formed;
+use calls::is_sending;
 use libc::STDIN_FILENO;
 use libc::STDOUT_FILENO;
+use parts::room_end;
 use session::Session;
-use state::Tried;
+use session::Step;
 use text::Parsed;
 use wire::Built;
+ghost use Prim.Native.Nat.{_≤_};
 ghost use mathlib.Core.Path.{_≡_};
 ghost use lib.ListN.{length};
 
@@ -36,7 +40,14 @@ fn bytes_room() -> [u8; 21846]
     [0; 21846]
 }
 
-// Room for the longest answer: number, length, 64 bytes of a lent buffer, 33 node records of 31 bytes. A lent buffer is filled with 55.
+// Room for a number and the largest lent buffer. A lent buffer is filled with 55.
+fn lent_room() -> [u8; 65]
+    ensures { λ r. ⌜ 65 ≡ length r ⌝ }
+{
+    [0x55; 65]
+}
+
+// Room for the longest answer: number, length, 64 bytes of a lent buffer, 33 node records of 31 bytes.
 fn answer_room() -> [u8; 1089]
     ensures { λ r. ⌜ 1089 ≡ length r ⌝ }
 {
@@ -61,39 +72,104 @@ fn show(bytes: &[u8]) {
     }
 }
 
-// What the bytes of a line come to: the session after it, and how long the answer is, 0 for a line that is not of its form.
-fn answer(s: Session, bytes: &[u8], out: &mut [u8]) -> Tried {
-    let kind = parts::byte(bytes, 0);
-    let args = text::rest(bytes, 1);
+// What is built, read or delivered: how long the answer is, 0 for a line that is not of its form.
+fn answer(kind: u8, args: &[u8], out: &mut [u8]) -> usize {
     match kind {
-        0x10 => state::same(s, packets::build(args, out)),
-        0x11 => state::same(s, packets::read(args, out)),
-        0x12 => state::same(s, packets::read_status(args, out)),
-        0x20 => state::same(s, delivery::deliver(args, out)),
-        0x30 => calls::power_up(s, args, out),
-        0x31 => calls::send(s, kind, args, out),
-        0x32 => calls::send(s, kind, args, out),
-        0x33 => calls::send(s, kind, args, out),
-        0x34 => calls::send(s, kind, args, out),
-        0x35 => calls::report(s, args, out),
-        0x36 => calls::silence(s, args, out),
-        0x37 => state::same(s, state::show(s, args, out)),
-        0x38 => state::hand_in(s, args, out),
-        _ => state::same(s, 0),
+        0x10 => packets::build(args, out),
+        0x11 => packets::read(args, out),
+        0x12 => packets::read_status(args, out),
+        _ => delivery::deliver(args, out),
     }
 }
 
-// Tries the bytes of a line and shows the answer; the session after it.
-fn try_bytes(s: Session, bytes: &[u8]) -> Session {
+// A line that has no part in the session.
+fn try_answer(kind: u8, args: &[u8]) {
     let mut out = answer_room();
-    let tried = answer(s, bytes, &mut out);
-    let length = tried.length;
+    let length = answer(kind, args, &mut out);
     if length < 1 {
+        show(&[MALFORMED]);
+        return;
+    }
+    show(text::first(&out, length));
+}
+
+// Nothing: `00 STATE`.
+fn try_state(s: Session, args: &[u8]) {
+    if 0 < args.len() {
+        show(&[MALFORMED]);
+        return;
+    }
+    let mut out = answer_room();
+    let length = state::put_state(s, &mut out);
+    show(text::first(&out, length));
+}
+
+// Where the answer of a call ends: behind its number, or behind the lent buffer. 0 for a line that is not of its form.
+fn call_end(kind: u8, args: &[u8]) -> usize
+    ensures { λ r. ⌜ r ≤ 65 ⌝ }
+{
+    if is_sending(kind) {
+        if args.len() < 1 {
+            return 0;
+        }
+        if is_formed(kind, text::rest(args, 1)) {
+            return room_end(65, 1, args[0]);
+        }
+        return 0;
+    }
+    if is_formed(kind, args) {
+        return 1;
+    }
+    0
+}
+
+// The call of a line that is of its form; a lent buffer is out[1..end].
+fn made(s: Session, kind: u8, args: &[u8], end: usize, out: &mut [u8]) -> Step
+    requires { ⌜ (1 ≤ end) × (end ≤ length (now out)) ⌝ }
+{
+    if is_sending(kind) {
+        return calls::send(s, kind, text::rest(args, 1), &mut out[1..end]);
+    }
+    calls::call(s, kind, args)
+}
+
+// Makes the call of a line and shows its number and the lent buffer; the session after it.
+fn try_call(s: Session, kind: u8, args: &[u8], end: usize, out: &mut [u8]) -> Session
+    requires { ⌜ (1 ≤ end) × (end ≤ length (now out)) ⌝ }
+{
+    let step = made(s, kind, args, end, out);
+    let how = step.end;
+    parts::put(out, 0, calls::end_number(how));
+    show(text::first(out, end));
+    step.session
+}
+
+// A line that makes a call; the session after it.
+fn try_session(s: Session, kind: u8, args: &[u8]) -> Session {
+    let end = call_end(kind, args);
+    if end < 1 {
         show(&[MALFORMED]);
         return s;
     }
-    show(text::first(&out, length));
-    tried.session
+    let mut out = lent_room();
+    try_call(s, kind, args, end, &mut out)
+}
+
+// The session after a line of these bytes.
+fn try_bytes(s: Session, bytes: &[u8]) -> Session {
+    let kind = parts::byte(bytes, 0);
+    let args = text::rest(bytes, 1);
+    match kind {
+        0x10 | 0x11 | 0x12 | 0x20 => {
+            try_answer(kind, args);
+            s
+        }
+        0x37 => {
+            try_state(s, args);
+            s
+        }
+        _ => try_session(s, kind, args),
+    }
 }
 
 // Tries a line; the session after it.

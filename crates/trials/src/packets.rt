@@ -1,4 +1,5 @@
 // The packets: 10 builds one, 11 reads one, 12 reads a status packet.
+use crate::parts::byte;
 use crate::parts::put;
 use crate::parts::put_all;
 use crate::parts::room_end;
@@ -19,11 +20,16 @@ pub(crate) fn build(args: &[u8], out: &mut [u8]) -> usize {
     if args.len() < 3 {
         return 0;
     }
-    let end = room_end(out.len(), 1, args[0]);
+    let end = room_end(out.len(), 1, byte(args, 0));
     if end < 1 {
         return 0;
     }
-    let built = packet::build(args[1], args[2], text::rest(args, 3), &mut out[1..end]);
+    let built = packet::build(
+        byte(args, 1),
+        byte(args, 2),
+        text::rest(args, 3),
+        &mut out[1..end],
+    );
     put(out, 0, built_number(built));
     end
 }
@@ -48,7 +54,7 @@ pub(crate) fn read_status(args: &[u8], out: &mut [u8]) -> usize {
     if args.len() < 1 {
         return 0;
     }
-    let size = reply::size(args[0]);
+    let size = reply::size(byte(args, 0));
     if size < 2 {
         return 0;
     }

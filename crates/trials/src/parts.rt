@@ -23,6 +23,23 @@ pub(crate) fn long(s: &[u8]) -> u32 {
     low as u32 + high as u32 * 65536
 }
 
+// The bytes of a word, and the words of four bytes.
+pub(crate) fn low(word: u16) -> u8 {
+    (word % 256) as u8
+}
+
+pub(crate) fn high(word: u16) -> u8 {
+    (word / 256) as u8
+}
+
+pub(crate) fn low_word(long: u32) -> u16 {
+    (long % 65536) as u16
+}
+
+pub(crate) fn high_word(long: u32) -> u16 {
+    (long / 65536) as u16
+}
+
 // The byte of a flag.
 pub(crate) fn flag(set: bool) -> u8
     ensures { λ r. ⌜ r ≤ 1 ⌝ }
@@ -48,17 +65,6 @@ pub(crate) fn put_all(out: &mut [u8], at: usize, bytes: &[u8]) -> usize {
         i += 1;
     }
     end
-}
-
-// Puts two bytes, least significant first.
-pub(crate) fn put_word(out: &mut [u8], at: usize, value: u16) -> usize {
-    put_all(out, at, &[(value % 256) as u8, (value / 256) as u8])
-}
-
-// Puts four bytes, least significant first.
-pub(crate) fn put_long(out: &mut [u8], at: usize, value: u32) -> usize {
-    let end = put_word(out, at, (value % 65536) as u16);
-    put_word(out, end, (value / 65536) as u16)
 }
 
 // Where a lent buffer of so many bytes ends that starts behind the first `start` bytes of an answer with this length; 0 where the room is above 0x40.

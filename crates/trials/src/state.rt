@@ -1,7 +1,7 @@
 // The session between two lines: 37 shows it, 38 hands in one made by hand.
 use crate::layout::ENTRY;
+use crate::layout::entry_bytes;
 use crate::layout::is_entry;
-use crate::layout::put_entry;
 use crate::layout::read_entry;
 use crate::parts::byte;
 use crate::parts::flag;
@@ -10,8 +10,10 @@ use crate::parts::put_all;
 use command::Command;
 use command::Reading;
 use entry::Entry;
+use session::End;
 use session::Exchange;
 use session::Session;
+use session::Step;
 use text::first;
 use text::rest;
 use wire::Address;
@@ -22,58 +24,29 @@ use wire::Individual;
 // How many entries a session has.
 const ENTRIES: usize = 31;
 
-// What a line comes to: how long its answer is, 0 where the line is not of its form, and the session after it.
-pub(crate) struct Tried {
-    pub length: usize,
-    pub session: Session,
-}
-
-// An answer that leaves the session as it stood.
-pub(crate) fn same(s: Session, length: usize) -> Tried {
-    Tried { length, session: s }
-}
-
-// A command and where it goes, read from a line.
-pub(crate) enum Order {
-    Read { to: Address, command: Command },
-    Malformed,
-}
-
-// A node (kind 00) or a group (kind 01).
-fn target(kind: u8, number: u8) -> Address {
-    if kind < 1 {
+// `kind target ..`: a node (kind 00) or a group (kind 01).
+pub(crate) fn target(s: &[u8]) -> Address {
+    let number = byte(s, 1);
+    if byte(s, 0) < 1 {
         return Address::Individual(Individual(number));
     }
     Address::Group(Group(number))
 }
 
 // `kind target command-byte data..`, with as many data bytes as the command byte counts.
-pub(crate) fn read_order(s: &[u8]) -> Order {
+pub(crate) fn read_command(s: &[u8]) -> Reading {
     if s.len() < 3 {
-        return Order::Malformed;
+        return Reading::Other;
     }
-    let kind = byte(s, 0);
-    if 1 < kind {
-        return Order::Malformed;
+    if 1 < byte(s, 0) {
+        return Reading::Other;
     }
     let head = byte(s, 2);
     let bytes = rest(s, 3);
     if bytes.len() != (head / 16) as usize {
-        return Order::Malformed;
+        return Reading::Other;
     }
-    match command::read(head % 16, bytes) {
-        Reading::Known(command) => {
-            let to = target(kind, byte(s, 1));
-            Order::Read { to, command }
-        }
-        Reading::Other => Order::Malformed,
-    }
-}
-
-// What waits, read from a line.
-enum Waiting {
-    Read(Exchange),
-    Malformed,
+    command::read(head % 16, bytes)
 }
 
 // How many bytes the EXCHANGE at the start of s has: `00`, or `01 kind target command-byte data..`.
@@ -84,21 +57,33 @@ fn exchange_length(s: &[u8]) -> usize {
     4 + (byte(s, 3) / 16) as usize
 }
 
-// EXCHANGE.
-fn read_exchange(s: &[u8]) -> Waiting {
+// EXCHANGE, of its form.
+fn is_exchange(s: &[u8]) -> bool {
     let open = byte(s, 0);
     if open < 1 {
-        return Waiting::Read(Exchange::Idle);
+        return true;
     }
     if 1 < open {
-        return Waiting::Malformed;
+        return false;
     }
-    match read_order(rest(s, 1)) {
-        Order::Read { to, command } => {
-            let x = Exchange::Waiting { to, command };
-            Waiting::Read(x)
+    match read_command(rest(s, 1)) {
+        Reading::Known(_) => true,
+        Reading::Other => false,
+    }
+}
+
+// EXCHANGE.
+fn read_exchange(s: &[u8]) -> Exchange {
+    if byte(s, 0) < 1 {
+        return Exchange::Idle;
+    }
+    let order = rest(s, 1);
+    match read_command(order) {
+        Reading::Known(command) => {
+            let to = target(order);
+            Exchange::Waiting { to, command }
         }
-        Order::Malformed => Waiting::Malformed,
+        Reading::Other => Exchange::Idle,
     }
 }
 
@@ -131,47 +116,46 @@ fn read_entries(s: &[u8]) -> [Entry; 31] {
     entries
 }
 
-// The session of STATE, whose EXCHANGE was read.
-fn read_session(s: &[u8], exchange: Exchange, entries: [Entry; 31]) -> Session {
+// STATE, of its form: open, n, walk, EXCHANGE, ENTRY*31.
+pub(crate) fn is_state(s: &[u8]) -> bool {
+    if 1 < byte(s, 0) {
+        return false;
+    }
+    let behind = rest(s, 3);
+    let length = exchange_length(behind);
+    if is_exchange(first(behind, length)) {
+        return are_entries(rest(behind, length));
+    }
+    false
+}
+
+// The session of STATE.
+pub(crate) fn handed_in(s: &[u8]) -> Step {
     let started = byte(s, 0) == 1;
     let n = byte(s, 1);
     let walk = byte(s, 2);
-    Session {
+    let behind = rest(s, 3);
+    let length = exchange_length(behind);
+    let exchange = read_exchange(first(behind, length));
+    let entries = read_entries(rest(behind, length));
+    let session = Session {
         started,
         n,
         walk,
         exchange,
         entries,
+    };
+    Step {
+        end: End::Done,
+        session,
     }
 }
 
-// STATE: open, n, walk, EXCHANGE, ENTRY*31. `00`.
-pub(crate) fn hand_in(s: Session, args: &[u8], out: &mut [u8]) -> Tried {
-    if 1 < byte(args, 0) {
-        return same(s, 0);
-    }
-    let behind = rest(args, 3);
-    let length = exchange_length(behind);
-    let records = rest(behind, length);
-    if are_entries(records) {
-        match read_exchange(first(behind, length)) {
-            Waiting::Read(exchange) => {
-                let next = read_session(args, exchange, read_entries(records));
-                return same(next, put(out, 0, wire::DONE));
-            }
-            Waiting::Malformed => {
-                return same(s, 0);
-            }
-        }
-    }
-    same(s, 0)
-}
-
-// `kind target`.
-fn put_target(out: &mut [u8], at: usize, to: Address) -> usize {
+// 00 for a node, 01 for a group.
+fn target_kind(to: Address) -> u8 {
     match to {
-        Address::Individual(i) => put_all(out, at, &[0, i.0]),
-        Address::Group(g) => put_all(out, at, &[1, g.0]),
+        Address::Individual(_) => 0,
+        Address::Group(_) => 1,
     }
 }
 
@@ -194,8 +178,7 @@ fn put_exchange(out: &mut [u8], at: usize, x: Exchange) -> usize {
     match x {
         Exchange::Idle => put(out, at, 0),
         Exchange::Waiting { to, command } => {
-            let mut end = put(out, at, 1);
-            end = put_target(out, end, to);
+            let end = put_all(out, at, &[1, target_kind(to), to.byte()]);
             put_command(out, end, command)
         }
     }
@@ -206,17 +189,14 @@ fn put_entries(out: &mut [u8], at: usize, entries: [Entry; 31]) -> usize {
     let mut i = 0;
     while i < ENTRIES {
         let e = entries[i];
-        end = put_entry(out, end, e);
+        end = put_all(out, end, &entry_bytes(e));
         i += 1;
     }
     end
 }
 
-// Nothing: `00 STATE`.
-pub(crate) fn show(s: Session, args: &[u8], out: &mut [u8]) -> usize {
-    if 0 < args.len() {
-        return 0;
-    }
+// `00 STATE`.
+pub(crate) fn put_state(s: Session, out: &mut [u8]) -> usize {
     let x = s.exchange;
     let entries = s.entries;
     let mut end = put_all(out, 0, &[wire::DONE, flag(s.started), s.n, s.walk]);

@@ -1,14 +1,16 @@
 -- A packet laid out by stores: what `packet::build` and `status::build` leave in the buffer.
 use Prim.Native.Nat.{ℕ, suc, _+_, _≤_, _<_}
+use mathlib.Core.Bool.{Bool, true, false, cond}
 use mathlib.Core.Path.{_≡_, refl, ap, _∙_}
 use mathlib.Core.List.{List, [], _∷_, _++_}
 use native.Mathlib.Omega.{arith}
 use native.Mathlib.Nat.{le-of-suc-le-suc, not-suc-le-zero, zero-add, suc-add}
-use lib.ListN.{length, take, drop, set, length-drop}
+use lib.Dec.{ltb}
+use lib.ListN.{length, take, drop, set, length-append, length-drop}
 use lib.Seq.{paste, sets, sets-eq, length-sets, length-paste, take-length, drop-drop}
-use borrow.Author.Tests.{lt-ltb, le-ltb}
+use borrow.Author.Tests.{lt-ltb, le-ltb, ltb-false}
 use Rattle.wire.specs.Promise.{Lending, lent}
-use Rattle.wire.specs.Buffer.{putAt, place, builtNumber}
+use Rattle.wire.specs.Buffer.{putAt, written, refused, place, builtNumber}
 use Rattle.wire.specs.declared.refusal.Refusal.the-variants.{Room}
 use Rattle.wire.specs.declared.buffer.Built.the-variants.{Bytes, Refused}
 
@@ -58,3 +60,14 @@ no-room p out h = lent (rw (lt-ltb (length out) (length p) h))
 pub has-room : (p out : List ℕ) (n : ℕ) (o : List ℕ) → length p ≡ n → n ≤ length out → o ≡ p ++ drop n out → Lending builtNumber (Bytes n) o (place p out)
 unfolding place
 has-room p out n o e h f = lent (rw (le-ltb (length out) (length p) (omega arith), e, f))
+
+placed-long : (t : Bool) (p out : List ℕ) → ltb (length out) (length p) ≡ t → length (cond t (refused Room out) (written p out) .left) ≡ length out
+placed-long true p out e = refl
+placed-long false p out e =
+    let h : length p ≤ length out = ltb-false (length out) (length p) e in
+    omega (arith, length-append p (drop (length p) out), length-drop (length p) out)
+
+-- a buffer in which something was placed, or refused, keeps its length
+pub place-long : (p out : List ℕ) → length (place p out .left) ≡ length out
+unfolding place
+place-long p out = placed-long (ltb (length out) (length p)) p out refl

@@ -1,0 +1,46 @@
+-- The exits of the functions that decide a delivery, as the code comes to them.
+use Prim.Native.Nat.{ℕ, _≤_, _<_}
+use mathlib.Core.List.{List}
+use mathlib.Core.Path.{_≡_, refl, sym, ap, _∙_}
+use borrow.Author.Tests.{lt-ltb, le-ltb}
+use Rattle.wire.specs.Promise.{Outcome, Lending}
+use Rattle.wire.specs.Buffer.{place, builtNumber}
+use Rattle.wire.specs.declared.refusal.Refusal.{Refusal}
+use Rattle.wire.specs.declared.buffer.Built.{Built}
+use Rattle.wire.specs.declared.buffer.Built.the-variants as built
+use Rattle.node.specs.declared.state.Node.{Node}
+use Rattle.node.specs.declared.heard.Heard.{Heard}
+use Rattle.reply.specs.Reply.{replyOf}
+use Rattle.chain.specs.declared.sets.Replier.{Replier}
+use Rattle.chain.specs.declared.survey.Plan.{Plan}
+use Rattle.chain.specs.declared.survey.Plan.the-variants.{Refuse}
+use Rattle.chain.specs.declared.survey.Survey.{Survey}
+use Rattle.chain.specs.declared.decision.Decided.{Decided}
+use Rattle.chain.specs.declared.decision.Delivery.the-variants.{Replied}
+use Rattle.chain.specs.Decision.{refusal, decidedOne, decidedBy, decidedPlan, decidedOf, reachOf}
+
+pub reach-over : (n : ℕ) → 32 < n → 32 ≡ reachOf n
+reach-over n h = rw (lt-ltb 32 n h)
+
+pub reach-under : (n : ℕ) → n ≤ 32 → n ≡ reachOf n
+reach-under n h = rw (le-ltb 32 n h)
+
+-- one node replies
+module _ (n : Node) (acting : ℕ) (h : Heard) (out left : List ℕ) (b : Built) (p : Lending builtNumber b left (place (replyOf h n) out)) where
+  pub one-sent : (k : ℕ) → b ≡ built.Bytes k → record { answer = record { answer = Replied k; acting = acting; heard = h }; left = left } ≡ decidedOne n acting h out
+  unfolding decidedOne
+  one-sent k e = rw (← (p .answer), e, p .leaves)
+
+  pub one-short : (why : Refusal) (d : Decided) → b ≡ built.Refused why → d ≡ refusal why → record { answer = d; left = left } ≡ decidedOne n acting h out
+  unfolding decidedOne
+  one-short why d e f = rw (← (p .answer), e, f, p .leaves)
+
+-- by who replies, and by the plan
+pub told-by : (r q : Replier) (n : Node) (acting : ℕ) (h : Heard) (out : List ℕ) (o : Outcome Decided (List ℕ)) → r ≡ q → o ≡ decidedBy q n acting h out → o ≡ decidedBy r n acting h out
+told-by r q n acting h out o e p = p ∙ sym (ap (λ (x : Replier). decidedBy x n acting h out) e)
+
+pub plan-refused : (s : Survey) (why : Refusal) (out : List ℕ) (d : Decided) → s .plan ≡ Refuse why → d ≡ refusal why → record { answer = d; left = out } ≡ decidedOf s out
+plan-refused s why out d e f = rw (e, f)
+
+pub told-plan : (s : Survey) (q : Plan) (out : List ℕ) (o : Outcome Decided (List ℕ)) → s .plan ≡ q → o ≡ decidedPlan q (s .speaker) out → o ≡ decidedOf s out
+told-plan s q out o e p = p ∙ sym (ap (λ (x : Plan). decidedPlan x (s .speaker) out) e)

@@ -1,0 +1,18 @@
+-- Who replies decides.
+use borrow.Author.Needs.{needs}
+use Rattle.chain.proofs.Deciding.{told-by}
+use Rattle.chain.proofs.decision.decide_by.Statement.{statement}
+use Rattle.chain.proofs.decision.decide_by.Tie as tie
+
+pub decide-by-spec : {M : Type 1} → statement M
+decide-by-spec =
+    tie.close
+    (tie.spec
+    (λ c. search needs)
+    (λ c. search needs)
+    (λ c κs. search needs)
+    (λ c. search needs)
+    (λ c. search told-by)
+    (λ c. search needs)
+    (λ c. search told-by)
+    (λ c. search told-by))

@@ -1,0 +1,26 @@
+-- A set of nodes is a number: node i is in it exactly if its binary digit i, counted from the lowest, is 1.
+use Prim.Native.Nat.{ℕ, zero, suc, _+_, _-_, _/_, _%_, _^_}
+use mathlib.Core.Bool.{Bool, cond}
+use mathlib.Core.List.{List, [], _∷_}
+use lib.Count.{trailingZeros}
+use lib.Dec.{eqb}
+
+-- the node of digit `weight` joins, in 32 digits
+abbrev pub joined : ℕ → ℕ → Bool → ℕ
+joined s weight joins = cond joins ((s + weight) % 2 ^ 32) s
+
+-- the first of a set of 32 digits; 32 if it is empty
+abbrev pub firstOf : ℕ → ℕ
+firstOf s = trailingZeros 32 s
+
+-- the set without it
+abbrev pub withoutFirst : ℕ → ℕ
+withoutFirst s = s - 2 ^ firstOf s
+
+-- the indices of the set's nodes, in order: of k digits, the lowest of which is index i
+abbrev pub membersFrom : ℕ → ℕ → ℕ → List ℕ
+membersFrom zero i s = []
+membersFrom (suc k) i s = cond (eqb (s % 2) 1) (i ∷ membersFrom k (suc i) (s / 2)) (membersFrom k (suc i) (s / 2))
+
+unfoldable pub members : ℕ → List ℕ
+members s = membersFrom 32 0 s

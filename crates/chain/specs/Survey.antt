@@ -1,0 +1,106 @@
+-- How a delivery comes by its plan: a look at each node in order, then the tests of document 01 in their order.
+use Prim.Native.Nat.{ℕ, _+_, _%_, _^_}
+use mathlib.Core.Bool.{Bool, true, false, cond, _&&_}
+use mathlib.Core.List.{List, [], _∷_}
+use lib.Dec.{leb, ltb}
+use lib.ListN.{length, getD}
+use Rattle.wire.specs.declared.address.Address.{Address}
+use Rattle.wire.specs.declared.refusal.Refusal.{Refusal}
+use Rattle.wire.specs.declared.refusal.Refusal.the-variants.{Range}
+use Rattle.packet.specs.Packet.{frameOf}
+use Rattle.packet.specs.declared.Framed.{Framed}
+use Rattle.packet.specs.declared.Framed.the-variants as framed
+use Rattle.node.specs.Node.{powerUp}
+use Rattle.node.specs.declared.state.Node.{Node}
+use Rattle.node.specs.declared.heard.Heard.{Heard}
+use Rattle.node.specs.Heard.{isAnswered}
+use Rattle.chain.specs.declared.sets.Replier.{Replier}
+use Rattle.chain.specs.declared.sets.Replier.the-variants.{None, One, Several}
+use Rattle.chain.specs.declared.survey.Incoming.{Incoming}
+use Rattle.chain.specs.declared.survey.Incoming.the-variants.{Whole, Unread}
+use Rattle.chain.specs.declared.survey.Seen.{Seen}
+use Rattle.chain.specs.declared.survey.Plan.{Plan}
+use Rattle.chain.specs.declared.survey.Plan.the-variants.{Refuse, Deliver}
+use Rattle.chain.specs.declared.survey.Survey.{Survey}
+use Rattle.chain.specs.One.{acts, replies, sound, heardAs}
+use Rattle.chain.specs.Chain.{replierOf}
+use Rattle.chain.specs.Sets.{joined, members}
+
+-- a packet as it comes in
+abbrev pub incomingBy : Framed → List ℕ → Incoming
+incomingBy (framed.Whole to k n) p = Whole to (heardAs k p)
+incomingBy (framed.Refused why) p = Unread why
+
+unfoldable pub incomingOf : List ℕ → Incoming
+incomingOf p = incomingBy (frameOf p) p
+
+-- nothing seen yet: the first node is near
+abbrev pub start : Seen
+start = record { near = true; weight = 1; acting = 0; replying = 0; sound = true }
+
+-- every record so far is sound
+abbrev pub soundWith : Bool → Node → Bool
+soundWith b n = b && sound n
+
+-- one node more
+unfoldable pub glanceFor : Address → Seen → Node → Seen
+glanceFor to s n = record {
+  near = n .addressed;
+  weight = (s .weight + s .weight) % 2 ^ 32;
+  acting = joined (s .acting) (s .weight) (acts to (s .near) n);
+  replying = joined (s .replying) (s .weight) (replies to (s .near) n);
+  sound = soundWith (s .sound) n;
+}
+
+unfoldable pub glancePast : Seen → Node → Seen
+glancePast s n = record { near = s .near; weight = s .weight; acting = s .acting; replying = s .replying; sound = soundWith (s .sound) n }
+
+abbrev pub glanceOf : Incoming → Seen → Node → Seen
+glanceOf (Whole to h) s n = glanceFor to s n
+glanceOf (Unread why) s n = glancePast s n
+
+-- all of them
+abbrev pub glancesOf : Incoming → Seen → List Node → Seen
+glancesOf c s [] = s
+glancesOf c s (n ∷ ns) = glancesOf c (glanceOf c s n) ns
+
+-- who replies, if the packet is answered at all, and who acts
+unfoldable pub replierTo : Heard → ℕ → Replier
+replierTo h s = cond (isAnswered h) (replierOf (members s)) None
+
+abbrev pub planFor : Heard → Seen → Plan
+planFor h s = Deliver (replierTo h (s .replying)) (s .acting) h
+
+abbrev pub planBy : Incoming → Seen → Plan
+planBy (Whole to h) s = planFor h s
+planBy (Unread why) s = Refuse why
+
+-- "For the chain 6 comes first"
+unfoldable pub planOf : Incoming → Seen → ℕ → Plan
+planOf c s n = cond (leb 1 n && leb n 31 && s .sound) (planBy c s) (Refuse Range)
+
+-- the index of the one that replies
+abbrev pub speakerIn : Replier → ℕ
+speakerIn None = 32
+speakerIn (One i) = i
+speakerIn Several = 32
+
+abbrev pub speakerOf : Plan → ℕ
+speakerOf (Refuse why) = 32
+speakerOf (Deliver r acting h) = speakerIn r
+
+abbrev pub surveyWith : Plan → Node → Survey
+surveyWith p n = record { plan = p; speaker = n }
+
+abbrev pub nobody : Node
+nobody = powerUp (record { inputs = 0; counter = 0; analog0 = 0; analog1 = 0; analog2 = 0; id = 0; version = 0 })
+
+abbrev pub surveyAlone : Plan → Survey
+surveyAlone p = surveyWith p nobody
+
+-- the plan with the node that replies
+abbrev pub surveyBy : Plan → List Node → Survey
+surveyBy p ns = surveyWith p (getD ns (speakerOf p) nobody)
+
+unfoldable pub surveyOf : Incoming → List Node → Survey
+surveyOf c ns = surveyBy (planOf c (glancesOf c start ns) (length ns)) ns

@@ -1,0 +1,3 @@
+pub mod Example
+pub mod Starred
+pub mod Further

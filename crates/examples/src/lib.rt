@@ -1,0 +1,1 @@
+// The paper's worked examples, packets and record. Statements and proofs only.

@@ -1,0 +1,40 @@
+-- The chain's table as its owner keeps it: "an array with a count", of which the first `count` nodes are the chain.
+use Prim.Native.Nat.{ℕ}
+use mathlib.Core.Bool.{cond}
+use mathlib.Core.List.{List, _++_}
+use lib.Dec.{ltb}
+use lib.ListN.{take, drop}
+use Rattle.wire.specs.Promise.{Outcome}
+use Rattle.node.specs.declared.state.Node.{Node}
+use Rattle.chain.specs.declared.decision.Delivery.{Delivery}
+use Rattle.chain.specs.Delivery.{Lent, deliveredOn, deliveryNumber}
+use Rattle.table.specs.declared.Table.{Table}
+use Rattle.table.specs.declared.Delivered.{Delivered}
+
+-- the chain that a table holds
+abbrev pub nodesOf : Table → List Node
+nodesOf t = take (t .count) (t .nodes)
+
+-- the table with these nodes for its chain; those past the count stay
+abbrev pub withNodes : Table → List Node → Table
+withNodes t ns = record { nodes = ns ++ drop (t .count) (t .nodes); count = t .count }
+
+-- the answer with its table, and what the reply buffer holds
+abbrev pub keptBy : Table → Outcome Delivery Lent → Outcome Delivered (List ℕ)
+keptBy t o = record { answer = record { answer = o .answer; table = withNodes t (o .left .nodes) }; left = o .left .reply }
+
+-- a packet to the chain that the table holds
+unfoldable pub deliveredOf : Table → List ℕ → List ℕ → Outcome Delivered (List ℕ)
+deliveredOf t p out = keptBy t (deliveredOn (nodesOf t) p out)
+
+-- the number of a delivery
+abbrev pub deliveredNumber : Delivered → ℕ
+deliveredNumber d = deliveryNumber (d .answer)
+
+-- how many of the 33 records n counts
+abbrev pub leastOf : ℕ → ℕ
+leastOf n = cond (ltb 33 n) 33 n
+
+-- the parts of what is handed back, as one
+abbrev pub deliveredWith : List Node → ℕ → Delivery → Delivered
+deliveredWith ns count answer = record { answer = answer; table = record { nodes = ns; count = count } }

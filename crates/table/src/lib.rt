@@ -1,0 +1,60 @@
+// The chain's table as its owner keeps it: an array with a count, lent to the chain call by call.
+use chain::Delivery;
+use node::Node;
+ghost use mathlib.Core.Path.{_≡_};
+ghost use Prim.Native.Nat.{_<_};
+ghost use Rattle.wire.specs.Promise.{Lending};
+ghost use Rattle.table.specs.Table.{leastOf, deliveredWith, deliveredNumber, deliveredOf};
+
+// The first `count` nodes, in the order of the cable, are the chain. There is room for two more than a chain may have,
+// so that a table that is too long can be lent as well, and is refused.
+pub struct Table {
+    pub nodes: [Node; 33],
+    pub count: usize,
+}
+
+pub struct Delivered {
+    pub answer: Delivery,
+    pub table: Table,
+}
+
+// n, or 33 where n is more: how many records n counts.
+fn least(n: usize) -> usize
+    ensures { λ r. ⌜ r ≡ leastOf n ⌝ }
+{
+    if 33 < n {
+        return 33;
+    }
+    n
+}
+
+// The nodes, their count and the answer, as one.
+fn delivered_of(nodes: [Node; 33], count: usize, answer: Delivery) -> Delivered
+    ensures { λ r. ⌜ r ≡ deliveredWith nodes count answer ⌝ }
+{
+    let table = Table { nodes, count };
+    Delivered { answer, table }
+}
+
+// The first n records are lent to the chain, and come back.
+fn lend(nodes: [Node; 33], n: usize, packet: &[u8], reply: &mut [u8]) -> Delivered
+    requires { ⌜ n < 34 ⌝ }
+    ensures { λ r. ⌜ Lending deliveredNumber r (now (reply .exit)) (deliveredOf (record { nodes = nodes; count = n }) (now (packet .entry)) (now (reply .entry))) ⌝ }
+{
+    let mut held = nodes;
+    let answer = chain::deliver(&mut held[..n], packet, reply);
+    delivered_of(held, n, answer)
+}
+
+// A packet to the chain that the table holds. A count over 33 is lent as 33 records, and refused; the count stays.
+pub fn deliver(t: Table, packet: &[u8], reply: &mut [u8]) -> Delivered
+    ensures { λ r. ⌜ Lending deliveredNumber r (now (reply .exit)) (deliveredOf t (now (packet .entry)) (now (reply .entry))) ⌝ }
+{
+    let nodes = t.nodes;
+    let count = t.count;
+    let lent = lend(nodes, least(count), packet, reply);
+    let answer = lent.answer;
+    let table = lent.table;
+    let left = table.nodes;
+    delivered_of(left, count, answer)
+}

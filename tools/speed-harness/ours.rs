@@ -1,0 +1,92 @@
+//! The proved code as it is called from Rust, compiled for this machine by
+//! `tools/speed`. The compiler lays a struct out field by field in the order
+//! of its declaration, as C does; it hands structs, enums and slices over by
+//! address, and has the answer written where the first argument points. An
+//! enum is the number of its case in one byte, then what the case carries.
+
+use crate::plain::{Answer, Node};
+
+/// A slice as the compiler has it: where it starts, and how long it is.
+#[repr(C)]
+struct Slice<T> {
+    start: *const T,
+    length: usize,
+}
+
+/// Room for an answer of two cases or four, of which one carries a number and
+/// one a refusal.
+#[repr(C)]
+struct Said {
+    case: u8,
+    refusal: u8,
+    number: usize,
+}
+
+extern "C" {
+    fn ours_rehearse(said: *mut Said, input: *const Slice<u8>, output: *const Slice<u8>);
+    fn ours_deliver(
+        said: *mut Said,
+        table: *const Slice<Node>,
+        packet: *const Slice<u8>,
+        reply: *const Slice<u8>,
+    );
+}
+
+impl<T> Slice<T> {
+    fn of(lent: &[T]) -> Slice<T> {
+        Slice {
+            start: lent.as_ptr(),
+            length: lent.len(),
+        }
+    }
+
+    fn of_mut(lent: &mut [T]) -> Slice<T> {
+        Slice {
+            start: lent.as_mut_ptr(),
+            length: lent.len(),
+        }
+    }
+}
+
+impl Said {
+    const NOTHING: Said = Said {
+        case: 0,
+        refusal: 0,
+        number: 0,
+    };
+
+    /// Refusals are numbered from 1 in the order of their declaration.
+    fn refused(&self) -> u8 {
+        self.refusal + 1
+    }
+}
+
+/// `chain::deliver`.
+pub fn deliver(table: &mut [Node], packet: &[u8], reply: &mut [u8]) -> Answer {
+    let mut said = Said::NOTHING;
+    let (table, packet, reply) = (
+        Slice::of_mut(table),
+        Slice::of(packet),
+        Slice::of_mut(reply),
+    );
+    // SAFETY: the proved code reads and writes within the slices it is lent.
+    unsafe { ours_deliver(&mut said, &table, &packet, &reply) };
+    match said.case {
+        0 => Answer::Silent,
+        1 => Answer::Replied(said.number),
+        2 => Answer::Collision,
+        _ => Answer::Refused(said.refused()),
+    }
+}
+
+/// `script::rehearse`: how long the text is, or the refusal.
+pub fn rehearse(input: &[u8], output: &mut [u8]) -> Result<usize, u8> {
+    let mut said = Said::NOTHING;
+    let (input, output) = (Slice::of(input), Slice::of_mut(output));
+    // SAFETY: as above.
+    unsafe { ours_rehearse(&mut said, &input, &output) };
+    match said.case {
+        0 => Ok(said.number),
+        _ => Err(said.refused()),
+    }
+}

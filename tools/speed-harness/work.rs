@@ -1,0 +1,133 @@
+//! What both sides are given: seeded packets for a chain, and the same as the
+//! text of a rehearsal.
+
+use crate::packet::whole;
+use crate::plain::{Bench, Node};
+use crate::prng::Prng;
+
+/// The room of a rehearsal text.
+const TEXT: usize = 64 * 1024;
+
+/// Packets end to end, and where each ends.
+pub struct Packets {
+    bytes: Vec<u8>,
+    ends: Vec<usize>,
+}
+
+impl Packets {
+    /// A chain addressed and grouped by its first packets, then the mix of a
+    /// show: mostly orders and questions to one node, a fourth to groups.
+    pub fn make(nodes: usize, count: usize, seed: u64) -> Packets {
+        let mut packets = Packets {
+            bytes: Vec::new(),
+            ends: Vec::new(),
+        };
+        for node in 1..=nodes as u8 {
+            packets.add(&whole(0x00, 0x1, &[node, 0xFF]));
+        }
+        for node in 1..=nodes as u8 {
+            packets.add(&regroup(node, node % 4, node <= 4));
+        }
+        let mut prng = Prng::new(seed);
+        while packets.count() < count {
+            packets.add_mixed(&mut prng, nodes);
+        }
+        packets
+    }
+
+    fn add(&mut self, packet: &[u8]) {
+        self.bytes.extend_from_slice(packet);
+        self.ends.push(self.bytes.len());
+    }
+
+    fn add_mixed(&mut self, prng: &mut Prng, nodes: usize) {
+        let node = 1 + prng.below(nodes) as u8;
+        let group = 0x80 + prng.below(4) as u8;
+        let data = [prng.byte(), prng.byte(), prng.byte(), prng.byte()];
+        let packet = match prng.below(1000) {
+            0..=119 => whole(node, 0x6, &data[..2]),
+            120..=219 => whole(node, 0x4, &data[..2]),
+            220..=319 => whole(node, 0x7, &data),
+            320..=359 => whole(node, 0x8, &data[..1]),
+            360..=379 => whole(node, 0x2, &data[..1]),
+            380..=449 => whole(node, 0xE, &[]),
+            450..=694 => whole(node, 0x3, &data[..1]),
+            695..=784 => whole(group, 0x5, &[]),
+            785..=844 => whole(group, 0xC, &[]),
+            845..=894 => whole(group, 0x6, &data[..2]),
+            895..=924 => whole(group, 0xE, &[]),
+            925..=944 => regroup(node, data[0] % 4, data[1] < 64),
+            945..=959 => spoilt(whole(node, 0x6, &data[..2])),
+            960..=974 => whole(node, 0x9, &data[..usize::from(data[3] % 4)]),
+            975..=984 => whole(0x40 + data[0] % 64, 0x6, &data[..2]),
+            985..=989 => cut(whole(node, 0x6, &data[..2])),
+            // A node reset, and addressed again.
+            _ => {
+                self.add(&whole(node, 0xF, &[]));
+                whole(0x00, 0x1, &[node, 0x80 + node % 4])
+            }
+        };
+        self.add(&packet);
+    }
+
+    pub fn count(&self) -> usize {
+        self.ends.len()
+    }
+
+    pub fn iter(&self) -> impl Iterator<Item = &[u8]> {
+        let mut start = 0;
+        self.ends.iter().map(move |end| {
+            let packet = &self.bytes[start..*end];
+            start = *end;
+            packet
+        })
+    }
+}
+
+/// Set Address to a node, which keeps its number.
+fn regroup(node: u8, group: u8, leads: bool) -> Vec<u8> {
+    whole(node, 0x1, &[node, if leads { group } else { group | 0x80 }])
+}
+
+fn spoilt(mut packet: Vec<u8>) -> Vec<u8> {
+    if let Some(sum) = packet.last_mut() {
+        *sum = sum.wrapping_add(1);
+    }
+    packet
+}
+
+fn cut(mut packet: Vec<u8>) -> Vec<u8> {
+    packet.pop();
+    packet
+}
+
+/// As many packets as a rehearsal text has room for, as that text; how many.
+pub fn text(nodes: usize, seed: u64) -> (Vec<u8>, usize) {
+    let mut text = format!("{nodes}\n").into_bytes();
+    let mut count = 0;
+    for packet in Packets::make(nodes, TEXT / 12, seed).iter() {
+        let line = crate::hex::format(packet);
+        if text.len() + line.len() + 1 > TEXT {
+            break;
+        }
+        text.extend_from_slice(line.as_bytes());
+        text.push(b'\n');
+        count += 1;
+    }
+    (text, count)
+}
+
+/// A chain in power-up state whose bench values tell its nodes apart.
+pub fn chain(nodes: usize) -> Vec<Node> {
+    (0..nodes as u8)
+        .map(|index| {
+            Node::power_up(Bench {
+                inputs: 1000 + 7 * u16::from(index),
+                counter: 70_000 + 65_537 * u32::from(index),
+                analog: [index, index + 1, index + 2],
+                id: 33,
+                version: 5,
+            })
+        })
+        .collect()
+}

@@ -1,3 +1,4 @@
 pub mod Prefix
 pub mod Owner
+pub mod Refusals
 pub mod Unique

@@ -1,0 +1,19 @@
+-- Any number but 0 and 13 leaves the owner's table and the buffer as they stood.
+use Prim.Native.Nat.{ℕ}
+use mathlib.Core.List.{List}
+use mathlib.Core.Path.{_≡_, ap, _∙_}
+use lib.ListN.{take-append-drop}
+use Rattle.wire.specs.Numbers.{done, collision}
+use Rattle.node.specs.declared.state.Node.{Node}
+use Rattle.chain.proofs.Refusals as chain
+use Rattle.table.specs.declared.Table.{Table}
+use Rattle.table.specs.Table.{nodesOf, withNodes, deliveredNumber, deliveredOf}
+
+pub deliver-spares : (t : Table) (p out : List ℕ)
+    → (deliveredNumber (deliveredOf t p out .answer) ≡ done → ⊥) → (deliveredNumber (deliveredOf t p out .answer) ≡ collision → ⊥)
+    → (deliveredOf t p out .answer .table ≡ t) × (deliveredOf t p out .left ≡ out)
+unfolding deliveredOf
+deliver-spares t p out d k =
+    let s = chain.deliver-spares (nodesOf t) p out d k in
+    let whole = take-append-drop (t .count) (t .nodes) in
+    (ap (λ (ns : List Node). withNodes t ns) (s .0) ∙ ap (λ (l : List Node). record { nodes = l; count = t .count }) whole, s .1)

@@ -104,7 +104,7 @@ slice = sliceTy (tyRef (named 0) mut (pointee (T.the-row .written)))
 abbrev low : Decided → Val
 low c = LL.tuple-val D.the-type D′.the-laws (D.the-type .to c)
 
--- ---- numbers: a node has 40 bytes
+-- ---- numbers: a node has 40 bytes, and the set lies 16 bytes into what is decided
 fits-place : (i k : ℕ) → i < k → k * 40 < 2 ^ 63 → i * 40 < 2 ^ 64
 fits-place i k l r = omega arith
 
@@ -302,11 +302,7 @@ module _ {M : Type 1} (𝓤 : URA M) (H : Heap 𝓤) (A : Atoms 𝓤) (W : Given
           past = ltb-false (firstOf s) m by-test
       turn-by s ws true by-test e =
           more s ws (Below s) (e .0) small (subst (λ (z : ℕ). firstOf s < z) (e .1) (both .1)) (both .1) (λ r is.
-          via 𝓤 (Inv (withoutFirst s)) (into (withoutFirst s) (set ws (firstOf s) r) (
-            smaller (withoutFirst s) s (fewer s (both .0)) (e .0),
-            length-set ws (firstOf s) r ∙ e .1,
-            subst (λ (z : Node). visited (c .heard) (withoutFirst s) (set ws (firstOf s) z) ≡ final) (sym is) (visit-next (c .heard) s ws nobody (both .0) (both .1) ∙ e .2),
-          ))
+          via 𝓤 (Inv (withoutFirst s)) (into (withoutFirst s) (set ws (firstOf s) r) (smaller (withoutFirst s) s (fewer s (both .0)) (e .0), length-set ws (firstOf s) r ∙ e .1, kept r is))
           (via 𝓤 (guard 𝓤 (withoutFirst s < s) (Inv (withoutFirst s))) (guardI 𝓤 (withoutFirst s < s) (Inv (withoutFirst s)) (fewer s (both .0))) (exI 𝓤 (λ (t : ℕ). guard 𝓤 (t < s) (Inv t)) (withoutFirst s))))
         where
           small : firstOf s < m
@@ -314,6 +310,9 @@ module _ {M : Type 1} (𝓤 : URA M) (H : Heap 𝓤) (A : Atoms 𝓤) (W : Given
 
           both : (firstOf s < 32) × (firstOf s < length ws)
           both = below-reach (firstOf s) (length ws) (subst (λ (z : ℕ). firstOf s < z) (reached ∙ ap reachOf (sym (e .1))) small)
+
+          kept : (r : Node) → r ≡ taken (c .heard) (getD ws (firstOf s) nobody) → visited (c .heard) (withoutFirst s) (set ws (firstOf s) r) ≡ final
+          kept r is = ap (λ (z : Node). visited (c .heard) (withoutFirst s) (set ws (firstOf s) z)) is ∙ visit-next (c .heard) s ws nobody (both .0) (both .1) ∙ e .2
 
           smaller : (t u : ℕ) → t < u → u < 2 ^ 32 → t < 2 ^ 32
           smaller t u l h = omega arith
@@ -324,13 +323,31 @@ module _ {M : Type 1} (𝓤 : URA M) (H : Heap 𝓤) (A : Atoms 𝓤) (W : Given
           (loop-rule 𝓤 H (W .laws) 𝓣 _<_ (Nat·lt-wfRel .wf) En body.turn-1 Left Inv (λ s.
           exE 𝓤 (λ (ws : List Node). guard 𝓤 (Facts s ws) (⋆ 𝓤 H A (At s ws))) (λ ws. guardE 𝓤 (Facts s ws) (⋆ 𝓤 H A (At s ws)) (λ e. turn-by s ws (ltb (firstOf s) m) refl e))) (c .acting))
 
-    -- where the parameters are passed, up to the loop: the borrow is opened once, before it
-    abbrev Passed : List (Item 𝓤)
-    Passed = Locs (room word l₃) (room set32 l₄) (room word l₅) ((‵ (flft κ q) ⊛ ‵ ftrue) ∷ ‵ (owns (MutSlice (named 0) κ T.the-row ∷ D.the-row ∷ []) a vals) ∷ [])
+    acting-fits : c .acting < 2 ^ 32
+    acting-fits = LL.owed D.the-type D′.the-laws c (low c ∷ []) gc .1 .0 .1
 
-    starts : ent 𝓤 (⋆ 𝓤 H A Passed) (Wp 𝓤 H (𝓣 .C) (𝓣 .Λ) En body.t-1 (atReturn 𝓤 H En Post))
+    -- where the parameters are passed, up to the loop: the borrow is opened once, before it
+    abbrev Passed : Item 𝓤 → Item 𝓤 → List (Item 𝓤)
+    Passed i₃ i₄ = Locs i₃ i₄ (room word l₅) ((‵ (flft κ q) ⊛ ‵ ftrue) ∷ ‵ (owns (MutSlice (named 0) κ T.the-row ∷ D.the-row ∷ []) a vals) ∷ [])
+
+    second : (m : ℕ) → m ≡ reachOf n → ent 𝓤 (⋆ 𝓤 H A (Passed (has word l₃ (vint w64 m)) (has set32 l₄ (vint w32 (c .acting))))) (Wp 𝓤 H (𝓣 .C) (𝓣 .Λ) En body.t-4 (atReturn 𝓤 H En Post))
+    second m e =
+        qed W (Passed (has word l₃ (vint w64 m)) (has set32 l₄ (vint w32 (c .acting)))) ∵ exec ! (𝓣 .C) (𝓣 .Λ) En body.t-4 (atRet En Post) $
+        use0 W (raw (First 𝓤 H A mem run .pre (to-first (c .acting)))) (goes-first (c .acting) acting-fits) $
+        calls-at ! (fmOf 𝓤 H (W .laws) 𝓣) (First 𝓤 H A mem run) known-first (to-first (c .acting)) (and-then ! (load ! (from ! (stop !)) (look ! 19 refl)) (no-more !)) (λ v.
+        use1 W (later (some (λ (i : ℕ). (‵ ftrue ⊛ ‵ (usize .own i (v ∷ []))) ⊛ raw (ensured 𝓤 H A first′.ended (first′.clauses 𝓤 H A mem run) tt (c .acting, tt) tt i)))) (id⊢ 𝓤 _) $ await ! tt $ pick ! (λ i.
+        split ! $ move ! (1 ∷ []) $ use1 W (raw (fact 𝓤 (i ≡ firstOf (c .acting)))) (first-of (c .acting) i) $ heard ! (i ≡ firstOf (c .acting)) (λ f. split ! $ drop ! $
+        facts ! usize (Is usize) (shows 𝓤 H A usize) i (v ∷ []) (λ is.
+        land ! (from ! (stop !)) (init ! 16 refl (uint-lawful 𝓤 H A W w64 .typed i _ is .0)) $
+        rewrite ! 16 (λ (z : Val). has word l₅ z) (ap only (is .0) ∙ ap (vint w64) f) refl $
+        move ! (29 ∷ []) $ fsplit ! $ fsplit ! $ move ! (1 ∷ []) $ fsplit ! $ move ! (32 ∷ []) $ split ! $ move ! (2 ∷ 3 ∷ 0 ∷ []) $
+        opens-slice ! tt T.the-row ys b o $
+        -- [table; the open borrow; obs; auth; true; table's fact; the others'; _13; …; _0]
+        keep ! (0 ∷ 7 ∷ 8 ∷ 9 ∷ 10 ∷ 11 ∷ 12 ∷ 13 ∷ 14 ∷ 15 ∷ 16 ∷ 17 ∷ 18 ∷ 19 ∷ 20 ∷ 21 ∷ 22 ∷ 23 ∷ 24 ∷ 25 ∷ 26 ∷ 27 ∷ 28 ∷ 29 ∷ 30 ∷ 31 ∷ 32 ∷ 33 ∷ 34 ∷ 1 ∷ 2 ∷ 3 ∷ []) $ by ! (loops m e acting-fits)))))
+
+    starts : ent 𝓤 (⋆ 𝓤 H A (Passed (room word l₃) (room set32 l₄))) (Wp 𝓤 H (𝓣 .C) (𝓣 .Λ) En body.t-1 (atReturn 𝓤 H En Post))
     starts =
-        qed W Passed ∵ exec ! (𝓣 .C) (𝓣 .Λ) En body.t-1 (atRet En Post) $
+        qed W (Passed (room word l₃) (room set32 l₄)) ∵ exec ! (𝓣 .C) (𝓣 .Λ) En body.t-1 (atRet En Post) $
         assigns ! (of-opd ! (load ! (from ! (fld ! refl (stop !))) (look-in ! 24 (sub ! 1 refl (whole !))))) (from ! (stop !)) (init ! 14 refl (tt, record { fits = room₀ .0 })) $
         use0 W (raw (Reach 𝓤 H A mem run .pre to-reach)) goes-reach $
         calls-at ! (fmOf 𝓤 H (W .laws) 𝓣) (Reach 𝓤 H A mem run) known-reach to-reach (and-then ! (load ! (from ! (stop !)) (look ! 15 refl)) (no-more !)) (λ v.
@@ -339,21 +356,8 @@ module _ {M : Type 1} (𝓤 : URA M) (H : Heap 𝓤) (A : Atoms 𝓤) (W : Given
         facts ! usize (Is usize) (shows 𝓤 H A usize) m (v ∷ []) (λ is.
         land ! (from ! (stop !)) (init ! 20 refl (uint-lawful 𝓤 H A W w64 .typed m _ is .0)) $
         rewrite ! 20 (λ (z : Val). has word l₃ z) (ap only (is .0)) refl $
-        assigns ! (of-opd ! (load ! (from ! (fld ! refl (stop !))) (look-in ! 22 (sub ! 1 refl (whole !))))) (from ! (stop !)) (init ! 18 refl (tt, record { fits = acting-fits })) $
-        use0 W (raw (First 𝓤 H A mem run .pre (to-first (c .acting)))) (goes-first (c .acting) acting-fits) $
-        calls-at ! (fmOf 𝓤 H (W .laws) 𝓣) (First 𝓤 H A mem run) known-first (to-first (c .acting)) (and-then ! (load ! (from ! (stop !)) (look ! 19 refl)) (no-more !)) (λ w.
-        use1 W (later (some (λ (i : ℕ). (‵ ftrue ⊛ ‵ (usize .own i (w ∷ []))) ⊛ raw (ensured 𝓤 H A first′.ended (first′.clauses 𝓤 H A mem run) tt (c .acting, tt) tt i)))) (id⊢ 𝓤 _) $ await ! tt $ pick ! (λ i.
-        split ! $ move ! (1 ∷ []) $ use1 W (raw (fact 𝓤 (i ≡ firstOf (c .acting)))) (first-of (c .acting) i) $ heard ! (i ≡ firstOf (c .acting)) (λ f. split ! $ drop ! $
-        facts ! usize (Is usize) (shows 𝓤 H A usize) i (w ∷ []) (λ at.
-        land ! (from ! (stop !)) (init ! 16 refl (uint-lawful 𝓤 H A W w64 .typed i _ at .0)) $
-        rewrite ! 16 (λ (z : Val). has word l₅ z) (ap only (at .0) ∙ ap (vint w64) f) refl $ forget ! 14 refl $
-        move ! (29 ∷ []) $ fsplit ! $ fsplit ! $ move ! (1 ∷ []) $ fsplit ! $ move ! (32 ∷ []) $ split ! $ move ! (2 ∷ 3 ∷ 0 ∷ []) $
-        opens-slice ! tt T.the-row ys b o $
-        -- [table; the open borrow; obs; auth; true; table's fact; the others'; _13; …; _0]
-        keep ! (0 ∷ 7 ∷ 8 ∷ 9 ∷ 10 ∷ 11 ∷ 12 ∷ 13 ∷ 14 ∷ 15 ∷ 16 ∷ 17 ∷ 18 ∷ 19 ∷ 20 ∷ 21 ∷ 22 ∷ 23 ∷ 24 ∷ 25 ∷ 26 ∷ 27 ∷ 28 ∷ 29 ∷ 30 ∷ 31 ∷ 32 ∷ 33 ∷ 34 ∷ 1 ∷ 2 ∷ 3 ∷ []) $ by ! (loops m e acting-fits)))))))))
-      where
-        acting-fits : c .acting < 2 ^ 32
-        acting-fits = LL.owed D.the-type D′.the-laws c (low c ∷ []) gc .1 .0 .1
+        assigns ! (of-opd ! (load ! (from ! (fld ! {τ = set32} {d = 16} refl (stop !))) (look-in ! 22 (sub ! 1 {τ = set32} {d = 16} refl (whole !))))) (from ! (stop !)) (init ! 18 refl (tt, record { fits = acting-fits })) $
+        forget ! 14 refl $ by ! (second m e)))))
 
   walk : (𝓣 : Tables 𝓤 H) → Triple 𝓤 (𝓣 .C #chain·reach) (Reach 𝓤 H A mem run) → Triple 𝓤 (𝓣 .C #chain·first) (First 𝓤 H A mem run) → Triple 𝓤 (𝓣 .C #chain·without-first) (Without 𝓤 H A mem run) → Triple 𝓤 (𝓣 .C #chain·act) (Act 𝓤 H A mem run)
       → ent 𝓤 (onEntry 𝓤 H A act-all.signature (κ, tt) (q, tt) a vals) (WpFn 𝓤 H (𝓣 .C) (𝓣 .Λ) code.function (v₁ ∷ low c ∷ []) Post)

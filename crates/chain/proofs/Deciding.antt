@@ -1,7 +1,7 @@
 -- The exits of the functions that decide a delivery, as the code comes to them.
 use Prim.Native.Nat.{ℕ, _≤_, _<_}
 use mathlib.Core.List.{List}
-use mathlib.Core.Path.{_≡_, refl, sym, ap, _∙_}
+use mathlib.Core.Path.{_≡_, sym, ap, _∙_}
 use borrow.Author.Tests.{lt-ltb, le-ltb}
 use Rattle.wire.specs.Promise.{Outcome, Lending}
 use Rattle.wire.specs.Buffer.{place, builtNumber}

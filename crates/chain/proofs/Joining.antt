@@ -1,5 +1,5 @@
 -- What the steps of a delivery come to together is what document 01 says of the packet.
-use Prim.Native.Nat.{ℕ, zero, suc, _+_, _≤_, _<_}
+use Prim.Native.Nat.{ℕ, zero, suc, _≤_, _<_}
 use mathlib.Core.Bool.{Bool, true, false, cond, _&&_}
 use mathlib.Core.List.{List, [], _∷_}
 use mathlib.Core.Path.{_≡_, refl, sym, ap, _∙_}
@@ -27,15 +27,15 @@ use Rattle.reply.specs.Reply.{replyOf}
 use Rattle.chain.specs.declared.sets.Replier.{Replier}
 use Rattle.chain.specs.declared.sets.Replier.the-variants.{None, One, Several}
 use Rattle.chain.specs.declared.survey.Incoming.{Incoming}
-use Rattle.chain.specs.declared.survey.Incoming.the-variants.{Whole, Unread}
+use Rattle.chain.specs.declared.survey.Incoming.the-variants.{Whole}
 use Rattle.chain.specs.declared.survey.Plan.{Plan}
-use Rattle.chain.specs.declared.survey.Plan.the-variants.{Refuse, Deliver}
+use Rattle.chain.specs.declared.survey.Plan.the-variants.{Refuse}
 use Rattle.chain.specs.declared.survey.Survey.{Survey}
 use Rattle.chain.specs.declared.decision.Decided.{Decided}
 use Rattle.chain.specs.declared.decision.Delivery.{Delivery}
 use Rattle.chain.specs.One.{acts, replies, heardAs}
-use Rattle.chain.specs.Chain.{turnedFrom, after, repliersFrom, replierOf, replierIn, Said, silence, said, saidBy, blank, allSound}
-use Rattle.chain.specs.Sets.{membersFrom, members}
+use Rattle.chain.specs.Chain.{after, replierOf, replierIn, Said, silence, said, saidBy, blank, allSound}
+use Rattle.chain.specs.Sets.{members}
 use Rattle.chain.specs.Survey.{incomingBy, incomingOf, start, glancesOf, replierTo, planBy, planOf, speakerIn, speakerOf, nobody, surveyOf}
 use Rattle.chain.specs.Decision.{decidedBuilt, decidedOne, decidedBy, decidedPlan, decidedOf, visited}
 use Rattle.chain.specs.Delivery.{Lent, valid, onBuilt, onSaid, deliveredTo, onFrame, deliveredOn, refused, deliveryNumber}

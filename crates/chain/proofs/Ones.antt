@@ -7,8 +7,6 @@ use Rattle.wire.specs.declared.address.Group.{Group}
 use Rattle.wire.specs.declared.address.Address.{Address}
 use Rattle.wire.specs.declared.address.Address.the-variants as address
 use Rattle.node.specs.declared.state.Node.{Node}
-use Rattle.node.specs.declared.heard.Heard.{Heard}
-use Rattle.node.specs.Heard.{taken}
 use Rattle.chain.specs.One.{hears, meant, answers, acts, sound, replies}
 
 -- an address that was matched as d

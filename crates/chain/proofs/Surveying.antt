@@ -2,7 +2,7 @@
 use Prim.Native.Nat.{ℕ, _+_, _%_, _^_, _≤_, _<_}
 use mathlib.Core.Bool.{Bool, true, false, cond, _&&_}
 use mathlib.Core.List.{List}
-use mathlib.Core.Path.{_≡_, refl, sym, ap, _∙_}
+use mathlib.Core.Path.{_≡_, sym, ap, _∙_}
 use lib.Dec.{leb}
 use borrow.Author.Tests.{le-leb, lt-leb}
 use Rattle.wire.specs.Promise.{Promise}
@@ -14,19 +14,16 @@ use Rattle.packet.specs.declared.Framed.{Framed}
 use Rattle.packet.specs.declared.Framed.the-variants as framed
 use Rattle.command.specs.Command.{readingOf}
 use Rattle.command.specs.declared.Reading.{Reading}
-use Rattle.node.specs.declared.state.Bench.{Bench}
 use Rattle.node.specs.declared.state.Node.{Node}
 use Rattle.node.specs.declared.heard.Heard.{Heard}
 use Rattle.node.specs.Heard.{heardOf, isAnswered}
-use Rattle.node.specs.Node.{powerUp}
 use Rattle.chain.specs.declared.sets.Replier.{Replier}
 use Rattle.chain.specs.declared.sets.Replier.the-variants.{None}
 use Rattle.chain.specs.declared.survey.Incoming.{Incoming}
 use Rattle.chain.specs.declared.survey.Incoming.the-variants.{Whole, Unread}
 use Rattle.chain.specs.declared.survey.Seen.{Seen}
 use Rattle.chain.specs.declared.survey.Plan.{Plan}
-use Rattle.chain.specs.declared.survey.Plan.the-variants.{Refuse, Deliver}
-use Rattle.chain.specs.declared.survey.Survey.{Survey}
+use Rattle.chain.specs.declared.survey.Plan.the-variants.{Refuse}
 use Rattle.chain.specs.One.{acts, replies, sound}
 use Rattle.chain.specs.Chain.{replierOf}
 use Rattle.chain.specs.Sets.{joined, members}

@@ -7,7 +7,6 @@ use node::Node;
 use wire::Built;
 use wire::Refusal;
 ghost use mathlib.Core.Path.{_≡_};
-ghost use Rattle.wire.specs.Promise.{Outcome};
 ghost use Rattle.node.specs.Heard.{taken};
 ghost use Rattle.chain.specs.Decision.{refusal, decidedOne, decidedBy, decidedOf, reachOf};
 

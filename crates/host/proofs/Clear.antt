@@ -4,7 +4,7 @@ use mathlib.Core.Bool.{Bool, true, false, not, true≢false}
 use mathlib.Core.Path.{_≡_, refl, sym, _∙_}
 use native.Mathlib.Omega.{arith}
 use lib.Dec.{ltb, leb}
-use borrow.Author.Tests.{ltb-false, leb-false}
+use borrow.Author.Tests.{ltb-false, leb-false, not-true, not-false}
 use Rattle.wire.specs.Address.{isGroup}
 use Rattle.wire.specs.declared.address.Individual.{Individual}
 use Rattle.wire.specs.declared.address.Group.{Group}
@@ -23,7 +23,7 @@ use Rattle.host.specs.declared.checks.Check.{Check}
 use Rattle.host.specs.declared.checks.Check.the-variants.{Clear, Refuse}
 use Rattle.session.specs.Session.{offChain, entryOf, closedOf, isPlacing, askDue}
 use Rattle.host.specs.Calls.{waits, waitingOf, badGroup, clashOf, refuseIf, readyCheck, nextCheck, askCheck, orderCheck, regroupCheck}
-use Rattle.session.proofs.Sessions.{not-true, not-false, Valid, valid-says, closed-not, due-says, OnChain, on-chain}
+use Rattle.session.proofs.Sessions.{Valid, valid-says, closed-not, due-says, OnChain, on-chain}
 
 -- a check that is clear was clear before, and its last test failed
 pub record Passed (k : Check) (test : Bool) : Type 0 where

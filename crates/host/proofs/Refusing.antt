@@ -1,5 +1,4 @@
 -- The checks of a call; a law for each exit of the code.
-use Prim.Native.Nat.{_-_}
 use mathlib.Core.Bool.{Bool, true, false, not}
 use mathlib.Core.Path.{_≡_}
 use Rattle.wire.specs.declared.address.Individual.{Individual}

@@ -6,7 +6,7 @@ use mathlib.Core.Path.{_≡_, refl, sym, ap, _∙_}
 use native.Mathlib.Omega.{arith}
 use lib.Dec.{ltb}
 use lib.ListN.{length, drop}
-use borrow.Author.Tests.{lt-ltb, le-ltb, ltb-true, ltb-false}
+use borrow.Author.Tests.{lt-ltb, le-ltb, ltb-true, ltb-false, not-false}
 use Rattle.wire.specs.Promise.{Outcome}
 use Rattle.wire.specs.Address.{isIndividual, isGroup, inRange}
 use Rattle.wire.specs.Buffer.{place}
@@ -32,7 +32,7 @@ use Rattle.host.specs.declared.checks.Check.the-variants.{Clear, Refuse}
 use Rattle.session.specs.Session.{offChain, refusedStep, isPlacing, nodeAt, givenPlace, stepNumber}
 use Rattle.host.specs.Calls.{isReset, badGroup, opened, stepBy, transmitted, byCheck, nextCheck, askCheck, orderCheck, regroupCheck, nextOf, askOf, orderOf, regroupOf}
 use Rattle.host.proofs.Clear.{next-says, ask-says, order-says, regroup-says}
-use Rattle.session.proofs.Sessions.{on-chain, not-false}
+use Rattle.session.proofs.Sessions.{on-chain}
 
 -- the packet at the start of the buffer, and the exchange opened
 abbrev pub sending : Session → Address → Address → Command → List ℕ → Outcome Step (List ℕ)

@@ -1,6 +1,6 @@
 -- The record node by node: the entry of node i + 1 has index i. Whoever speaks of one node needs only these.
 use Prim.Native.Nat.{ℕ, zero, suc, _+_, _<_, _≤_}
-use mathlib.Core.Bool.{Bool, true, false, not, _&&_, _||_, true≢false, false≢true}
+use mathlib.Core.Bool.{Bool, true, false, not, _&&_, _||_, false≢true}
 use mathlib.Core.List.{List, [], _∷_}
 use mathlib.Core.Path.{_≡_, refl, ap, _∙_}
 use native.Mathlib.Nat.{not-suc-le-zero, le-of-suc-le-suc}
@@ -8,7 +8,8 @@ use native.Mathlib.Omega.{arith}
 use mathlib.Core.Logic.{_⊎_, inl, inr, ⊎-elim}
 use lib.Dec.{eqb}
 use lib.ListN.{length, getD, replicate}
-use borrow.Author.Tests.{le-ltb, eq-eqb, ne-eqb}
+use borrow.Author.Tests.{le-ltb, eq-eqb, ne-eqb, not-false}
+use Rattle.wire.proofs.Choice.{neither}
 use Rattle.wire.specs.declared.address.Group.{Group}
 use Rattle.wire.specs.declared.address.Address.{Address}
 use Rattle.command.specs.declared.Command.{Command}
@@ -108,14 +109,6 @@ pub record Follower (g : Group) (e : Entry) : Type 0 where
   pub known : knows e place ≡ true
   pub follows : (shows e place .leader && eqb (shows e place .group .0) (g .0)) ≡ false
 
-or-false : (a b : Bool) → (a || b) ≡ false → (a ≡ false) × (b ≡ false)
-or-false true b h = absurd (true≢false h)
-or-false false b h = (refl, h)
-
-not-false : (a : Bool) → not a ≡ false → a ≡ true
-not-false true h = refl
-not-false false h = absurd (true≢false h)
-
 or-true : (a b : Bool) → (a || b) ≡ true → (a ≡ true) ⊎ (b ≡ true)
 or-true true b h = inl refl
 or-true false b h = inr h
@@ -140,16 +133,16 @@ not-from : (k : ℕ) (g : Group) (j n i : ℕ) (es : List Entry) (d : Entry) →
 unfolding ledFrom
 not-from k g j zero i es d h p q = absurd (not-suc-le-zero p)
 not-from k g j (suc n) i [] d h p q = absurd (not-suc-le-zero q)
-not-from k g j (suc n) zero (e ∷ es) d h p q = ap (λ (m : ℕ). rivals k g m e) (omega arith) ∙ or-false (rivals k g j e) _ h .0
+not-from k g j (suc n) zero (e ∷ es) d h p q = ap (λ (m : ℕ). rivals k g m e) (omega arith) ∙ neither (rivals k g j e) _ h .0
 not-from k g j (suc n) (suc i) (e ∷ es) d h p q =
     ap (λ (m : ℕ). rivals k g m (getD es i d)) (omega arith)
-    ∙ not-from k g (suc j) n i es d (or-false (rivals k g j e) _ h .1) (le-of-suc-le-suc p) (le-of-suc-le-suc q)
+    ∙ not-from k g (suc j) n i es d (neither (rivals k g j e) _ h .1) (le-of-suc-le-suc p) (le-of-suc-le-suc q)
 
 -- what a rival is, as a test that failed says it
 follower : (k : ℕ) (g : Group) (j : ℕ) (e : Entry) → (j ≡ k → ⊥) → rivals k g j e ≡ false → Follower g e
 follower k g j e p h =
     let t : (not (knows e place) || (shows e place .leader && eqb (shows e place .group .0) (g .0))) ≡ false = rw (ne-eqb j k p) at h in
-    let u = or-false (not (knows e place)) _ t in
+    let u = neither (not (knows e place)) _ t in
     record { known = not-false (knows e place) (u .0); follows = u .1 }
 
 -- and a rival is another node

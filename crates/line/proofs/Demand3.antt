@@ -6,7 +6,6 @@ use mathlib.Core.Option.{Option}
 use mathlib.Core.Logic.{_↔_}
 use mathlib.Core.Path.{_≡_, sym, ap, subst, _∙_}
 use native.Mathlib.Omega.{arith}
-use lib.ListN.{length}
 use borrow.Author.Tests.{not-false}
 use Rattle.command.specs.Build.{packetFor}
 use Rattle.node.specs.declared.state.Node.{Node}

@@ -6,7 +6,7 @@ use mathlib.Core.Path.{_≡_, refl, sym, ap, _∙_}
 use native.Mathlib.Omega.{arith}
 use lib.ListN.{length, take, drop}
 use lib.Seq.{take-append-seam}
-use borrow.Author.Tests.{lt-ltb}
+use borrow.Author.Tests.{lt-ltb, not-false}
 use Rattle.wire.specs.Numbers.{done}
 use Rattle.wire.specs.Promise.{Outcome}
 use Rattle.wire.specs.Address.{isIndividual, isGroup, inRange}
@@ -27,7 +27,7 @@ use Rattle.session.specs.declared.End.the-variants.{Done, Sent}
 use Rattle.session.specs.declared.Step.{Step}
 use Rattle.session.specs.Session.{offChain, entryOf, isPlacing, givenPlace, nodeAt, endNumber, stepNumber}
 use Rattle.host.specs.Calls.{isReset, badGroup, opened}
-use Rattle.session.proofs.Sessions.{OnChain, on-chain, not-false}
+use Rattle.session.proofs.Sessions.{OnChain, on-chain}
 use Rattle.host.proofs.Clear.{Ready, next-says, ask-says, order-says, regroup-says, wish-free}
 use Rattle.host.proofs.Sent.{sending, next-went, ask-went, order-went, regroup-went}
 use Rattle.host.proofs.Stands.{next-stands, ask-stands, order-stands, regroup-stands}

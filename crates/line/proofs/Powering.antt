@@ -8,6 +8,7 @@ use native.Mathlib.Omega.{arith}
 use lib.Dec.{ltb}
 use lib.ListN.{length}
 use borrow.Author.Tests.{ltb-false}
+use Rattle.wire.proofs.Choice.{neither}
 use Rattle.wire.specs.declared.refusal.Refusal.the-variants.{Range}
 use Rattle.node.specs.declared.state.Bench.{Bench}
 use Rattle.node.specs.Effect.{settingsUp}
@@ -20,7 +21,6 @@ use Rattle.session.specs.declared.Session.{Session}
 use Rattle.session.specs.declared.End.the-variants.{Done, Refused}
 use Rattle.session.specs.declared.Step.{Step}
 use Rattle.session.specs.Session.{poweredOf}
-use Rattle.session.proofs.Sessions.{or-false}
 use Rattle.line.proofs.Exactly.{Exactly}
 use Rattle.line.proofs.Invariant.{at, Invariant}
 
@@ -44,7 +44,7 @@ accepted-power s n e = go (ltb n 1 || ltb 31 n) refl e
     go : (b : Bool) → (ltb n 1 || ltb 31 n) ≡ b → powering b s n .end ≡ Done → Powered s n
     go true f e = let z : _≡_ {A = ℕ} 0 1 = cc e in absurd (omega arith)
     go false f e =
-        let p = or-false (ltb n 1) (ltb 31 n) f in
+        let p = neither (ltb n 1) (ltb 31 n) f in
         record { some = ltb-false n 1 (p .0); few = ltb-false 31 n (p .1); session = rw f refl }
 
 -- all nodes in power-up state

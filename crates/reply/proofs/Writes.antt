@@ -1,22 +1,17 @@
 -- The items of a table, written one behind the other.
 use Prim.Native.Nat.{ℕ, suc, _+_, _/_, _%_, _^_, _≤_, _<_}
-use mathlib.Core.List.{List, [], _∷_, _++_}
+use mathlib.Core.List.{List, [], _++_}
 use mathlib.Core.Path.{_≡_, refl, sym, ap, _∙_, subst}
 use native.Mathlib.Omega.{arith}
-use native.Mathlib.Nat.{add-zero, add-suc, suc-add, zero-add, div-one, pow-suc, div-div-eq-div-mul}
+use native.Mathlib.Nat.{add-zero, zero-add, div-one, pow-suc, div-div-eq-div-mul}
 use native.Mathlib.Numerals.{add-one}
 use lib.Dec.{eqb}
-use lib.ListN.{length, take, drop, set, getD, length-append}
+use lib.ListN.{length, take, drop, getD, length-append}
 use lib.Seq.{sets, sets-eq, take-append-seam, drop-cons, drop-length}
+use Rattle.wire.proofs.Writing.{sets-append}
 use Rattle.node.specs.declared.state.Node.{Node}
 use Rattle.reply.specs.declared.Item.{Item}
 use Rattle.reply.specs.Items.{_of_, bytesOf, asked, askedFrom, itemTable, itemBytes, Wrote}
-
-sets-append : (o d e : List ℕ) (at : ℕ) → sets o at (d ++ e) ≡ sets (sets o at d) (at + length d) e
-sets-append o [] e at = ap (λ (i : ℕ). sets o i e) (sym (add-zero at))
-sets-append o (x ∷ d) e at =
-    sets-append (set o at x) d e (suc at)
-    ∙ ap (λ (i : ℕ). sets (sets (set o at x) (suc at) d) i e) (suc-add at (length d) ∙ sym (add-suc at (length d)))
 
 -- d is still to be written from `at` on over `out`; that will give what e gives from the start of o
 pub record Going (d : List ℕ) (at : ℕ) (out e o : List ℕ) : Type 0 where
@@ -27,7 +22,7 @@ pub record Going (d : List ℕ) (at : ℕ) (out e o : List ℕ) : Type 0 where
 going-part : (a d out e o m : List ℕ) (at r : ℕ) → Going (a ++ d) at out e o → Wrote a at out r m → Going d r m e o
 going-part a d out e o m at r g w = record {
   ends = omega (arith, length-append a d, g .ends, w .next);
-  bytes = ap (λ (l : List ℕ). sets l r d) (w .bytes) ∙ ap (λ (i : ℕ). sets (sets out at a) i d) (w .next) ∙ sym (sets-append out a d at) ∙ g .bytes;
+  bytes = ap (λ (l : List ℕ). sets l r d) (w .bytes) ∙ ap (λ (i : ℕ). sets (sets out at a) i d) (w .next) ∙ sets-append out at a d ∙ g .bytes;
 }
 
 -- an item, as the loop reads it; past the end of a table there would be zeros

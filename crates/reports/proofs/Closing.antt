@@ -5,6 +5,7 @@ use mathlib.Core.List.{List}
 use mathlib.Core.Path.{_≡_, sym, ap, _∙_}
 use lib.Dec.{ltb, eqb}
 use borrow.Author.Tests.{lt-ltb, le-ltb, ltb-true}
+use Rattle.wire.proofs.Choice.{both}
 use Rattle.wire.specs.Promise.{Promise, promised}
 use Rattle.wire.specs.declared.address.Individual.{Individual}
 use Rattle.wire.specs.declared.address.Address.{Address}
@@ -25,7 +26,6 @@ use Rattle.session.specs.declared.End.the-variants.{Done}
 use Rattle.session.specs.declared.Step.{Step}
 use Rattle.session.specs.Session.{stepNumber, refusedStep, closedOf, isPlacing, askDue, givenPlace}
 use Rattle.reports.specs.Report.{isNop}
-use Rattle.session.proofs.Sessions.{and-true}
 use Rattle.reports.specs.Report.{onWalk, giving, asking, idleAt, concluded, finishedBy, finished, reportOf}
 
 module _ (s : Session) (to : Address) where
@@ -101,13 +101,13 @@ reported s bytes a r p h = rw (← p) h
 
 -- an exchange of the walk
 on-walks : (s : Session) (to : Address) → onWalk s to ≡ true → s .walk < s .n
-on-walks s (address.Individual i) h = ltb-true (s .walk) (s .n) (and-true (ltb (s .walk) (s .n)) (eqb (i .0) (s .walk + 1)) h .0)
+on-walks s (address.Individual i) h = ltb-true (s .walk) (s .n) (both (ltb (s .walk) (s .n)) (eqb (i .0) (s .walk + 1)) h .0)
 on-walks s (address.Group g) h = absurd (false≢true h)
 
 pub giving-walks : (b : Bool) (s : Session) (to : Address) (c : Command) → b ≡ giving s to c → b ≡ true → s .walk < s .n
 unfolding giving
-giving-walks b s to c p q = on-walks s to (and-true (onWalk s to) (isPlacing c) (sym p ∙ q) .0)
+giving-walks b s to c p q = on-walks s to (both (onWalk s to) (isPlacing c) (sym p ∙ q) .0)
 
 pub asking-walks : (b : Bool) (s : Session) (to : Address) (c : Command) → b ≡ asking s to c → b ≡ true → s .walk < s .n
 unfolding asking
-asking-walks b s to c p q = on-walks s to (and-true (onWalk s to) (isNop c) (and-true (onWalk s to && isNop c) (askDue s) (sym p ∙ q) .0) .0)
+asking-walks b s to c p q = on-walks s to (both (onWalk s to) (isNop c) (both (onWalk s to && isNop c) (askDue s) (sym p ∙ q) .0) .0)

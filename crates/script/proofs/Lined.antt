@@ -5,12 +5,12 @@ use mathlib.Core.List.{List, [], _∷_, _++_}
 use mathlib.Core.Path.{_≡_, refl, sym, ap, _∙_}
 use native.Mathlib.Omega.{arith}
 use lib.Dec.{ltb}
-use lib.ListN.{length, take, drop, replicate, length-append, length-take, length-drop}
+use lib.ListN.{length, take, drop, replicate, length-append, length-take}
 use lib.Seq.{take-at}
-use borrow.Author.Tests.{lt-ltb, le-ltb, ltb-false}
+use borrow.Author.Tests.{lt-ltb, le-ltb}
 use Rattle.wire.specs.Promise.{Lending}
 use Rattle.wire.specs.Numbers.{numberOf}
-use Rattle.wire.specs.Buffer.{written, refused, place, builtNumber}
+use Rattle.wire.specs.Buffer.{written, place, builtNumber}
 use Rattle.wire.specs.declared.refusal.Refusal.{Refusal}
 use Rattle.wire.specs.declared.refusal.Refusal.the-variants.{Short, Header, Long, Sum, Room, Range, Busy, Idle, NotDue, NoNode, Led, Closed}
 use Rattle.wire.specs.declared.buffer.Built.{Built}

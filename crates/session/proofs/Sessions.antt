@@ -1,10 +1,11 @@
 -- What a valid session and a session that isn't closed are, in plain words; a sound one stays sound at power-up.
 use Prim.Native.Nat.{ℕ, _+_, _<_, _≤_}
-use mathlib.Core.Bool.{Bool, true, false, cond, not, _&&_, _||_, true≢false, false≢true}
+use mathlib.Core.Bool.{Bool, true, false, cond, not, _&&_, _||_, true≢false}
 use mathlib.Core.Path.{_≡_, refl}
 use native.Mathlib.Omega.{arith}
 use lib.Dec.{ltb, leb}
-use borrow.Author.Tests.{lt-ltb, le-ltb, le-leb, ltb-false, leb-true}
+use borrow.Author.Tests.{lt-ltb, le-ltb, le-leb, ltb-false, leb-true, not-true, not-false}
+use Rattle.wire.proofs.Choice.{both, neither}
 use Rattle.wire.specs.Numbers.{done}
 use Rattle.wire.specs.declared.address.Individual.{Individual}
 use Rattle.wire.specs.declared.address.Address.the-variants as address
@@ -20,22 +21,6 @@ use Rattle.session.specs.declared.Session.{Session}
 use Rattle.session.specs.declared.Step.{Step}
 use Rattle.session.specs.Session.{Sound, freshOf, offChain, strayOf, validOf, closedOf, askDue, entryOf, stepNumber, refusedStep, poweredOf}
 
-pub and-true : (a b : Bool) → (a && b) ≡ true → (a ≡ true) × (b ≡ true)
-and-true true b h = (refl, h)
-and-true false b h = absurd (false≢true h)
-
-pub not-true : (a : Bool) → not a ≡ true → a ≡ false
-not-true true h = absurd (false≢true h)
-not-true false h = refl
-
-pub not-false : (a : Bool) → not a ≡ false → a ≡ true
-not-false true h = refl
-not-false false h = absurd (true≢false h)
-
-pub or-false : (a b : Bool) → (a || b) ≡ false → (a ≡ false) × (b ≡ false)
-or-false true b h = absurd (true≢false h)
-or-false false b h = (refl, h)
-
 -- a valid session
 pub record Valid (s : Session) : Type 0 where
   pub few : s .n ≤ 31
@@ -45,8 +30,8 @@ pub record Valid (s : Session) : Type 0 where
 pub valid-says : (s : Session) → validOf s ≡ true → Valid s
 unfolding validOf
 valid-says s h =
-    let t = and-true (leb (s .n) 31 && leb (s .walk) (s .n)) (not (strayOf (s .n) (s .exchange))) h in
-    let u = and-true (leb (s .n) 31) (leb (s .walk) (s .n)) (t .0) in
+    let t = both (leb (s .n) 31 && leb (s .walk) (s .n)) (not (strayOf (s .n) (s .exchange))) h in
+    let u = both (leb (s .n) 31) (leb (s .walk) (s .n)) (t .0) in
     record { few = leb-true (s .n) 31 (u .0); walked = leb-true (s .walk) (s .n) (u .1); onChain = not-true (strayOf (s .n) (s .exchange)) (t .1) }
 
 open-says : (v t : Bool) → cond v (not t) true ≡ false → (v ≡ true) × (t ≡ true)
@@ -69,7 +54,7 @@ pub record OnChain (n : ℕ) (i : Individual) : Type 0 where
 
 pub on-chain : (n : ℕ) (i : Individual) → offChain n (address.Individual i) ≡ false → OnChain n i
 on-chain n i h =
-    let t = or-false (ltb (i .0) 1) (ltb n (i .0)) h in
+    let t = neither (ltb (i .0) 1) (ltb n (i .0)) h in
     record { low = ltb-false (i .0) 1 (t .0); high = ltb-false n (i .0) (t .1) }
 
 -- what is valid, from its parts
@@ -89,7 +74,7 @@ pub power-up-sound : (s : Session) (n : ℕ) → Sound s → Sound (poweredOf s 
 unfolding poweredOf
 power-up-sound s n h =
     either (ltb n 1 || ltb 31 n) _ _ (λ e. h)
-    (λ e. record { valid = valid-from _ (ltb-false 31 n (or-false (ltb n 1) (ltb 31 n) e .1)) (omega arith) refl; whole = length-up })
+    (λ e. record { valid = valid-from _ (ltb-false 31 n (neither (ltb n 1) (ltb 31 n) e .1)) (omega arith) refl; whole = length-up })
 
 -- a step is done, or gives back the session that it was handed
 abbrev pub Stays : Session → Step → Type 0

@@ -1,4 +1,6 @@
 // The chain's table as its owner keeps it: an array with a count, lent to the chain call by call.
+// Promised: what the chain promises of the nodes that are counted; those behind them stay.
+// Left to others: every rule of the chain (chain).
 use chain::Delivery;
 use node::Node;
 ghost use mathlib.Core.Path.{_≡_};

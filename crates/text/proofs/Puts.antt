@@ -1,9 +1,9 @@
 -- Text written one part behind the other.
 use Prim.Native.Nat.{ℕ, suc, _+_, _-_, _*_, _/_, _%_, _≤_, _<_}
 use mathlib.Core.List.{List, [], _∷_, _++_}
-use mathlib.Core.Path.{_≡_, refl, sym, ap, _∙_}
+use mathlib.Core.Path.{_≡_, refl, ap, _∙_}
 use native.Mathlib.Omega.{arith}
-use native.Mathlib.Nat.{add-zero, add-suc, suc-add, zero-add, not-suc-le-zero}
+use native.Mathlib.Nat.{add-zero, zero-add, not-suc-le-zero}
 use native.Mathlib.Numerals.{add-one}
 use lib.ListN.{length, drop, getD, set, length-append, length-drop, length-set, drop-of-length-le}
 use lib.Seq.{sets, sets-eq, drop-cons, length-sets}
@@ -12,16 +12,12 @@ use Rattle.wire.specs.Buffer.{builtNumber, place}
 use Rattle.wire.specs.declared.refusal.Refusal.the-variants.{Room}
 use Rattle.wire.specs.declared.buffer.Built.{Built}
 use Rattle.wire.specs.declared.buffer.Built.the-variants.{Bytes, Refused}
-use Rattle.wire.proofs.Writing.{no-room, has-room}
+use Rattle.wire.proofs.Writing.{no-room, has-room, sets-append}
 use Rattle.text.specs.Lines.{newline}
 use Rattle.text.specs.Digits.{charOf}
 use Rattle.text.specs.Hex.{space, hexOf, hexRest, hexText, hexLine}
 
 -- e behind d
-pub sets-append : (l : List ℕ) (i : ℕ) (d e : List ℕ) → sets (sets l i d) (i + length d) e ≡ sets l i (d ++ e)
-sets-append l i [] e = ap (λ (k : ℕ). sets l k e) (add-zero i)
-sets-append l i (x ∷ d) e = ap (λ (k : ℕ). sets (sets l i (x ∷ d)) k e) (add-suc i (length d) ∙ sym (suc-add i (length d))) ∙ sets-append _ (suc i) d e
-
 -- what has room at the start
 pub sets-start : (l d : List ℕ) → length d ≤ length l → sets l 0 d ≡ d ++ drop (length d) l
 sets-start l d h = sets-eq d l 0 (omega arith) ∙ ap (λ (n : ℕ). d ++ drop n l) (zero-add (length d))

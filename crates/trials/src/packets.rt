@@ -54,12 +54,8 @@ pub(crate) fn read_status(args: &[u8], out: &mut [u8]) -> usize {
     if args.len() < 1 {
         return 0;
     }
-    let size = reply::size(byte(args, 0));
-    if size < 2 {
-        return 0;
-    }
     let bytes = text::rest(args, 1);
-    match status::read(bytes, size - 2) {
+    match reply::read(bytes, byte(args, 0)) {
         Status::Whole(first) => {
             let at = put_all(out, 0, &[wire::DONE, first]);
             put_all(out, at, status::items_part(bytes))

@@ -1,5 +1,5 @@
 -- What a choice by a test tells where one of its branches is ruled out, and what two tests tell.
-use mathlib.Core.Bool.{Bool, true, false, cond, _&&_, false≢true}
+use mathlib.Core.Bool.{Bool, true, false, cond, _&&_, _||_, false≢true, true≢false}
 use mathlib.Core.Path.{_≡_, refl}
 
 -- the second branch is ruled out: the test held
@@ -16,3 +16,8 @@ chose-second false e n = (refl, e)
 pub both : (t u : Bool) → (t && u) ≡ true → (t ≡ true) × (u ≡ true)
 both true u e = (refl, e)
 both false u e = absurd (false≢true e)
+
+-- and two that both fail
+pub neither : (t u : Bool) → (t || u) ≡ false → (t ≡ false) × (u ≡ false)
+neither true u e = absurd (true≢false e)
+neither false u e = (refl, e)

@@ -1,10 +1,10 @@
 -- A packet laid out by stores: what `packet::build` and `status::build` leave in the buffer.
 use Prim.Native.Nat.{ℕ, suc, _+_, _≤_, _<_}
 use mathlib.Core.Bool.{Bool, true, false, cond}
-use mathlib.Core.Path.{_≡_, refl, ap, _∙_}
+use mathlib.Core.Path.{_≡_, refl, sym, ap, _∙_}
 use mathlib.Core.List.{List, [], _∷_, _++_}
 use native.Mathlib.Omega.{arith}
-use native.Mathlib.Nat.{le-of-suc-le-suc, not-suc-le-zero, zero-add, suc-add}
+use native.Mathlib.Nat.{le-of-suc-le-suc, not-suc-le-zero, add-zero, zero-add, add-suc, suc-add}
 use lib.Dec.{ltb}
 use lib.ListN.{length, take, drop, set, length-append, length-drop}
 use lib.Seq.{paste, sets, sets-eq, length-sets, length-paste, take-length, drop-drop}
@@ -71,3 +71,8 @@ placed-long false p out e =
 pub place-long : (p out : List ℕ) → length (place p out .left) ≡ length out
 unfolding place
 place-long p out = placed-long (ltb (length out) (length p)) p out refl
+
+-- d is stored, and e behind it
+pub sets-append : (l : List ℕ) (i : ℕ) (d e : List ℕ) → sets (sets l i d) (i + length d) e ≡ sets l i (d ++ e)
+sets-append l i [] e = ap (λ (k : ℕ). sets l k e) (add-zero i)
+sets-append l i (x ∷ d) e = ap (λ (k : ℕ). sets (sets l i (x ∷ d)) k e) (add-suc i (length d) ∙ sym (suc-add i (length d))) ∙ sets-append _ (suc i) d e

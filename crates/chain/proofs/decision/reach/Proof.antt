@@ -1,6 +1,4 @@
 -- At most 32.
-use borrow.Author.Needs.{needs}
-use borrow.Author.Tests.{lt-ltb, le-ltb}
 use Rattle.chain.proofs.Deciding.{reach-over, reach-under}
 use Rattle.chain.proofs.decision.reach.Statement.{statement}
 use Rattle.chain.proofs.decision.reach.Tie as tie

@@ -7,8 +7,11 @@ use wire::Group;
 use wire::Individual;
 use wire::Refusal;
 ghost use mathlib.Core.Path.{_≡_};
+ghost use mathlib.Core.List.{[], _∷_};
+ghost use lib.ListN.{getD};
 ghost use Rattle.wire.specs.Promise.{Lending};
 ghost use Rattle.wire.specs.Buffer.{builtNumber};
+ghost use Rattle.packet.specs.Build.{buildOf};
 ghost use Rattle.command.specs.Command.{wordOf, placedBy, readingOf};
 ghost use Rattle.command.specs.Build.{groupByte, buildFor, commandBuilt};
 ghost use Rattle.command.specs.declared.Command.the-variants.{SetAddress, SetSynchOutput};
@@ -74,6 +77,16 @@ fn read_place(address: u8, group: u8) -> Reading
     }
 }
 
+// The data byte at a place.
+fn byte(bytes: &[u8], at: usize) -> u8
+    ensures { λ r. ⌜ r ≡ getD (now (bytes .entry)) at 0 ⌝ }
+{
+    if at < bytes.len() {
+        return bytes[at];
+    }
+    0
+}
+
 // The command of a packet's command nibble and data bytes. The match is on the manual's command bytes, count and command.
 pub fn read(command: u8, bytes: &[u8]) -> Reading
     ensures { λ r. ⌜ r ≡ readingOf command (now (bytes .entry)) ⌝ }
@@ -85,24 +98,26 @@ pub fn read(command: u8, bytes: &[u8]) -> Reading
         return Reading::Other;
     }
     let head = command + (bytes.len() as u8) * 16;
+    let one = byte(bytes, 0);
+    let two = byte(bytes, 1);
     match head {
-        0x21 => read_place(bytes[0], bytes[1]),
-        0x12 => Reading::Known(Command::DefineStatus(bytes[0])),
-        0x13 => Reading::Known(Command::ReadStatus(bytes[0])),
+        0x21 => read_place(one, two),
+        0x12 => Reading::Known(Command::DefineStatus(one)),
+        0x13 => Reading::Known(Command::ReadStatus(one)),
         0x24 => Reading::Known(Command::SetPwm(Pwm {
-            first: bytes[0],
-            second: bytes[1],
+            first: one,
+            second: two,
         })),
         0x05 => Reading::Known(Command::SynchOutput),
-        0x26 => Reading::Known(Command::SetOutputs(word(bytes[0], bytes[1]))),
+        0x26 => Reading::Known(Command::SetOutputs(word(one, two))),
         0x47 => Reading::Known(Command::SetSynchOutput(Held {
-            outputs: word(bytes[0], bytes[1]),
+            outputs: word(one, two),
             pwm: Pwm {
-                first: bytes[2],
-                second: bytes[3],
+                first: byte(bytes, 2),
+                second: byte(bytes, 3),
             },
         })),
-        0x18 => Reading::Known(Command::SetTimerMode(bytes[0])),
+        0x18 => Reading::Known(Command::SetTimerMode(one)),
         0x0C => Reading::Known(Command::SynchInput),
         0x0E => Reading::Known(Command::Nop),
         0x0F => Reading::Known(Command::HardReset),
@@ -141,22 +156,41 @@ fn build_held(a: u8, h: Held, out: &mut [u8]) -> Built
     packet::build(a, 0x7, &[low, high, h.pwm.first, h.pwm.second], out)
 }
 
+// A command with no data, with one byte, with two.
+fn build_none(a: u8, code: u8, out: &mut [u8]) -> Built
+    ensures { λ r. ⌜ Lending builtNumber r (now (out .exit)) (buildOf a code [] (now (out .entry))) ⌝ }
+{
+    packet::build(a, code, &[], out)
+}
+
+fn build_one(a: u8, code: u8, x: u8, out: &mut [u8]) -> Built
+    ensures { λ r. ⌜ Lending builtNumber r (now (out .exit)) (buildOf a code (x ∷ []) (now (out .entry))) ⌝ }
+{
+    packet::build(a, code, &[x], out)
+}
+
+fn build_two(a: u8, code: u8, x: u8, y: u8, out: &mut [u8]) -> Built
+    ensures { λ r. ⌜ Lending builtNumber r (now (out .exit)) (buildOf a code (x ∷ y ∷ []) (now (out .entry))) ⌝ }
+{
+    packet::build(a, code, &[x, y], out)
+}
+
 // The packet of a command to the address byte `a`.
 fn build_to(a: u8, c: Command, out: &mut [u8]) -> Built
     ensures { λ r. ⌜ Lending builtNumber r (now (out .exit)) (buildFor a c (now (out .entry))) ⌝ }
 {
     match c {
         Command::SetAddress(p) => build_place(a, p, out),
-        Command::DefineStatus(mask) => packet::build(a, 0x2, &[mask], out),
-        Command::ReadStatus(mask) => packet::build(a, 0x3, &[mask], out),
-        Command::SetPwm(w) => packet::build(a, 0x4, &[w.first, w.second], out),
-        Command::SynchOutput => packet::build(a, 0x5, &[], out),
-        Command::SetOutputs(w) => packet::build(a, 0x6, &[(w % 256) as u8, (w / 256) as u8], out),
+        Command::DefineStatus(mask) => build_one(a, 0x2, mask, out),
+        Command::ReadStatus(mask) => build_one(a, 0x3, mask, out),
+        Command::SetPwm(w) => build_two(a, 0x4, w.first, w.second, out),
+        Command::SynchOutput => build_none(a, 0x5, out),
+        Command::SetOutputs(w) => build_two(a, 0x6, (w % 256) as u8, (w / 256) as u8, out),
         Command::SetSynchOutput(h) => build_held(a, h, out),
-        Command::SetTimerMode(mode) => packet::build(a, 0x8, &[mode], out),
-        Command::SynchInput => packet::build(a, 0xC, &[], out),
-        Command::Nop => packet::build(a, 0xE, &[], out),
-        Command::HardReset => packet::build(a, 0xF, &[], out),
+        Command::SetTimerMode(mode) => build_one(a, 0x8, mode, out),
+        Command::SynchInput => build_none(a, 0xC, out),
+        Command::Nop => build_none(a, 0xE, out),
+        Command::HardReset => build_none(a, 0xF, out),
     }
 }
 

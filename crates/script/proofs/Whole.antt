@@ -1,11 +1,13 @@
 -- The whole text: the count, then the lines.
 use Prim.Native.Nat.{ℕ, suc, _+_, _≤_, _<_}
+use mathlib.Core.Bool.{Bool, true, false}
 use mathlib.Core.List.{List, [], _∷_, _++_}
 use mathlib.Core.Path.{_≡_, refl, sym, ap, _∙_}
 use native.Mathlib.Omega.{arith}
 use native.Mathlib.Numerals.{add-one}
+use lib.Dec.{ltb}
 use lib.ListN.{length, drop, length-drop}
-use borrow.Author.Tests.{lt-ltb, le-ltb}
+use borrow.Author.Tests.{lt-ltb, le-ltb, ltb-true, ltb-false}
 use Rattle.wire.specs.Promise.{Promise, Lending}
 use Rattle.wire.specs.Buffer.{builtNumber, place}
 use Rattle.wire.specs.declared.refusal.Refusal.the-variants.{Room}
@@ -20,6 +22,7 @@ use Rattle.text.proofs.Puts.{sets-start}
 use Rattle.table.specs.declared.Table.{Table}
 use Rattle.script.specs.Wrote.{Wrote, Line}
 use Rattle.script.specs.Bench.{startOf, played, wrong, onCount, onDecimal, benchOf}
+use Rattle.script.proofs.Bound.{most, bench-short}
 
 -- ---- by the count
 
@@ -59,14 +62,22 @@ module _ (s l out left : List ℕ) (q : Decimal) (r : ℕ) (h : length s ≤ 655
 pub rest-short : (s d : List ℕ) (i n : ℕ) → d ≡ drop i s → length s ≤ n → length d ≤ n
 rest-short s d i n e h = rw e (omega (arith, length-drop i s))
 
--- ---- first its length is found, then it is written
+-- ---- written if it has room
 
-pub rehearse-short : (t z k out : List ℕ) (n : ℕ) → Wrote t 0 z n k → length out < n → Lending builtNumber (built.Refused Room) out (place t out)
-rehearse-short t z k out n f h = no-room t out (omega (arith, f .behind))
+pub any-has-room : (s : List ℕ) (room : ℕ) → most ≤ room → false ≡ ltb room (length (benchOf s))
+any-has-room s room h = sym (le-ltb room (length (benchOf s)) (omega (arith, bench-short s)))
 
-pub rehearse-done : (t z k out left : List ℕ) (n m : ℕ) → Wrote t 0 z n k → n ≤ length out → Wrote t 0 out m left
-    → Lending builtNumber (built.Bytes m) left (place t out)
-rehearse-done t z k out left n m f h g =
-    let e : length t ≤ length out = omega (arith, f .behind) in
-    let em : length t ≡ m = omega (arith, g .behind) in
-    has-room t out m left em (omega arith) (g .bytes (omega arith) ∙ sets-start out t e ∙ ap (λ (i : ℕ). t ++ drop i out) em)
+pub found-room : (t z k : List ℕ) (n room : ℕ) → Wrote t 0 z n k → ltb room n ≡ ltb room (length t)
+found-room t z k n room f =
+    let e : n ≡ length t = omega (arith, f .behind) in
+    ap (ltb room) e
+
+module _ (t out : List ℕ) (lacks : Bool) (e : lacks ≡ ltb (length out) (length t)) where
+  pub rehearse-short : lacks ≡ true → Lending builtNumber (built.Refused Room) out (place t out)
+  rehearse-short b = no-room t out (ltb-true (length out) (length t) (sym e ∙ b))
+
+  pub rehearse-done : (left : List ℕ) (m : ℕ) → lacks ≡ false → Wrote t 0 out m left → Lending builtNumber (built.Bytes m) left (place t out)
+  rehearse-done left m b g =
+      let h : length t ≤ length out = ltb-false (length out) (length t) (sym e ∙ b) in
+      let em : length t ≡ m = omega (arith, g .behind) in
+      has-room t out m left em (omega arith) (g .bytes (omega arith) ∙ sets-start out t h ∙ ap (λ (i : ℕ). t ++ drop i out) em)

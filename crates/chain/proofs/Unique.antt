@@ -13,7 +13,7 @@ use denote.Triple.Clauses.{AtExit}
 use denote.Ref.{now}
 use Rattle.wire.specs.Promise.{Lending}
 use Rattle.chain.specs.Delivery.{Lent, deliveredOn, deliveryNumber}
-use Rattle.chain.proofs.table.deliver as deliver
+use Rattle.chain.proofs.lent.deliver as deliver
 
 module _ (κs : Lfts (deliver.ended .signature .lifetimes)) (a : Args (deliver.ended .signature) κs) where
   -- what the contract says of the result r and the parameters e at exit

@@ -90,11 +90,11 @@ use Rattle.chain.proofs.survey.survey_alone as survey-alone
 use Rattle.chain.proofs.survey.survey_alone.Symbol as survey-alone-def
 use Rattle.chain.proofs.survey.survey_alone.Symbol.{name as #chain·survey-alone}
 use Rattle.chain.proofs.survey.survey_alone.Met as survey-alone-thm
-use Rattle.chain.proofs.table.survey_all.Key.{name as #chain·survey-all}
-use Rattle.chain.proofs.table.survey_all as survey-all
-use Rattle.chain.proofs.table.survey_all.Statement as stated
-use Rattle.chain.proofs.table.survey_all.Code as code
-use Rattle.chain.proofs.table.survey_all.Code.Mir as body
+use Rattle.chain.proofs.lent.survey_all.Key.{name as #chain·survey-all}
+use Rattle.chain.proofs.lent.survey_all as survey-all
+use Rattle.chain.proofs.lent.survey_all.Statement as stated
+use Rattle.chain.proofs.lent.survey_all.Code as code
+use Rattle.chain.proofs.lent.survey_all.Code.Mir as body
 
 abbrev stayed : Stays (survey-all.ended .signature .params) (survey-all.ended .kept)
 stayed = (stay-none-slice (0 ∷ []) tt (plain (λ _. T.the-row)) yes, (stay-none (λ _. I.the-row) yes, tt))

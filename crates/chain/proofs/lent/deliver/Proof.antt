@@ -65,27 +65,27 @@ use Rattle.chain.proofs.survey.hear as hear′
 use Rattle.chain.proofs.survey.hear.Symbol as hear-def
 use Rattle.chain.proofs.survey.hear.Symbol.{name as #chain·hear}
 use Rattle.chain.proofs.survey.hear.Met as hear-thm
-use Rattle.chain.proofs.table.survey_all as survey-all′
-use Rattle.chain.proofs.table.survey_all.Symbol as survey-all-def
-use Rattle.chain.proofs.table.survey_all.Symbol.{name as #chain·survey-all}
-use Rattle.chain.proofs.table.survey_all.Met as survey-all-thm
+use Rattle.chain.proofs.lent.survey_all as survey-all′
+use Rattle.chain.proofs.lent.survey_all.Symbol as survey-all-def
+use Rattle.chain.proofs.lent.survey_all.Symbol.{name as #chain·survey-all}
+use Rattle.chain.proofs.lent.survey_all.Met as survey-all-thm
 use Rattle.chain.proofs.decision.decide as decide′
 use Rattle.chain.proofs.decision.decide.Symbol as decide-def
 use Rattle.chain.proofs.decision.decide.Symbol.{name as #chain·decide}
 use Rattle.chain.proofs.decision.decide.Met as decide-thm
-use Rattle.chain.proofs.table.act_all as act-all′
-use Rattle.chain.proofs.table.act_all.Symbol as act-all-def
-use Rattle.chain.proofs.table.act_all.Symbol.{name as #chain·act-all}
-use Rattle.chain.proofs.table.act_all.Met as act-all-thm
+use Rattle.chain.proofs.lent.act_all as act-all′
+use Rattle.chain.proofs.lent.act_all.Symbol as act-all-def
+use Rattle.chain.proofs.lent.act_all.Symbol.{name as #chain·act-all}
+use Rattle.chain.proofs.lent.act_all.Met as act-all-thm
 use Rattle.chain.proofs.decision.answer_of as answer-of′
 use Rattle.chain.proofs.decision.answer_of.Symbol as answer-of-def
 use Rattle.chain.proofs.decision.answer_of.Symbol.{name as #chain·answer-of}
 use Rattle.chain.proofs.decision.answer_of.Met as answer-of-thm
-use Rattle.chain.proofs.table.deliver.Key.{name as #chain·deliver}
-use Rattle.chain.proofs.table.deliver as deliver
-use Rattle.chain.proofs.table.deliver.Statement as stated
-use Rattle.chain.proofs.table.deliver.Code as code
-use Rattle.chain.proofs.table.deliver.Code.Mir as body
+use Rattle.chain.proofs.lent.deliver.Key.{name as #chain·deliver}
+use Rattle.chain.proofs.lent.deliver as deliver
+use Rattle.chain.proofs.lent.deliver.Statement as stated
+use Rattle.chain.proofs.lent.deliver.Code as code
+use Rattle.chain.proofs.lent.deliver.Code.Mir as body
 
 abbrev stayed : Stays (deliver.ended .signature .params) (deliver.ended .kept)
 stayed = (gave-slice (0 ∷ []) tt (plain (λ _. T.the-row)), (stay-none-slice (1 ∷ []) tt (plain (λ _. u8)) yes, (gave-slice (2 ∷ []) tt (plain (λ _. u8)), tt)))
@@ -380,7 +380,7 @@ deliver-spec 𝓤 H 𝓜 𝓖 𝓡 =
     (tables 𝓤 H 𝓜 𝓡 code.env .C) (tables 𝓤 H 𝓜 𝓡 code.env .Λ) #chain·deliver code.function (code.unfolded 𝓤 H 𝓜 𝓡)
     (deliver-meets 𝓤 H (𝓖 .A) (givenOf 𝓤 H 𝓜 𝓖) (𝓜 .mem) (𝓡 .run) (tablesOf 𝓤 H 𝓜 (tables 𝓤 H 𝓜 𝓡 code.env))
     (cited 𝓤 H (Hear 𝓤 H (𝓖 .A) (𝓜 .mem) (𝓡 .run)) 𝓜 𝓡 code.env #chain·hear hear-def.routine code.calls-chain·survey·hear (hear-thm.met 𝓤 H 𝓜 𝓖 𝓡))
-    (cited 𝓤 H (SurveyAll 𝓤 H (𝓖 .A) (𝓜 .mem) (𝓡 .run)) 𝓜 𝓡 code.env #chain·survey-all survey-all-def.routine code.calls-chain·table·survey-all (survey-all-thm.met 𝓤 H 𝓜 𝓖 𝓡))
+    (cited 𝓤 H (SurveyAll 𝓤 H (𝓖 .A) (𝓜 .mem) (𝓡 .run)) 𝓜 𝓡 code.env #chain·survey-all survey-all-def.routine code.calls-chain·lent·survey-all (survey-all-thm.met 𝓤 H 𝓜 𝓖 𝓡))
     (cited 𝓤 H (Decide 𝓤 H (𝓖 .A) (𝓜 .mem) (𝓡 .run)) 𝓜 𝓡 code.env #chain·decide decide-def.routine code.calls-chain·decision·decide (decide-thm.met 𝓤 H 𝓜 𝓖 𝓡))
-    (cited 𝓤 H (ActAll 𝓤 H (𝓖 .A) (𝓜 .mem) (𝓡 .run)) 𝓜 𝓡 code.env #chain·act-all act-all-def.routine code.calls-chain·table·act-all (act-all-thm.met 𝓤 H 𝓜 𝓖 𝓡))
+    (cited 𝓤 H (ActAll 𝓤 H (𝓖 .A) (𝓜 .mem) (𝓡 .run)) 𝓜 𝓡 code.env #chain·act-all act-all-def.routine code.calls-chain·lent·act-all (act-all-thm.met 𝓤 H 𝓜 𝓖 𝓡))
     (cited 𝓤 H (AnswerOf 𝓤 H (𝓖 .A) (𝓜 .mem) (𝓡 .run)) 𝓜 𝓡 code.env #chain·answer-of answer-of-def.routine code.calls-chain·decision·answer-of (answer-of-thm.met 𝓤 H 𝓜 𝓖 𝓡)))

@@ -75,11 +75,11 @@ use Rattle.chain.proofs.decision.act as act′
 use Rattle.chain.proofs.decision.act.Symbol as act-def
 use Rattle.chain.proofs.decision.act.Symbol.{name as #chain·act}
 use Rattle.chain.proofs.decision.act.Met as act-thm
-use Rattle.chain.proofs.table.act_all.Key.{name as #chain·act-all}
-use Rattle.chain.proofs.table.act_all as act-all
-use Rattle.chain.proofs.table.act_all.Statement as stated
-use Rattle.chain.proofs.table.act_all.Code as code
-use Rattle.chain.proofs.table.act_all.Code.Mir as body
+use Rattle.chain.proofs.lent.act_all.Key.{name as #chain·act-all}
+use Rattle.chain.proofs.lent.act_all as act-all
+use Rattle.chain.proofs.lent.act_all.Statement as stated
+use Rattle.chain.proofs.lent.act_all.Code as code
+use Rattle.chain.proofs.lent.act_all.Code.Mir as body
 
 abbrev stayed : Stays (act-all.ended .signature .params) (act-all.ended .kept)
 stayed = (stay-slice (0 ∷ []) tt (plain (λ _. T.the-row)), (stay-none (λ _. D.the-row) yes, tt))

@@ -72,6 +72,11 @@ fn show(bytes: &[u8]) {
     }
 }
 
+// The answer of a line that is not of its form.
+fn show_malformed() {
+    show(&[MALFORMED]);
+}
+
 // What is built, read or delivered: how long the answer is, 0 for a line that is not of its form.
 fn answer(kind: u8, args: &[u8], out: &mut [u8]) -> usize {
     match kind {
@@ -87,7 +92,7 @@ fn try_answer(kind: u8, args: &[u8]) {
     let mut out = answer_room();
     let length = answer(kind, args, &mut out);
     if length < 1 {
-        show(&[MALFORMED]);
+        show_malformed();
         return;
     }
     show(text::first(&out, length));
@@ -96,7 +101,7 @@ fn try_answer(kind: u8, args: &[u8]) {
 // Nothing: `00 STATE`.
 fn try_state(s: Session, args: &[u8]) {
     if 0 < args.len() {
-        show(&[MALFORMED]);
+        show_malformed();
         return;
     }
     let mut out = answer_room();
@@ -148,7 +153,7 @@ fn try_call(s: Session, kind: u8, args: &[u8], end: usize, out: &mut [u8]) -> Se
 fn try_session(s: Session, kind: u8, args: &[u8]) -> Session {
     let end = call_end(kind, args);
     if end < 1 {
-        show(&[MALFORMED]);
+        show_malformed();
         return s;
     }
     let mut out = lent_room();
@@ -177,7 +182,7 @@ fn try_line(s: Session, line: &[u8], bytes: &mut [u8]) -> Session {
     match text::read_bytes(line, bytes) {
         Parsed::Bytes(n) => try_bytes(s, text::first(bytes, n)),
         Parsed::Malformed => {
-            show(&[MALFORMED]);
+            show_malformed();
             s
         }
     }
@@ -204,7 +209,7 @@ fn main() {
     let mut bytes = bytes_room();
     let n = io::read_full(STDIN_FILENO, &mut input);
     if MOST < n {
-        show(&[MALFORMED]);
+        show_malformed();
         return;
     }
     try_all(&input[..n], &mut bytes);

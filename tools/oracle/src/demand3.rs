@@ -15,9 +15,10 @@ use crate::history::History;
 use crate::make_packets::{any_command, damage, group};
 use crate::node::{BenchValues, Node};
 use crate::prng::Prng;
+use crate::record::Setting;
 use crate::refusal::{number_of, Refusal};
 use crate::rules::Rules;
-use crate::session::{Exchange, Session, Setting, Target, MOST_NODES};
+use crate::session::{Exchange, Session, Target, MOST_NODES};
 use crate::status::T;
 
 /// How often things happened.

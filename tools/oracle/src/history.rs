@@ -7,7 +7,8 @@
 //! command count as unsent."
 
 use crate::command::Command;
-use crate::session::{Setting, Target};
+use crate::record::Setting;
+use crate::session::Target;
 
 /// What was heard after a command.
 #[derive(Clone, Copy, PartialEq, Eq)]

@@ -3,8 +3,9 @@
 
 use crate::command::{Command, Held, Place, Settings};
 use crate::node::{BenchValues, Captured, Node};
+use crate::record::{Entry, ALL_KNOWN};
 use crate::rules::Rules;
-use crate::session::{Entry, Exchange, Session, Target, ALL_KNOWN};
+use crate::session::{Exchange, Session, Target};
 
 /// The bytes of one NODE.
 #[cfg(test)]

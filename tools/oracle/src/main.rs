@@ -18,6 +18,7 @@ mod manuals;
 mod node;
 mod packet;
 mod prng;
+mod record;
 mod refusal;
 mod rules;
 mod session;

@@ -3,8 +3,9 @@
 use super::{answers, last_answer};
 use crate::bench;
 use crate::cases_bench::DOCUMENT_EXAMPLE;
+use crate::record::{Entry, Setting};
 use crate::rules::Rules;
-use crate::session::{Entry, Outcome, Session, Setting, Target};
+use crate::session::{Outcome, Session, Target};
 
 use crate::command::Command;
 

@@ -1,0 +1,301 @@
+//! Hand-written cases for deliveries, `20`.
+
+use crate::cases::{damaged, packet, Case};
+use crate::command::{Held, Place, Settings};
+use crate::hex;
+use crate::layout;
+use crate::node::{BenchValues, Captured, Node};
+
+/// A record whose every byte tells where it comes from.
+fn record(address: u8, group: u8, leader: bool, addressed: bool) -> Node {
+    Node {
+        settings: Settings {
+            place: Place {
+                address,
+                group,
+                leader,
+            },
+            mask: 0,
+            outputs: 0x9291,
+            pwm: [0x31, 0x32],
+            held: Held {
+                outputs: 0xC2C1,
+                pwm: [0x43, 0x44],
+            },
+            timer_mode: 0xCD,
+        },
+        addressed,
+        bench: BenchValues {
+            inputs: 0x6261,
+            counter: 0x7473_7271,
+            analog: [0x81, 0x82, 0x83],
+            device_id: 0x02,
+            version: 0x32,
+        },
+        captured: Captured {
+            inputs: 0xB2B1,
+            counter: 0xD4D3_D2D1,
+        },
+    }
+}
+
+/// A record that shows these items in its replies.
+fn showing(mask: u8, node: Node) -> Node {
+    let mut node = node;
+    node.settings.mask = mask;
+    node
+}
+
+/// An addressed node in the default group.
+fn addressed(address: u8) -> Node {
+    record(address, 0xFF, false, true)
+}
+
+/// A node that waits at 0x00.
+fn waiting() -> Node {
+    record(0x00, 0xFF, false, false)
+}
+
+/// A delivery's line.
+fn deliver(room: u8, nodes: &[Node], packet: &str) -> String {
+    let mut bytes = vec![0x20, room, nodes.len() as u8];
+    bytes.extend(nodes.iter().flat_map(layout::node));
+    format!("{} {packet}", hex::format(&bytes))
+        .trim_end()
+        .to_string()
+}
+
+pub fn cases() -> Vec<Case> {
+    vec![
+        Case::new("tables of every length", table_lengths()),
+        Case::new("records off their range", unsound_records()),
+        Case::new("the chain's order of checks", chain_order()),
+        Case::new("every kind at a node", every_kind()),
+        Case::new("others and other counts at a node", others()),
+        Case::new("every status item", every_item()),
+        Case::new("room for the actual reply", rooms()),
+        Case::new("who hears", hearing()),
+        Case::new("leaders and members", leaders()),
+        Case::new("collisions", collisions()),
+        Case::new("Hard Reset at a node", resets()),
+    ]
+}
+
+fn table_lengths() -> Vec<String> {
+    let nop = packet("00 0E");
+    [0, 1, 31, 32]
+        .into_iter()
+        .map(|length| deliver(4, &vec![waiting(); length], &nop))
+        .chain([deliver(0, &[], ""), deliver(0, &[], "01")])
+        .collect()
+}
+
+/// 6 also for records that do not hear and for packets not meant for them.
+fn unsound_records() -> Vec<String> {
+    let bad_address = record(0x80, 0xFF, false, false);
+    let bad_group = record(0x02, 0x7F, true, false);
+    let nop = packet("01 0E");
+    vec![
+        deliver(4, &[bad_address], &nop),
+        deliver(4, &[addressed(1), bad_group], &nop),
+        deliver(4, &[addressed(1), waiting(), waiting(), bad_address], &nop),
+        deliver(4, &[addressed(1), waiting(), waiting(), bad_group], &nop),
+        deliver(0, &[addressed(1), bad_group], ""),
+        deliver(4, &[addressed(1), record(0x7F, 0x80, true, true)], &nop),
+        deliver(
+            4,
+            &[addressed(1), record(0x05, 0x05, true, true)],
+            &packet("05 0E"),
+        ),
+    ]
+}
+
+fn chain_order() -> Vec<String> {
+    let table = [addressed(1)];
+    [
+        "",
+        "00",
+        "AA",
+        "AA 01 0E",
+        "AA 01 12 01",
+        "01 0E 0F",
+        "AA 01 0E 0F 00",
+        "AA 01 0E 10 00",
+    ]
+    .into_iter()
+    .map(|packet| deliver(0, &table, packet))
+    .collect()
+}
+
+/// The eleven kinds, whole and damaged.
+fn every_kind() -> Vec<String> {
+    let table = [showing(0x20, addressed(1))];
+    [
+        "01 21 05 90",
+        "01 21 05 10",
+        "01 12 41",
+        "01 13 BE",
+        "01 24 AA 56",
+        "01 05",
+        "01 26 FF EE",
+        "01 47 F7 01 80 AA",
+        "01 18 EE",
+        "01 0C",
+        "01 0E",
+        "01 0F",
+    ]
+    .into_iter()
+    .flat_map(|parts| [packet(parts), damaged(parts)].map(|packet| deliver(0x13, &table, &packet)))
+    .collect()
+}
+
+fn others() -> Vec<String> {
+    let table = [showing(0x02, addressed(1))];
+    [
+        "01 00",
+        "01 1A 3F",
+        "01 0D",
+        "01 11 07",
+        "01 31 07 FF 00",
+        "01 02",
+        "01 22 FF FF",
+        "01 23 FF FF",
+        "01 14 00",
+        "01 15 00",
+        "01 16 05",
+        "01 37 00 00 00",
+        "01 28 00 00",
+        "01 1C 00",
+        "01 1F 00",
+        "01 21 80 FF",
+        "01 21 FF 01",
+    ]
+    .into_iter()
+    .map(|parts| deliver(6, &table, &packet(parts)))
+    .collect()
+}
+
+fn every_item() -> Vec<String> {
+    let table = [addressed(1)];
+    let mut lines: Vec<String> = (0..8)
+        .map(|bit| deliver(6, &table, &packet(&format!("01 13 {:02X}", 1u8 << bit))))
+        .collect();
+    lines.extend([
+        deliver(0x14, &table, &packet("01 13 FF")),
+        deliver(0x14, &table, &packet("01 12 FF")),
+        deliver(0x14, &table, &packet("01 12 09")),
+        deliver(0x14, &[showing(0xFF, addressed(1))], &packet("01 0C")),
+        deliver(0x14, &[showing(0xFF, addressed(1))], &damaged("01 0C")),
+        deliver(0x14, &[showing(0xC0, addressed(1))], &packet("01 12 00")),
+        deliver(0x14, &[showing(0xC0, addressed(1))], &packet("01 13 01")),
+        deliver(0x14, &[showing(0xC0, addressed(1))], &damaged("01 13 01")),
+    ]);
+    lines
+}
+
+/// 5 is tested for the actual reply and before any node acts.
+fn rooms() -> Vec<String> {
+    let table = [addressed(1)];
+    let led = [record(1, 0x80, true, true), record(2, 0x80, false, true)];
+    let twins = [addressed(1), addressed(1)];
+    vec![
+        deliver(1, &table, &packet("01 26 07 00")),
+        deliver(2, &table, &packet("01 26 07 00")),
+        deliver(0x12, &table, &packet("01 12 FF")),
+        deliver(0x13, &table, &packet("01 12 FF")),
+        deliver(2, &[showing(0xFF, addressed(1))], &packet("01 12 00")),
+        deliver(2, &[showing(0xFF, addressed(1))], &packet("01 13 00")),
+        deliver(2, &[showing(0xFF, addressed(1))], &damaged("01 12 00")),
+        deliver(1, &table, &damaged("01 0F")),
+        deliver(0, &table, &packet("01 0F")),
+        deliver(0, &table, &packet("FF 26 07 00")),
+        deliver(0, &table, &packet("03 26 07 00")),
+        deliver(0, &twins, &packet("01 26 07 00")),
+        deliver(1, &led, &packet("80 26 07 00")),
+        deliver(2, &led, &packet("80 26 07 00")),
+    ]
+}
+
+fn hearing() -> Vec<String> {
+    let set_address = packet("00 21 01 FF");
+    let nop = packet("00 0E");
+    let reset_amid = [addressed(1), waiting(), waiting(), addressed(4), waiting()];
+    vec![
+        deliver(2, &[waiting(), waiting()], &set_address),
+        deliver(
+            2,
+            &[addressed(1), waiting(), waiting()],
+            &packet("00 21 02 00"),
+        ),
+        deliver(2, &[waiting(), addressed(2)], &packet("02 0E")),
+        deliver(2, &[waiting(), addressed(2)], &nop),
+        deliver(2, &reset_amid, &nop),
+        deliver(2, &reset_amid[..4], &nop),
+        deliver(2, &reset_amid[..4], &packet("04 0E")),
+        deliver(2, &reset_amid[..4], &packet("FF 26 07 00")),
+        deliver(2, &[addressed(0), waiting(), waiting()], &nop),
+    ]
+}
+
+fn leaders() -> Vec<String> {
+    let table = [
+        record(1, 0x81, false, true),
+        record(2, 0x81, true, true),
+        record(3, 0x82, true, true),
+        record(0, 0x82, false, false),
+        record(0, 0x81, true, false),
+    ];
+    [
+        packet("81 24 01 02"),
+        damaged("81 24 01 02"),
+        packet("81 12 20"),
+        packet("82 0E"),
+        packet("01 21 01 01"),
+        packet("81 21 07 03"),
+        packet("81 0F"),
+        damaged("81 0F"),
+        packet("81 1F 00"),
+        packet("FF 0E"),
+    ]
+    .iter()
+    .map(|packet| deliver(6, &table[..3], packet))
+    .chain([deliver(6, &table, &packet("81 24 01 02"))])
+    .collect()
+}
+
+fn collisions() -> Vec<String> {
+    let leaders = [
+        record(1, 0x80, true, true),
+        record(2, 0x80, true, true),
+        record(3, 0x80, false, true),
+    ];
+    [
+        packet("80 26 07 00"),
+        damaged("80 26 07 00"),
+        packet("80 12 FF"),
+        packet("80 0F"),
+        packet("80 21 05 80"),
+    ]
+    .iter()
+    .flat_map(|packet| {
+        [
+            deliver(0, &leaders, packet),
+            deliver(0x13, &leaders[..2], packet),
+        ]
+    })
+    .collect()
+}
+
+fn resets() -> Vec<String> {
+    let leader = showing(0x3F, record(1, 0x80, true, true));
+    let table = [leader, record(2, 0x80, false, true), addressed(3)];
+    [
+        packet("01 0F"),
+        packet("80 0F"),
+        damaged("01 0F"),
+        packet("01 1F 00"),
+    ]
+    .iter()
+    .map(|packet| deliver(0x13, &table, packet))
+    .collect()
+}

@@ -1,4 +1,4 @@
--- `chain::table::act_all` meets its contract: a walk of its MIR, by hand, with a loop over the nodes of a set. The borrow is opened once, before the loop, and closed once, after it.
+-- `chain::lent::act_all` meets its contract: a walk of its MIR, by hand, with a loop over the nodes of a set. The borrow is opened once, before the loop, and closed once, after it.
 -- Assumes nothing.
 use mathlib.Core.Path.{_≡_, refl, sym, _∙_, ap, subst}
 use Prim.Native.Nat.{ℕ, _*_, _≤_, _<_, _^_}

@@ -1,4 +1,4 @@
--- `chain::table::survey_all` meets its contract: a walk of its MIR, by hand, with a loop and a branch that returns. The slice is looked into once, before the loop, and shut once, after the last look.
+-- `chain::lent::survey_all` meets its contract: a walk of its MIR, by hand, with a loop and a branch that returns. The slice is looked into once, before the loop, and shut once, after the last look.
 -- Assumes nothing.
 use mathlib.Core.Path.{_≡_, refl, sym, _∙_, ap, subst}
 use Prim.Native.Nat.{ℕ, zero, suc, _+_, _*_, _≤_, _<_, _^_}

@@ -21,7 +21,8 @@ use Rattle.packet.specs.declared.Framed.the-variants as framed
 use Rattle.node.specs.declared.state.Node.{Node}
 use Rattle.node.specs.declared.heard.Heard.{Heard}
 use Rattle.reply.specs.Reply.{maskFor}
-use Rattle.reply.proofs.Replies.{reply-length, size-range}
+use Rattle.mask.proofs.Counts.{size-range}
+use Rattle.reply.proofs.Replies.{reply-length}
 use Rattle.chain.specs.declared.decision.Delivery.{Delivery}
 use Rattle.chain.specs.declared.decision.Delivery.the-variants.{Replied, Refused}
 use Rattle.chain.specs.One.{heardAs}

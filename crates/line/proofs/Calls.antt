@@ -17,7 +17,8 @@ use Rattle.status.specs.Status.{T}
 use Rattle.node.specs.declared.state.Node.{Node}
 use Rattle.node.specs.declared.heard.Heard.{Heard}
 use Rattle.reply.specs.Reply.{maskFor}
-use Rattle.reply.proofs.Replies.{reply-length, size-range}
+use Rattle.mask.proofs.Counts.{size-range}
+use Rattle.reply.proofs.Replies.{reply-length}
 use Rattle.chain.specs.declared.decision.Delivery.{Delivery}
 use Rattle.chain.specs.One.{heardAs, sound}
 use Rattle.chain.specs.Chain.{after, Said, silence, reply, clash, said, allSound}

@@ -5,20 +5,17 @@ use mathlib.Core.List.{List, [], _∷_, map}
 use mathlib.Core.Path.{_≡_, refl, ap, _∙_}
 use native.Mathlib.Omega.{arith}
 use lib.ListN.{length, length-append}
-use Rattle.wire.specs.Sum.{total}
 use Rattle.status.specs.Status.{T}
 use Rattle.node.specs.declared.state.Node.{Node}
 use Rattle.reply.specs.declared.Item.{Item}
-use Rattle.reply.specs.Items.{bytesOf, itemTable, counts, bit, asked, askedFrom, itemBytes, countFrom}
+use Rattle.mask.specs.Mask.{counts, bit, countFrom}
+use Rattle.mask.proofs.Counts.{count-fits}
+use Rattle.reply.specs.Items.{bytesOf, itemTable, asked, askedFrom, itemBytes}
 use Rattle.reply.proofs.Bytes.{bytes-length}
 
--- "Let T be the total of all item counts": the counts of the table come to it
+-- the counts of the table are those that a mask goes by
 pub counts-are : (n : Node) → map (λ (i : Item). i .count) (itemTable n) ≡ counts
 counts-are n = refl
-
-pub total-is-T : total counts ≡ T
-unfolding total
-total-is-T = refl
 
 asked-length : (t : Bool) (n w : ℕ) → length (asked t (bytesOf n w)) ≡ cond t n 0
 asked-length true n w = bytes-length n w
@@ -34,19 +31,6 @@ asked-count k m (i ∷ is) =
 pub items-length : (m : ℕ) (n : Node) → length (itemBytes m n) ≡ countFrom 0 m counts
 unfolding itemBytes
 items-length m n = asked-count 0 m (itemTable n)
-
-chosen-at-most : (t : Bool) (n : ℕ) → cond t n 0 ≤ n
-chosen-at-most true n = omega arith
-chosen-at-most false n = omega arith
-
--- never more than all of them
-count-at-most : (k m : ℕ) (ns : List ℕ) → countFrom k m ns ≤ total ns
-unfolding total
-count-at-most k m [] = omega arith
-count-at-most k m (n ∷ ns) = omega (arith, chosen-at-most (bit k m) n, count-at-most (suc k) m ns)
-
-pub count-fits : (m : ℕ) → countFrom 0 m counts ≤ T
-count-fits m = omega (arith, count-at-most 0 m counts, total-is-T)
 
 pub items-fit : (m : ℕ) (n : Node) → length (itemBytes m n) ≤ T
 items-fit m n = omega (arith, items-length m n, count-fits m)

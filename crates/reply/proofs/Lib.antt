@@ -1,6 +1,5 @@
 pub mod Bytes
 pub mod Counts
-pub mod Sizes
 pub mod Writes
 pub mod Replies
 pub mod Unique

@@ -1,5 +1,5 @@
 -- What a reply is: its length, its sum, how the host judges it, and that it reads back under its mask as its items.
-use Prim.Native.Nat.{ℕ, suc, _+_, _≤_, _<_}
+use Prim.Native.Nat.{ℕ, suc, _+_, _<_}
 use mathlib.Core.List.{List, [], _∷_}
 use mathlib.Core.Bool.{Bool, true, false}
 use mathlib.Core.Path.{_≡_, refl, ap, _∙_}
@@ -9,7 +9,7 @@ use Rattle.wire.specs.Sum.{endsInSum}
 use Rattle.wire.specs.Change.{Altered, AllBytes}
 use Rattle.wire.proofs.Sums.{with-sum-ends}
 use Rattle.wire.proofs.Bytes.{append-bytes}
-use Rattle.status.specs.Status.{T, itemsOf, cleared, judged}
+use Rattle.status.specs.Status.{itemsOf, cleared, judged}
 use Rattle.status.specs.declared.Status.the-variants.{Whole}
 use Rattle.status.specs.declared.Answer.the-variants.{Clear, Marked, Silent}
 use Rattle.status.proofs.Replies.{status-length, built-reads, built-items, judged-built, judged-altered}
@@ -21,10 +21,11 @@ use Rattle.node.specs.declared.heard.Heard.{Heard}
 use Rattle.node.specs.declared.heard.Heard.the-variants.{Intact, Other, Spoilt}
 use Rattle.node.specs.Heard.{taken}
 use Rattle.reply.specs.declared.Item.{Item}
-use Rattle.reply.specs.Items.{bytesOf, itemTable, bit, asked, askedFrom, itemBytes, sizeOf}
-use Rattle.reply.specs.Reply.{maskFor, statusByte, replyOf, readUnder}
+use Rattle.mask.specs.Mask.{bit, sizeOf, readUnder}
+use Rattle.reply.specs.Items.{bytesOf, itemTable, asked, askedFrom, itemBytes}
+use Rattle.reply.specs.Reply.{maskFor, statusByte, replyOf}
 use Rattle.reply.proofs.Bytes.{bytes-are}
-use Rattle.reply.proofs.Counts.{items-length, items-fit, count-fits}
+use Rattle.reply.proofs.Counts.{items-length, items-fit}
 
 -- ---- length
 
@@ -32,11 +33,6 @@ pub reply-length : (h : Heard) (n : Node) → length (replyOf h n) ≡ sizeOf (m
 unfolding replyOf sizeOf
 reply-length h n =
     status-length (statusByte h) (itemBytes (maskFor h n) (taken h n)) ∙ ap (λ (k : ℕ). 2 + k) (items-length (maskFor h n) (taken h n))
-
--- "2 to T + 2 bytes"
-pub size-range : (m : ℕ) → (2 ≤ sizeOf m) × (sizeOf m ≤ T + 2)
-unfolding sizeOf
-size-range m = (omega arith, omega (arith, count-fits m))
 
 -- ---- the sum, and what the host makes of a reply
 

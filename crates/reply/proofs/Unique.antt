@@ -1,16 +1,7 @@
--- A second result that meets a contract is equal to the first, for each public function.
+-- A second result that meets a contract is equal to the first, for the public function.
 use mathlib.Core.Path.{_≡_, sym, _∙_}
 use denote.Ref.{now}
-use Rattle.wire.proofs.OneResult.{OneResult}
-use Rattle.reply.proofs.size.Reads as size
-use Rattle.reply.proofs.read.Reads as read
 use Rattle.reply.proofs.reply.Reads as reply
-
-pub size-unique : OneResult size.Post
-size-unique κs a r r′ s s′ p q = p ∙ sym q
-
-pub read-unique : OneResult read.Post
-read-unique κs a r r′ s s′ p q = p .answer ∙ sym (q .answer)
 
 -- the result, and what the lent buffer holds
 pub reply-unique : (κs : _) (a : _) (r r′ : _) (s s′ : _) → reply.Post κs a r s → reply.Post κs a r′ s′

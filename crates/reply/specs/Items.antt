@@ -1,12 +1,12 @@
 -- Define Status in the LS-773 manual: the status items, their bits in the mask, byte counts and order.
-use Prim.Native.Nat.{ℕ, zero, suc, _+_, _/_, _%_, _^_}
+use Prim.Native.Nat.{ℕ, zero, suc, _+_, _/_, _%_}
 use mathlib.Core.Bool.{Bool, cond}
 use mathlib.Core.List.{List, [], _∷_, _++_}
 use mathlib.Core.Path.{_≡_}
-use lib.Dec.{eqb}
 use lib.ListN.{length}
 use lib.Seq.{sets}
 use Rattle.command.specs.Command.{wordOf}
+use Rattle.mask.specs.Mask.{bit}
 use Rattle.node.specs.declared.state.Node.{Node}
 use Rattle.reply.specs.declared.Item.{Item}
 
@@ -34,14 +34,6 @@ itemTable n =
     ∷ (4 of (n .captured .counter))
     ∷ []
 
--- their byte counts
-abbrev pub counts : List ℕ
-counts = 2 ∷ 1 ∷ 1 ∷ 1 ∷ 4 ∷ 2 ∷ 2 ∷ 4 ∷ []
-
--- bit k of a mask
-abbrev pub bit : ℕ → ℕ → Bool
-bit k m = eqb (m / 2 ^ k % 2) 1
-
 -- an item's bytes, if it is asked for
 abbrev pub asked : Bool → List ℕ → List ℕ
 asked t d = cond t d []
@@ -53,15 +45,6 @@ askedFrom k m (i ∷ is) = asked (bit k m) (bytesOf (i .count) (i .value)) ++ as
 
 unfoldable pub itemBytes : ℕ → Node → List ℕ
 itemBytes m n = askedFrom 0 m (itemTable n)
-
--- how many they are, by the counts
-abbrev pub countFrom : ℕ → ℕ → List ℕ → ℕ
-countFrom k m [] = 0
-countFrom k m (n ∷ ns) = cond (bit k m) n 0 + countFrom (suc k) m ns
-
--- the length of the status packet under a mask: status byte, items, sum
-unfoldable pub sizeOf : ℕ → ℕ
-sizeOf m = 2 + countFrom 0 m counts
 
 -- d was written from `at` on: the place behind it, and what the buffer holds then
 pub record Wrote (d : List ℕ) (at : ℕ) (out : List ℕ) (r : ℕ) (left : List ℕ) : Type 0 where

@@ -3,13 +3,12 @@ use Prim.Native.Nat.{ℕ}
 use mathlib.Core.List.{List}
 use Rattle.command.specs.declared.Command.{Command}
 use Rattle.command.specs.declared.Command.the-variants.{SetAddress, DefineStatus, ReadStatus, SetPwm, SynchOutput, SetOutputs, SetSynchOutput, SetTimerMode, SynchInput, Nop, HardReset}
-use Rattle.status.specs.Status.{statusPacket, statusOf}
-use Rattle.status.specs.declared.Status.{Status}
+use Rattle.status.specs.Status.{statusPacket}
 use Rattle.node.specs.declared.state.Node.{Node}
 use Rattle.node.specs.declared.heard.Heard.{Heard}
 use Rattle.node.specs.declared.heard.Heard.the-variants.{Intact, Other, Spoilt}
 use Rattle.node.specs.Heard.{taken}
-use Rattle.reply.specs.Items.{itemBytes, counts, countFrom}
+use Rattle.reply.specs.Items.{itemBytes}
 
 -- "Read Status uses its own mask for its one reply", every other command the one that is held
 abbrev pub ownMask : Command → ℕ → ℕ
@@ -43,7 +42,3 @@ statusByte Spoilt = 2
 -- status byte; the items asked for, as the node holds them once it has acted; sum
 unfoldable pub replyOf : Heard → Node → List ℕ
 replyOf h n = statusPacket (statusByte h) (itemBytes (maskFor h n) (taken h n))
-
--- "Reading a status packet under a mask": with as many item bytes as the mask asks for
-unfoldable pub readUnder : ℕ → List ℕ → Status
-readUnder m s = statusOf s (countFrom 0 m counts)

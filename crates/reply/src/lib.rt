@@ -4,33 +4,15 @@
 use command::Command;
 use node::Heard;
 use node::Node;
-use status::Status;
 use wire::Built;
 ghost use mathlib.Core.Path.{_≡_};
 ghost use Prim.Native.Nat.{_+_, _≤_};
 ghost use lib.ListN.{length};
-ghost use Rattle.wire.specs.Promise.{Promise, Lending};
+ghost use Rattle.wire.specs.Promise.{Lending};
 ghost use Rattle.wire.specs.Buffer.{builtNumber, place};
-ghost use Rattle.status.specs.Status.{T, statusNumber};
-ghost use Rattle.reply.specs.Items.{bytesOf, asked, itemBytes, sizeOf, itemTable, Wrote};
-ghost use Rattle.reply.specs.Reply.{ownMask, maskOf, statusByte, replyOf, readUnder};
-
-// How many bytes the status packet under a mask has.
-pub fn size(mask: u8) -> usize
-    ensures { λ r. ⌜ r ≡ sizeOf mask ⌝ }
-{
-    let ones = mask / 2 % 2 + mask / 4 % 2 + mask / 8 % 2;
-    let twos = mask % 2 + mask / 32 % 2 + mask / 64 % 2;
-    let fours = mask / 16 % 2 + mask / 128 % 2;
-    (2 + ones + twos * 2 + fours * 4) as usize
-}
-
-// One whole status packet under a mask. Its items are `status::items_part`.
-pub fn read(s: &[u8], mask: u8) -> Status
-    ensures { λ r. ⌜ Promise statusNumber r (readUnder mask (now (s .entry))) ⌝ }
-{
-    status::read(s, size(mask) - 2)
-}
+ghost use Rattle.status.specs.Status.{T};
+ghost use Rattle.reply.specs.Items.{bytesOf, asked, itemBytes, itemTable, Wrote};
+ghost use Rattle.reply.specs.Reply.{ownMask, maskOf, statusByte, replyOf};
 
 // The mask of a command's reply: Read Status has its own.
 fn own_mask(c: Command, held: u8) -> u8

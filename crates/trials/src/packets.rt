@@ -55,7 +55,7 @@ pub(crate) fn read_status(args: &[u8], out: &mut [u8]) -> usize {
         return 0;
     }
     let bytes = text::rest(args, 1);
-    match reply::read(bytes, byte(args, 0)) {
+    match mask::read(bytes, byte(args, 0)) {
         Status::Whole(first) => {
             let at = put_all(out, 0, &[wire::DONE, first]);
             put_all(out, at, status::items_part(bytes))

@@ -5,7 +5,7 @@ use mathlib.Core.List.{List, [], _∷_}
 use mathlib.Core.Path.{_≡_, refl, ap, _∙_}
 use native.Mathlib.Omega.{arith}
 use lib.Dec.{eqb}
-use Rattle.reply.specs.Items.{counts, countFrom, sizeOf}
+use Rattle.mask.specs.Mask.{counts, countFrom, sizeOf}
 
 -- a bit as a number: 1 where it is set
 digit : (x n : ℕ) → x < 2 → cond (eqb x 1) n 0 ≡ x * n

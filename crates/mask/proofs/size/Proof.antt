@@ -1,9 +1,9 @@
 -- The counts of the bits that are set, as a sum.
 use borrow.Author.Needs.{needs}
 use mathlib.Core.Path.{sym}
-use Rattle.reply.proofs.Sizes.{size-sum}
-use Rattle.reply.proofs.size.Statement.{statement}
-use Rattle.reply.proofs.size.Tie as tie
+use Rattle.mask.proofs.Sizes.{size-sum}
+use Rattle.mask.proofs.size.Statement.{statement}
+use Rattle.mask.proofs.size.Tie as tie
 
 pub size-spec : {M : Type 1} → statement M
 size-spec =

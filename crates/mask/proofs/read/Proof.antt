@@ -7,10 +7,9 @@ use mathlib.Core.Path.{_≡_}
 use Rattle.wire.specs.Promise.{Promise}
 use Rattle.status.specs.Status.{statusOf, statusNumber}
 use Rattle.status.specs.declared.Status.{Status}
-use Rattle.reply.specs.Items.{counts, countFrom, sizeOf}
-use Rattle.reply.specs.Reply.{readUnder}
-use Rattle.reply.proofs.read.Statement.{statement}
-use Rattle.reply.proofs.read.Tie as tie
+use Rattle.mask.specs.Mask.{counts, countFrom, sizeOf, readUnder}
+use Rattle.mask.proofs.read.Statement.{statement}
+use Rattle.mask.proofs.read.Tie as tie
 
 two : (m k : ℕ) → k ≡ sizeOf m → 2 ≤ k
 unfolding sizeOf

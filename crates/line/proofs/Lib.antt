@@ -3,6 +3,7 @@ pub mod Words
 pub mod Exact
 pub mod Due
 pub mod Closing
+pub mod Returning
 pub mod Exactly
 pub mod Sound
 pub mod Invariant

@@ -2,7 +2,7 @@
 use Prim.Native.Nat.{ℕ, suc, _+_, _<_, _≤_}
 use mathlib.Core.Bool.{Bool, true, false, cond}
 use mathlib.Core.List.{List}
-use mathlib.Core.Path.{_≡_, refl, sym, ap, _∙_}
+use mathlib.Core.Path.{_≡_, refl, ap}
 use lib.ListN.{length, getD}
 use Rattle.wire.specs.declared.address.Address.{Address}
 use Rattle.wire.specs.declared.refusal.Refusal.the-variants as refusal
@@ -12,16 +12,14 @@ use Rattle.status.specs.Status.{judged}
 use Rattle.status.specs.declared.Answer.{Answer}
 use Rattle.status.specs.declared.Answer.the-variants.{Clear, Marked, Silent}
 use Rattle.entry.specs.declared.Entry.{Entry}
-use Rattle.entry.specs.Entry.{noted, Quiet, nop, readStatus, synchInput}
+use Rattle.entry.specs.Entry.{noted}
 use Rattle.ledger.specs.Ledger.{reachOf, settled}
-use Rattle.ledger.proofs.Ledgers.{settled-at, settled-past, settled-quiet}
+use Rattle.ledger.proofs.Ledgers.{settled-at, settled-past}
 use Rattle.session.specs.declared.Exchange.{Exchange}
 use Rattle.session.specs.declared.Exchange.the-variants.{Idle, Waiting}
 use Rattle.session.specs.declared.Session.{Session}
 use Rattle.session.specs.declared.End.the-variants.{Done}
 use Rattle.session.specs.Session.{refusedStep, closedOf, givenPlace}
-use Rattle.host.specs.Calls.{isReset, opened}
-use Rattle.host.proofs.Sent.{opened-waits}
 use Rattle.reports.specs.Report.{giving, asking, idleAt, concluded, finishedBy, finished, reportOf}
 
 -- the command that an answer is about: an "ask"'s good clear reply confirms the walk's Set Address
@@ -113,27 +111,3 @@ finished-closed s a p = rw p
 pub report-is : (s : Session) (bytes : List ℕ) → reportOf s bytes ≡ finished s (judged bytes)
 unfolding reportOf
 report-is s bytes = refl
-
--- ---- sent and answered, and the session is as it was before
-
-idle-again : (s : Session) → s .exchange ≡ Idle → idleAt s (s .walk) (s .entries) ≡ s
-idle-again s e = ap (λ (x : Exchange). record { started = s .started; n = s .n; walk = s .walk; exchange = x; entries = s .entries }) (sym e)
-
-abbrev waiting : Session → Address → Command → Session
-waiting s to c = record { started = s .started; n = s .n; walk = s .walk; exchange = Waiting to c; entries = s .entries }
-
--- by a good reply that isn't clear: the command counts as unsent, so "next" gives the same address again
-pub marked-returns : (s : Session) (to : Address) (c : Command) → s .exchange ≡ Idle → isReset c ≡ false → concluded (opened s to c) to c Marked ≡ s
-marked-returns s to c e h =
-    ap (λ (t : Session). concluded t to c Marked) (opened-waits s to c h) ∙ marked-is (waiting s to c) to c ∙ idle-again s e
-
-quiet-waits : {c : Command} → Quiet c → isReset c ≡ false
-quiet-waits nop = refl
-quiet-waits (readStatus m) = refl
-quiet-waits synchInput = refl
-
--- Nop, Read Status and Synch Input by silence too, so that "ask" may follow as often as wanted
-pub quiet-returns : {c : Command} → Quiet c → (s : Session) (to : Address) → s .exchange ≡ Idle → concluded (opened s to c) to c Silent ≡ s
-quiet-returns {c} q s to e =
-    ap (λ (t : Session). concluded t to c Silent) (opened-waits s to c (quiet-waits q)) ∙ silent-is (waiting s to c) to c
-    ∙ ap (λ (es : List Entry). idleAt s (s .walk) es) (settled-quiet q Silent to (s .n) (s .entries)) ∙ idle-again s e

@@ -20,8 +20,9 @@ use Rattle.session.specs.declared.Session.{Session}
 use Rattle.session.specs.declared.End.{End}
 use Rattle.session.specs.declared.End.the-variants as ends
 use Rattle.session.specs.declared.Step.{Step}
-use Rattle.session.specs.Session.{poweredOf, endNumber, stepNumber}
-use Rattle.session.proofs.Sessions.{power-up-stays}
+use Rattle.session.specs.Session.{endNumber, stepNumber}
+use Rattle.start.specs.Start.{poweredOf}
+use Rattle.start.proofs.Starting.{power-up-stays}
 use Rattle.reports.specs.Report.{concluded}
 use Rattle.reports.proofs.Soundness.{finished-stays, report-stays}
 use Rattle.line.specs.History.{Sending, Sent, counted}

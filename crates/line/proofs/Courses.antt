@@ -28,7 +28,8 @@ use Rattle.entry.specs.Entry.{entryUp}
 use Rattle.ledger.specs.Ledger.{ledgerUp, leastOf, eachFrom, settled}
 use Rattle.session.specs.declared.Exchange.the-variants.{Idle, Waiting}
 use Rattle.session.specs.declared.Session.{Session}
-use Rattle.session.specs.Session.{validOf, poweredOf, closedOf, askDue, givenPlace, nodeAt}
+use Rattle.session.specs.Session.{validOf, closedOf, askDue, givenPlace, nodeAt}
+use Rattle.start.specs.Start.{poweredOf}
 use Rattle.host.specs.Calls.{waitingOf, readyCheck, nextCheck, askCheck, orderCheck, opened, transmitted, nextOf, askOf, orderOf}
 use Rattle.reports.specs.Report.{giving, asking, concluded, finished, reportOf}
 use Rattle.examples.specs.Example.{buffer, knownBut, entryWith, addressed, pair}

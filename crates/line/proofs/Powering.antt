@@ -20,7 +20,7 @@ use Rattle.session.specs.declared.Exchange.the-variants.{Idle}
 use Rattle.session.specs.declared.Session.{Session}
 use Rattle.session.specs.declared.End.the-variants.{Done, Refused}
 use Rattle.session.specs.declared.Step.{Step}
-use Rattle.session.specs.Session.{poweredOf}
+use Rattle.start.specs.Start.{poweredOf}
 use Rattle.line.proofs.Exactly.{Exactly}
 use Rattle.line.proofs.Invariant.{at, Invariant}
 

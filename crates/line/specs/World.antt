@@ -13,7 +13,7 @@ use Rattle.chain.specs.Chain.{blank}
 use Rattle.session.specs.declared.Session.{Session}
 use Rattle.session.specs.declared.End.{End}
 use Rattle.session.specs.declared.End.the-variants.{Done, Sent, Refused}
-use Rattle.session.specs.Session.{freshOf, poweredOf}
+use Rattle.start.specs.Start.{freshOf, poweredOf}
 use Rattle.line.specs.History.{Sending}
 use Rattle.line.specs.History as history
 use Rattle.line.specs.Call.{Call, calledOf, whatOf, resets, Typed}

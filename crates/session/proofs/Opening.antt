@@ -1,7 +1,6 @@
--- Sessions: which count as closed, how one starts, what a look finds; a law for each exit of the code.
+-- Sessions: which count as closed, what a look finds; a law for each exit of the code.
 use Prim.Native.Nat.{ℕ, _+_, _-_, _<_, _≤_}
 use mathlib.Core.Bool.{Bool, true, false, not}
-use mathlib.Core.List.{List}
 use mathlib.Core.Path.{_≡_, ap}
 use native.Mathlib.Omega.{arith}
 use lib.Dec.{ltb}
@@ -11,17 +10,14 @@ use Rattle.wire.specs.Promise.{Promise, promised}
 use Rattle.wire.specs.declared.address.Individual.{Individual}
 use Rattle.wire.specs.declared.address.Address.{Address}
 use Rattle.wire.specs.declared.address.Address.the-variants as address
-use Rattle.wire.specs.declared.refusal.Refusal.the-variants.{Range, NoNode}
+use Rattle.wire.specs.declared.refusal.Refusal.the-variants.{NoNode}
 use Rattle.command.specs.declared.Command.{Command}
-use Rattle.entry.specs.declared.Entry.{Entry}
-use Rattle.ledger.specs.Ledger.{blank, ledgerUp}
+use Rattle.ledger.specs.Ledger.{blank}
 use Rattle.session.specs.declared.Exchange.{Exchange}
-use Rattle.session.specs.declared.Exchange.the-variants.{Idle, Waiting}
+use Rattle.session.specs.declared.Exchange.the-variants.{Waiting}
 use Rattle.session.specs.declared.Session.{Session}
-use Rattle.session.specs.declared.End.the-variants.{Done}
-use Rattle.session.specs.declared.Step.{Step}
 use Rattle.session.specs.declared.Seen.the-variants as seen
-use Rattle.session.specs.Session.{offChain, strayOf, validOf, stepNumber, refusedStep, poweredOf, lookOf, lookNumber, closedOf, askDue}
+use Rattle.session.specs.Session.{offChain, strayOf, validOf, lookOf, lookNumber, closedOf, askDue}
 
 pub node-zero : (n : ℕ) (to : Address) (i : Individual) → to ≡ address.Individual i → i .0 < 1 → true ≡ offChain n to
 node-zero n to i p q = rw (p, lt-ltb (i .0) 1 q)
@@ -44,19 +40,6 @@ module _ (s : Session) where
   pub stray-invalid : (t : Bool) → s .n ≤ 31 → s .walk ≤ s .n → t ≡ strayOf (s .n) (s .exchange) → not t ≡ validOf s
   unfolding validOf
   stray-invalid t p q h = rw (le-leb (s .n) 31 p, le-leb (s .walk) (s .n) q, h)
-
-  pub power-low : (n : ℕ) (r : Step) → n < 1 → r ≡ refusedStep s Range → Promise stepNumber r (poweredOf s n)
-  unfolding poweredOf
-  power-low n r p h = promised (rw (lt-ltb n 1 p) h)
-
-  pub power-high : (n : ℕ) (r : Step) → 1 ≤ n → 31 < n → r ≡ refusedStep s Range → Promise stepNumber r (poweredOf s n)
-  unfolding poweredOf
-  power-high n r p q h = promised (rw (le-ltb n 1 p, lt-ltb 31 n q) h)
-
-  pub power-good : (n : ℕ) (es : List Entry) → 1 ≤ n → n ≤ 31 → es ≡ ledgerUp
-      → Promise stepNumber (record { end = Done; session = record { started = true; n = n; walk = 0; exchange = Idle; entries = es } }) (poweredOf s n)
-  unfolding poweredOf
-  power-good n es p q h = promised (rw (le-ltb n 1 p, le-ltb 31 n q, h))
 
   pub look-zero : (i : Individual) → i .0 < 1 → Promise lookNumber (seen.Refused NoNode) (lookOf s i)
   unfolding lookOf

@@ -1,25 +1,19 @@
--- What a valid session and a session that isn't closed are, in plain words; a sound one stays sound at power-up.
-use Prim.Native.Nat.{ℕ, _+_, _<_, _≤_}
-use mathlib.Core.Bool.{Bool, true, false, cond, not, _&&_, _||_, true≢false}
+-- What a valid session and a session that isn't closed are, in plain words; what any step of it comes to.
+use Prim.Native.Nat.{ℕ, _+_, _≤_}
+use mathlib.Core.Bool.{Bool, true, false, cond, not, _&&_, true≢false}
 use mathlib.Core.Path.{_≡_, refl}
-use native.Mathlib.Omega.{arith}
 use lib.Dec.{ltb, leb}
-use borrow.Author.Tests.{lt-ltb, le-ltb, le-leb, ltb-false, leb-true, not-true, not-false}
+use borrow.Author.Tests.{le-ltb, le-leb, ltb-false, leb-true, not-true, not-false}
 use Rattle.wire.proofs.Choice.{both, neither}
 use Rattle.wire.specs.Numbers.{done}
 use Rattle.wire.specs.declared.address.Individual.{Individual}
 use Rattle.wire.specs.declared.address.Address.the-variants as address
 use Rattle.wire.specs.declared.refusal.Refusal.{Refusal}
-use Rattle.wire.specs.declared.refusal.Refusal.the-variants as refusal
 use Rattle.node.specs.Setting.{place}
 use Rattle.entry.specs.Entry.{knows}
-use Rattle.ledger.specs.Ledger.{ledgerUp}
-use Rattle.ledger.proofs.Ledgers.{length-up}
-use Rattle.session.specs.declared.End.the-variants.{Done}
-use Rattle.session.specs.declared.Exchange.the-variants.{Idle}
 use Rattle.session.specs.declared.Session.{Session}
 use Rattle.session.specs.declared.Step.{Step}
-use Rattle.session.specs.Session.{Sound, freshOf, offChain, strayOf, validOf, closedOf, askDue, entryOf, stepNumber, refusedStep, poweredOf}
+use Rattle.session.specs.Session.{Sound, offChain, strayOf, validOf, closedOf, askDue, entryOf, stepNumber, refusedStep}
 
 -- a valid session
 pub record Valid (s : Session) : Type 0 where
@@ -62,19 +56,10 @@ pub valid-from : (s : Session) → s .n ≤ 31 → s .walk ≤ s .n → strayOf 
 unfolding validOf
 valid-from s p q h = rw (le-leb (s .n) 31 p, le-leb (s .walk) (s .n) q, h)
 
-pub fresh-sound : Sound freshOf
-fresh-sound = record { valid = valid-from freshOf (omega arith) (omega arith) refl; whole = length-up }
-
 -- a step to one of two
 pub either : (b : Bool) (x y : Step) → (b ≡ true → Sound (x .session)) → (b ≡ false → Sound (y .session)) → Sound (cond b x y .session)
 either true x y p q = p refl
 either false x y p q = q refl
-
-pub power-up-sound : (s : Session) (n : ℕ) → Sound s → Sound (poweredOf s n .session)
-unfolding poweredOf
-power-up-sound s n h =
-    either (ltb n 1 || ltb 31 n) _ _ (λ e. h)
-    (λ e. record { valid = valid-from _ (ltb-false 31 n (neither (ltb n 1) (ltb 31 n) e .1)) (omega arith) refl; whole = length-up })
 
 -- a step is done, or gives back the session that it was handed
 abbrev pub Stays : Session → Step → Type 0
@@ -84,25 +69,7 @@ pub by-test : (t : Bool) (s : Session) (why : Refusal) (r : Step) → Stays s r 
 by-test true s why r h z = refl
 by-test false s why r h z = h z
 
-pub power-up-stays : (s : Session) (n : ℕ) → Stays s (poweredOf s n)
-unfolding poweredOf
-power-up-stays s n = by-test (ltb n 1 || ltb 31 n) s refusal.Range _ (λ z. absurd (z refl))
-
 -- a started session that is valid is not closed
 pub open-is : (s : Session) → validOf s ≡ true → s .started ≡ true → closedOf s ≡ false
 unfolding closedOf
 open-is s p q = rw (p, q)
-
--- power-up with a good n, and with a bad one
-pub powered-good : (s : Session) (n : ℕ) → 1 ≤ n → n ≤ 31
-    → poweredOf s n ≡ record { end = Done; session = record { started = true; n = n; walk = 0; exchange = Idle; entries = ledgerUp } }
-unfolding poweredOf
-powered-good s n p q = rw (le-ltb n 1 p, le-ltb 31 n q)
-
-pub powered-none : (s : Session) → poweredOf s 0 ≡ refusedStep s refusal.Range
-unfolding poweredOf
-powered-none s = refl
-
-pub powered-many : (s : Session) (n : ℕ) → 31 < n → poweredOf s n ≡ refusedStep s refusal.Range
-unfolding poweredOf
-powered-many s n p = rw (le-ltb n 1 (omega arith), lt-ltb 31 n p)

@@ -1,8 +1,6 @@
 -- A second result that meets a contract is equal to the first, for each public function.
 use mathlib.Core.Path.{sym, _∙_}
 use Rattle.wire.proofs.OneResult.{OneResult}
-use Rattle.session.proofs.fresh.Reads as fresh
-use Rattle.session.proofs.power_up.Reads as power-up
 use Rattle.session.proofs.look.Reads as look
 use Rattle.session.proofs.is_closed.Reads as is-closed
 use Rattle.session.proofs.is_ask_due.Reads as is-ask-due
@@ -10,12 +8,6 @@ use Rattle.session.proofs.off_chain.Reads as off-chain
 use Rattle.session.proofs.refuse.Reads as refuse
 use Rattle.session.proofs.is_placing.Reads as is-placing
 use Rattle.session.proofs.given_place.Reads as given-place
-
-pub fresh-unique : OneResult fresh.Post
-fresh-unique κs a r r′ s s′ p q = p ∙ sym q
-
-pub power-up-unique : OneResult power-up.Post
-power-up-unique κs a r r′ s s′ p q = p .answer ∙ sym (q .answer)
 
 pub look-unique : OneResult look.Post
 look-unique κs a r r′ s s′ p q = p .answer ∙ sym (q .answer)

@@ -1,4 +1,4 @@
--- Document 01, "The host session": the session, how it starts, and which ones count as closed.
+-- Document 01, "The host session": the session, which ones count as closed, and what is read off one.
 use Prim.Native.Nat.{ℕ, _+_, _-_}
 use mathlib.Core.Bool.{Bool, true, false, cond, not, _&&_, _||_}
 use lib.Dec.{ltb, leb}
@@ -9,14 +9,14 @@ use Rattle.wire.specs.declared.address.Individual.{Individual}
 use Rattle.wire.specs.declared.address.Address.{Address}
 use Rattle.wire.specs.declared.address.Address.the-variants as address
 use Rattle.wire.specs.declared.refusal.Refusal.{Refusal}
-use Rattle.wire.specs.declared.refusal.Refusal.the-variants.{Range, NoNode}
+use Rattle.wire.specs.declared.refusal.Refusal.the-variants.{NoNode}
 use Rattle.command.specs.declared.Place.{Place}
 use Rattle.command.specs.declared.Command.{Command}
 use Rattle.command.specs.declared.Command.the-variants.{SetAddress, DefineStatus, ReadStatus, SetPwm, SynchOutput, SetOutputs, SetSynchOutput, SetTimerMode, SynchInput, Nop, HardReset}
 use Rattle.node.specs.Setting.{place}
 use Rattle.entry.specs.declared.Entry.{Entry}
 use Rattle.entry.specs.Entry.{knows}
-use Rattle.ledger.specs.Ledger.{blank, ledgerUp}
+use Rattle.ledger.specs.Ledger.{blank}
 use Rattle.session.specs.declared.Exchange.{Exchange}
 use Rattle.session.specs.declared.Exchange.the-variants.{Idle, Waiting}
 use Rattle.session.specs.declared.Session.{Session}
@@ -25,10 +25,6 @@ use Rattle.session.specs.declared.End.the-variants.{Done, Sent, Refused}
 use Rattle.session.specs.declared.Step.{Step}
 use Rattle.session.specs.declared.Seen.{Seen}
 use Rattle.session.specs.declared.Seen.the-variants as seen
-
--- "A fresh session is closed and has no nodes"
-abbrev pub freshOf : Session
-freshOf = record { started = false; n = 0; walk = 0; exchange = Idle; entries = ledgerUp }
 
 -- "node not 1 to n"
 abbrev pub offChain : ℕ → Address → Bool
@@ -61,13 +57,6 @@ stepNumber r = endNumber (r .end)
 -- a refused call gives back the session as it was handed in
 abbrev pub refusedStep : Session → Refusal → Step
 refusedStep s why = record { end = Refused why; session = s }
-
--- "Power-up with n nodes (1 to 31) starts a session, at any time, drops an open exchange and makes all settings known as power-up has them; a bad n gives 6"
-unfoldable pub poweredOf : Session → ℕ → Step
-poweredOf s n =
-    cond (ltb n 1 || ltb 31 n)
-    (refusedStep s Range)
-    (record { end = Done; session = record { started = true; n = n; walk = 0; exchange = Idle; entries = ledgerUp } })
 
 -- the entry of node k
 abbrev pub entryOf : Session → ℕ → Entry

@@ -1,6 +1,6 @@
-// The host's session by value: how it starts, what it shows, and what the calls and the reports both ask of it.
-// Promised: fresh, power-up and a look at a node; which sessions count as closed.
-// Left to others: sending (host, orders), and closing an exchange (reports).
+// The host's session by value: what it shows, and what the calls and the reports both ask of it.
+// Promised: a look at a node; which sessions count as closed.
+// Left to others: how one starts (start), sending (host), and closing an exchange (reports).
 use command::Command;
 use command::Place;
 use entry::Entry;
@@ -10,7 +10,7 @@ use wire::Individual;
 use wire::Refusal;
 ghost use mathlib.Core.Path.{_≡_};
 ghost use Rattle.wire.specs.Promise.{Promise};
-ghost use Rattle.session.specs.Session.{refusedStep, freshOf, offChain, strayOf, validOf, closedOf, askDue, isPlacing, givenPlace, stepNumber, poweredOf, lookNumber, lookOf};
+ghost use Rattle.session.specs.Session.{refusedStep, offChain, strayOf, validOf, closedOf, askDue, isPlacing, givenPlace, lookNumber, lookOf};
 
 // What waits for an answer: nothing, or a command that was sent to an address. The walk's Set Address has the node that it gives its number.
 pub enum Exchange {
@@ -46,20 +46,6 @@ pub fn refuse(s: Session, why: Refusal) -> Step
     Step {
         end: End::Refused(why),
         session: s,
-    }
-}
-
-// A session that is closed and has no nodes.
-pub fn fresh() -> Session
-    ensures { λ r. ⌜ r ≡ freshOf ⌝ }
-{
-    let entries = ledger::power_up();
-    Session {
-        started: false,
-        n: 0,
-        walk: 0,
-        exchange: Exchange::Idle,
-        entries,
     }
 }
 
@@ -100,29 +86,6 @@ fn is_valid(s: Session) -> bool
     }
     let x = s.exchange;
     !is_stray(s.n, x)
-}
-
-// Starts a session of n nodes, at any time; an open exchange is dropped.
-pub fn power_up(s: Session, n: u8) -> Step
-    ensures { λ r. ⌜ Promise stepNumber r (poweredOf s n) ⌝ }
-{
-    if n < 1 {
-        return refuse(s, Refusal::Range);
-    }
-    if 31 < n {
-        return refuse(s, Refusal::Range);
-    }
-    let entries = ledger::power_up();
-    Step {
-        end: End::Done,
-        session: Session {
-            started: true,
-            n,
-            walk: 0,
-            exchange: Exchange::Idle,
-            entries,
-        },
-    }
 }
 
 // What the host knows of a node.

@@ -117,7 +117,7 @@ pub(crate) fn send(s: Session, kind: u8, args: &[u8], lent: &mut [u8]) -> Step {
 // A call that doesn't.
 pub(crate) fn call(s: Session, kind: u8, args: &[u8]) -> Step {
     match kind {
-        0x30 => session::power_up(s, byte(args, 0)),
+        0x30 => start::power_up(s, byte(args, 0)),
         0x35 => reports::report(s, args),
         0x36 => reports::silence(s),
         _ => handed_in(args),

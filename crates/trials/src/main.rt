@@ -190,7 +190,7 @@ fn try_line(s: Session, line: &[u8], bytes: &mut [u8]) -> Session {
 
 // Tries each line, with one session from line to line.
 fn try_all(input: &[u8], bytes: &mut [u8]) {
-    let mut s = session::fresh();
+    let mut s = start::fresh();
     let mut at = 0;
     while at < input.len() {
         let line = text::first_line(text::rest(input, at));

@@ -1,8 +1,8 @@
 -- One law for each exit.
 use borrow.Author.Needs.{needs}
-use Rattle.session.proofs.Opening.{power-low, power-high, power-good}
-use Rattle.session.proofs.power_up.Statement.{statement}
-use Rattle.session.proofs.power_up.Tie as tie
+use Rattle.start.proofs.Exits.{power-low, power-high, power-good}
+use Rattle.start.proofs.power_up.Statement.{statement}
+use Rattle.start.proofs.power_up.Tie as tie
 
 pub power-up-spec : {M : Type 1} → statement M
 power-up-spec =

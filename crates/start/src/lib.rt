@@ -1,0 +1,50 @@
+// How a session starts.
+// Promised: a fresh session, and power-up with n nodes, at any time.
+// Left to others: the walk, which gives the nodes their addresses (host).
+use session::End;
+use session::Exchange;
+use session::Session;
+use session::Step;
+use session::refuse;
+use wire::Refusal;
+ghost use mathlib.Core.Path.{_≡_};
+ghost use Rattle.wire.specs.Promise.{Promise};
+ghost use Rattle.session.specs.Session.{stepNumber};
+ghost use Rattle.start.specs.Start.{freshOf, poweredOf};
+
+// A session that is closed and has no nodes.
+pub fn fresh() -> Session
+    ensures { λ r. ⌜ r ≡ freshOf ⌝ }
+{
+    let entries = ledger::power_up();
+    Session {
+        started: false,
+        n: 0,
+        walk: 0,
+        exchange: Exchange::Idle,
+        entries,
+    }
+}
+
+// Starts a session of n nodes, at any time; an open exchange is dropped.
+pub fn power_up(s: Session, n: u8) -> Step
+    ensures { λ r. ⌜ Promise stepNumber r (poweredOf s n) ⌝ }
+{
+    if n < 1 {
+        return refuse(s, Refusal::Range);
+    }
+    if 31 < n {
+        return refuse(s, Refusal::Range);
+    }
+    let entries = ledger::power_up();
+    Step {
+        end: End::Done,
+        session: Session {
+            started: true,
+            n,
+            walk: 0,
+            exchange: Exchange::Idle,
+            entries,
+        },
+    }
+}

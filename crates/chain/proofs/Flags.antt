@@ -9,8 +9,8 @@ use lib.Pow.{pow-mono}
 use lib.ListN.{length}
 use Rattle.wire.specs.declared.address.Address.{Address}
 use Rattle.node.specs.declared.state.Node.{Node}
-use Rattle.node.specs.declared.heard.Heard.{Heard}
-use Rattle.node.specs.Heard.{taken}
+use Rattle.heard.specs.declared.Heard.{Heard}
+use Rattle.node.specs.Node.{taken}
 use Rattle.chain.specs.declared.survey.Incoming.{Incoming}
 use Rattle.chain.specs.declared.survey.Incoming.the-variants.{Whole, Unread}
 use Rattle.chain.specs.declared.survey.Seen.{Seen}

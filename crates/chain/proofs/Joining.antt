@@ -20,9 +20,9 @@ use Rattle.packet.specs.Packet.{frameOf}
 use Rattle.packet.specs.declared.Framed.{Framed}
 use Rattle.packet.specs.declared.Framed.the-variants as framed
 use Rattle.node.specs.declared.state.Node.{Node}
-use Rattle.node.specs.declared.heard.Heard.{Heard}
-use Rattle.node.specs.declared.heard.Heard.the-variants.{Other}
-use Rattle.node.specs.Heard.{isAnswered}
+use Rattle.heard.specs.declared.Heard.{Heard}
+use Rattle.heard.specs.declared.Heard.the-variants.{Other}
+use Rattle.heard.specs.Heard.{isAnswered}
 use Rattle.reply.specs.Reply.{replyOf}
 use Rattle.chain.specs.declared.sets.Replier.{Replier}
 use Rattle.chain.specs.declared.sets.Replier.the-variants.{None, One, Several}

@@ -8,9 +8,10 @@ use native.Mathlib.Nat.{not-suc-le-zero, le-of-suc-le-suc, add-suc, suc-add, add
 use lib.ListN.{length, getD}
 use Rattle.wire.specs.declared.address.Address.{Address}
 use Rattle.node.specs.declared.state.Node.{Node}
-use Rattle.node.specs.declared.heard.Heard.{Heard}
-use Rattle.node.specs.declared.heard.Heard.the-variants.{Other, Spoilt}
-use Rattle.node.specs.Heard.{taken, isAnswered}
+use Rattle.heard.specs.declared.Heard.{Heard}
+use Rattle.heard.specs.declared.Heard.the-variants.{Other, Spoilt}
+use Rattle.heard.specs.Heard.{isAnswered}
+use Rattle.node.specs.Node.{taken}
 use Rattle.reply.specs.Reply.{replyOf}
 use Rattle.chain.specs.declared.sets.Replier.{Replier}
 use Rattle.chain.specs.declared.sets.Replier.the-variants.{None, One, Several}

@@ -15,7 +15,7 @@ use Rattle.packet.specs.Packet.{frameOf}
 use Rattle.packet.specs.declared.Framed.{Framed}
 use Rattle.packet.specs.declared.Framed.the-variants as framed
 use Rattle.node.specs.declared.state.Node.{Node}
-use Rattle.node.specs.declared.heard.Heard.{Heard}
+use Rattle.heard.specs.declared.Heard.{Heard}
 use Rattle.chain.specs.declared.decision.Delivery.{Delivery}
 use Rattle.chain.specs.One.{heardAs}
 use Rattle.chain.specs.Chain.{Said, silence, reply, clash, said}

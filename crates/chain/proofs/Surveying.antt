@@ -15,8 +15,8 @@ use Rattle.packet.specs.declared.Framed.the-variants as framed
 use Rattle.command.specs.Command.{readingOf}
 use Rattle.command.specs.declared.Reading.{Reading}
 use Rattle.node.specs.declared.state.Node.{Node}
-use Rattle.node.specs.declared.heard.Heard.{Heard}
-use Rattle.node.specs.Heard.{heardOf, isAnswered}
+use Rattle.heard.specs.declared.Heard.{Heard}
+use Rattle.heard.specs.Heard.{heardOf, isAnswered}
 use Rattle.chain.specs.declared.sets.Replier.{Replier}
 use Rattle.chain.specs.declared.sets.Replier.the-variants.{None}
 use Rattle.chain.specs.declared.survey.Incoming.{Incoming}

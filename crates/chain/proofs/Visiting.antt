@@ -10,8 +10,8 @@ use lib.Count.{trailingZeros, under, trailing-of-zero}
 use lib.Dec.{eqb, ltb}
 use borrow.Author.Tests.{ltb-true, ltb-false}
 use lib.ListN.{length, getD, set}
-use Rattle.node.specs.Heard.{taken}
-use Rattle.node.specs.declared.heard.Heard.{Heard}
+use Rattle.node.specs.Node.{taken}
+use Rattle.heard.specs.declared.Heard.{Heard}
 use Rattle.node.specs.declared.state.Node.{Node}
 use Rattle.chain.specs.Sets.{firstOf, withoutFirst}
 use Rattle.chain.specs.Decision.{reachOf, visited}

@@ -9,8 +9,9 @@ use Rattle.wire.specs.declared.address.Address.the-variants as address
 use Rattle.packet.specs.Packet.{dataOf, intactOf}
 use Rattle.command.specs.Command.{readingOf}
 use Rattle.node.specs.declared.state.Node.{Node}
-use Rattle.node.specs.declared.heard.Heard.{Heard}
-use Rattle.node.specs.Heard.{heardOf, taken}
+use Rattle.heard.specs.declared.Heard.{Heard}
+use Rattle.heard.specs.Heard.{heardOf}
+use Rattle.node.specs.Node.{taken}
 
 -- "A node hears exactly if it is addressed, is first, or the node before it is addressed"
 abbrev pub hears : Bool → Node → Bool

@@ -11,8 +11,8 @@ use Rattle.packet.specs.declared.Framed.{Framed}
 use Rattle.packet.specs.declared.Framed.the-variants as framed
 use Rattle.node.specs.Node.{powerUp}
 use Rattle.node.specs.declared.state.Node.{Node}
-use Rattle.node.specs.declared.heard.Heard.{Heard}
-use Rattle.node.specs.Heard.{isAnswered}
+use Rattle.heard.specs.declared.Heard.{Heard}
+use Rattle.heard.specs.Heard.{isAnswered}
 use Rattle.chain.specs.declared.sets.Replier.{Replier}
 use Rattle.chain.specs.declared.sets.Replier.the-variants.{None, One, Several}
 use Rattle.chain.specs.declared.survey.Incoming.{Incoming}

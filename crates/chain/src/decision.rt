@@ -2,12 +2,12 @@
 use crate::sets::Replier;
 use crate::survey::Plan;
 use crate::survey::Survey;
-use node::Heard;
+use heard::Heard;
 use node::Node;
 use wire::Built;
 use wire::Refusal;
 ghost use mathlib.Core.Path.{_≡_};
-ghost use Rattle.node.specs.Heard.{taken};
+ghost use Rattle.node.specs.Node.{taken};
 ghost use Rattle.chain.specs.Decision.{refusal, decidedOne, decidedBy, decidedOf, reachOf};
 
 // What a packet to the chain comes to: nobody replied; one node did, with so many bytes; several did at once; or the refusal.

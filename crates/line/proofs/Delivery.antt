@@ -19,8 +19,8 @@ use Rattle.status.specs.Status.{judged, cleared}
 use Rattle.status.specs.declared.Answer.{Answer}
 use Rattle.status.specs.declared.Answer.the-variants.{Clear, Marked, Silent}
 use Rattle.node.specs.declared.state.Node.{Node}
-use Rattle.node.specs.declared.heard.Heard.{Heard}
-use Rattle.node.specs.declared.heard.Heard.the-variants.{Intact, Spoilt}
+use Rattle.heard.specs.declared.Heard.{Heard}
+use Rattle.heard.specs.declared.Heard.the-variants.{Intact, Spoilt}
 use Rattle.node.specs.Effect.{settingsAfter}
 use Rattle.node.specs.Node.{acted, addressedAfter}
 use Rattle.reply.specs.Reply.{statusByte}

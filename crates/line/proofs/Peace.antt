@@ -11,7 +11,7 @@ use Rattle.wire.specs.declared.address.Address.{Address}
 use Rattle.wire.specs.declared.address.Address.the-variants as address
 use Rattle.wire.proofs.Choice.{both}
 use Rattle.node.specs.declared.state.Node.{Node}
-use Rattle.node.specs.declared.heard.Heard.{Heard}
+use Rattle.heard.specs.declared.Heard.{Heard}
 use Rattle.chain.specs.One.{answers}
 use Rattle.chain.specs.Chain.{clash, said, hearsAt, repliesAt}
 use Rattle.chain.proofs.Clashes.{clash-two}

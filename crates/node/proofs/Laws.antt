@@ -7,12 +7,11 @@ use Rattle.command.specs.declared.Command.{Command}
 use Rattle.command.specs.declared.Command.the-variants.{SetAddress, DefineStatus, ReadStatus, SetPwm, SynchOutput, SetOutputs, SetSynchOutput, SetTimerMode, SynchInput, Nop, HardReset}
 use Rattle.node.specs.declared.state.Settings.{Settings}
 use Rattle.node.specs.declared.state.Node.{Node}
-use Rattle.node.specs.declared.heard.Heard.{Heard}
-use Rattle.node.specs.declared.heard.Heard.the-variants.{Intact, Other, Spoilt}
+use Rattle.heard.specs.declared.Heard.{Heard}
+use Rattle.heard.specs.declared.Heard.the-variants.{Intact, Other, Spoilt}
 use Rattle.node.specs.Setting.{Setting, place, mask, outputs, pwm, held, timer, Value, get}
 use Rattle.node.specs.Effect.{Effect, keeps, stores, copies, row, effect, writes, applied, settingsAfter, get-after}
-use Rattle.node.specs.Node.{powerUp}
-use Rattle.node.specs.Heard.{taken, answeredBy, isAnswered}
+use Rattle.node.specs.Node.{powerUp, taken}
 
 -- "Others .. change nothing"
 pub other-keeps : (n : Node) → taken Other n ≡ n
@@ -101,27 +100,3 @@ addressed-stays (SetTimerMode m) n h = refl
 addressed-stays SynchInput n h = refl
 addressed-stays Nop n h = refl
 addressed-stays HardReset n h = absurd (false≢true (sym h))
-
--- ---- replies
-
-silent-command : (c : Command) → answeredBy c ≡ false → c ≡ HardReset
-silent-command (SetAddress p) h = absurd (false≢true (sym h))
-silent-command (DefineStatus m) h = absurd (false≢true (sym h))
-silent-command (ReadStatus m) h = absurd (false≢true (sym h))
-silent-command (SetPwm w) h = absurd (false≢true (sym h))
-silent-command SynchOutput h = absurd (false≢true (sym h))
-silent-command (SetOutputs w) h = absurd (false≢true (sym h))
-silent-command (SetSynchOutput k) h = absurd (false≢true (sym h))
-silent-command (SetTimerMode m) h = absurd (false≢true (sym h))
-silent-command SynchInput h = absurd (false≢true (sym h))
-silent-command Nop h = absurd (false≢true (sym h))
-silent-command HardReset h = refl
-
--- only an intact Hard Reset goes unanswered
-pub unanswered : (h : Heard) → isAnswered h ≡ false → h ≡ Intact HardReset
-unanswered (Intact c) e = cc (silent-command c e)
-unanswered Other e = absurd (false≢true (sym e))
-unanswered Spoilt e = absurd (false≢true (sym e))
-
-pub reset-unanswered : isAnswered (Intact HardReset) ≡ false
-reset-unanswered = refl

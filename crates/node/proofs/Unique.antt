@@ -1,18 +1,10 @@
 -- A second result that meets a contract is equal to the first, for each public function.
 use mathlib.Core.Path.{sym, _∙_}
 use Rattle.wire.proofs.OneResult.{OneResult}
-use Rattle.node.proofs.heard.Heard.of.Reads as heard-of
-use Rattle.node.proofs.heard.Heard.is_answered.Reads as is-answered
 use Rattle.node.proofs.state.Node.power_up.Reads as node-power-up
 use Rattle.node.proofs.state.Node.take.Reads as take
 use Rattle.node.proofs.state.Settings.power_up.Reads as settings-power-up
 use Rattle.node.proofs.state.Settings.after.Reads as after
-
-pub heard-of-unique : OneResult heard-of.Post
-heard-of-unique κs a r r′ s s′ p q = p ∙ sym q
-
-pub is-answered-unique : OneResult is-answered.Post
-is-answered-unique κs a r r′ s s′ p q = p ∙ sym q
 
 pub node-power-up-unique : OneResult node-power-up.Post
 node-power-up-unique κs a r r′ s s′ p q = p ∙ sym q

@@ -1,4 +1,3 @@
 pub mod Setting
 pub mod Effect
 pub mod Node
-pub mod Heard

@@ -1,7 +1,9 @@
--- Document 01, "The node": what a node holds besides its settings, its power-up state, and what acting makes of it.
+-- Document 01, "The node": what a node holds besides its settings, its power-up state, what acting makes of it, and what a packet does.
 use mathlib.Core.Bool.{Bool, true, false}
 use Rattle.command.specs.declared.Command.{Command}
 use Rattle.command.specs.declared.Command.the-variants.{SetAddress, DefineStatus, ReadStatus, SetPwm, SynchOutput, SetOutputs, SetSynchOutput, SetTimerMode, SynchInput, Nop, HardReset}
+use Rattle.heard.specs.declared.Heard.{Heard}
+use Rattle.heard.specs.declared.Heard.the-variants.{Intact, Other, Spoilt}
 use Rattle.node.specs.declared.state.Bench.{Bench}
 use Rattle.node.specs.declared.state.Captured.{Captured}
 use Rattle.node.specs.declared.state.Node.{Node}
@@ -51,3 +53,9 @@ acted c n = record {
   bench = n .bench;
   captured = capturedAfter c (n .bench) (n .captured);
 }
+
+-- "Others .. are replied to as a Nop is and change nothing"; "Wrong sum: nothing changes"
+abbrev pub taken : Heard → Node → Node
+taken (Intact c) n = acted c n
+taken Other n = n
+taken Spoilt n = n

@@ -1,10 +1,8 @@
 // One LS-773: what it holds, its power-up state, and what a packet does to it.
 // Promised: the table of effects, setting by setting; a wrong sum and another command change nothing; no packet changes a bench value.
 // Left to others: whether the packet is heard and meant (chain), and the bytes of the reply (reply).
-mod heard;
 mod state;
 
-pub use heard::Heard;
 pub use state::Bench;
 pub use state::Captured;
 pub use state::Node;

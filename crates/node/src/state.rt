@@ -3,11 +3,12 @@ use command::Command;
 use command::Held;
 use command::Place;
 use command::Pwm;
+use heard::Heard;
 use wire::Group;
 use wire::Individual;
 ghost use mathlib.Core.Path.{_≡_};
 ghost use Rattle.node.specs.Effect.{settingsUp, settingsAfter};
-ghost use Rattle.node.specs.Node.{powerUp, acted};
+ghost use Rattle.node.specs.Node.{powerUp, acted, taken};
 
 // The six settings.
 pub struct Settings {
@@ -69,7 +70,7 @@ impl Node {
     }
 
     // The node after a command.
-    pub(crate) fn act(self, c: Command) -> Node
+    fn act(self, c: Command) -> Node
         ensures { λ r. ⌜ r ≡ acted c self ⌝ }
     {
         let mut next = self;
@@ -101,6 +102,17 @@ impl Node {
             Command::SetSynchOutput(_) => next,
             Command::SetTimerMode(_) => next,
             Command::Nop => next,
+        }
+    }
+
+    // The node after a packet: another command and a wrong sum change nothing.
+    pub fn take(self, heard: Heard) -> Node
+        ensures { λ r. ⌜ r ≡ taken heard self ⌝ }
+    {
+        match heard {
+            Heard::Intact(c) => self.act(c),
+            Heard::Other => self,
+            Heard::Spoilt => self,
         }
     }
 }

@@ -17,9 +17,9 @@ use Rattle.status.proofs.Laws.{status-bytes}
 use Rattle.command.specs.declared.Command.{Command}
 use Rattle.command.specs.declared.Command.the-variants.{DefineStatus, ReadStatus, Nop}
 use Rattle.node.specs.declared.state.Node.{Node}
-use Rattle.node.specs.declared.heard.Heard.{Heard}
-use Rattle.node.specs.declared.heard.Heard.the-variants.{Intact, Other, Spoilt}
-use Rattle.node.specs.Heard.{taken}
+use Rattle.heard.specs.declared.Heard.{Heard}
+use Rattle.heard.specs.declared.Heard.the-variants.{Intact, Other, Spoilt}
+use Rattle.node.specs.Node.{taken}
 use Rattle.reply.specs.declared.Item.{Item}
 use Rattle.mask.specs.Mask.{bit, sizeOf, readUnder}
 use Rattle.reply.specs.Items.{bytesOf, itemTable, asked, askedFrom, itemBytes}

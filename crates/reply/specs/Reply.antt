@@ -5,9 +5,9 @@ use Rattle.command.specs.declared.Command.{Command}
 use Rattle.command.specs.declared.Command.the-variants.{SetAddress, DefineStatus, ReadStatus, SetPwm, SynchOutput, SetOutputs, SetSynchOutput, SetTimerMode, SynchInput, Nop, HardReset}
 use Rattle.status.specs.Status.{statusPacket}
 use Rattle.node.specs.declared.state.Node.{Node}
-use Rattle.node.specs.declared.heard.Heard.{Heard}
-use Rattle.node.specs.declared.heard.Heard.the-variants.{Intact, Other, Spoilt}
-use Rattle.node.specs.Heard.{taken}
+use Rattle.heard.specs.declared.Heard.{Heard}
+use Rattle.heard.specs.declared.Heard.the-variants.{Intact, Other, Spoilt}
+use Rattle.node.specs.Node.{taken}
 use Rattle.reply.specs.Items.{itemBytes}
 
 -- "Read Status uses its own mask for its one reply", every other command the one that is held

@@ -2,7 +2,7 @@
 // Promised: every reply is good, says by bit 1 whether the sum was wrong, and reads back under its mask as the items asked for.
 // Left to others: whether the node replies at all (node, chain).
 use command::Command;
-use node::Heard;
+use heard::Heard;
 use node::Node;
 use wire::Built;
 ghost use mathlib.Core.Path.{_≡_};

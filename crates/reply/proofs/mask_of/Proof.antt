@@ -2,7 +2,7 @@
 use borrow.Author.Needs.{needs}
 use Prim.Native.Nat.{ℕ}
 use mathlib.Core.Path.{_≡_, sym, ap, _∙_}
-use Rattle.node.specs.declared.heard.Heard.{Heard}
+use Rattle.heard.specs.declared.Heard.{Heard}
 use Rattle.reply.specs.Reply.{maskOf}
 use Rattle.reply.proofs.mask_of.Statement.{statement}
 use Rattle.reply.proofs.mask_of.Tie as tie

@@ -11,8 +11,8 @@ use Rattle.wire.specs.Buffer.{builtNumber, place}
 use Rattle.wire.specs.declared.buffer.Built.{Built}
 use Rattle.status.specs.Status.{statusBuilt, T}
 use Rattle.node.specs.declared.state.Node.{Node}
-use Rattle.node.specs.declared.heard.Heard.{Heard}
-use Rattle.node.specs.Heard.{taken}
+use Rattle.heard.specs.declared.Heard.{Heard}
+use Rattle.node.specs.Node.{taken}
 use Rattle.reply.specs.Items.{itemBytes, Wrote}
 use Rattle.reply.specs.Reply.{maskOf, statusByte, replyOf}
 use Rattle.reply.proofs.Counts.{items-fit}

@@ -48,7 +48,7 @@ use denote.Triple.Table.{entered, cited}
 use denote.Triple.Clauses.{ensured, lasts}
 use denote.Triple.Walked.{says, Stays, stay-none, stay-slice, walkOf, goes-none, goes-slice, Walks, ends-at, walked, walk-meets}
 use denote.Exit.{yes}
-use Rattle.node.specs.Heard.{taken}
+use Rattle.node.specs.Node.{taken}
 use Rattle.node.specs.declared.state.Node.{Node}
 use Rattle.node.proofs.state.Node as T
 use Rattle.node.proofs.state.Node.Laws as T′

@@ -2,8 +2,8 @@
 use borrow.Author.Needs.{needs}
 use mathlib.Core.Path.{_≡_, sym, ap, _∙_}
 use Rattle.node.specs.declared.state.Node.{Node}
-use Rattle.node.specs.declared.heard.Heard.{Heard}
-use Rattle.node.specs.Heard.{taken}
+use Rattle.heard.specs.declared.Heard.{Heard}
+use Rattle.node.specs.Node.{taken}
 use Rattle.node.proofs.state.Node.take.Statement.{statement}
 use Rattle.node.proofs.state.Node.take.Tie as tie
 

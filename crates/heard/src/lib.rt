@@ -1,9 +1,10 @@
-// What a packet says to a node that it is meant for, and what the node makes of it.
-use crate::state::Node;
+// What a packet says to a node that it is meant for.
+// Promised: which of the three it is, and whether it is answered at all.
+// Left to others: what the node makes of it (node), and the reply (reply).
 use command::Command;
 use command::Reading;
 ghost use mathlib.Core.Path.{_≡_};
-ghost use Rattle.node.specs.Heard.{heardOf, isAnswered, taken};
+ghost use Rattle.heard.specs.Heard.{heardOf, isAnswered};
 
 // A packet with a right sum and a command; with a right sum and another command; with a wrong sum.
 pub enum Heard {
@@ -46,19 +47,6 @@ impl Heard {
             },
             Heard::Other => true,
             Heard::Spoilt => true,
-        }
-    }
-}
-
-impl Node {
-    // The node after a packet: another command and a wrong sum change nothing.
-    pub fn take(self, heard: Heard) -> Node
-        ensures { λ r. ⌜ r ≡ taken heard self ⌝ }
-    {
-        match heard {
-            Heard::Intact(c) => self.act(c),
-            Heard::Other => self,
-            Heard::Spoilt => self,
         }
     }
 }

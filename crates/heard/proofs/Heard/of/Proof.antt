@@ -5,10 +5,10 @@ use mathlib.Core.Path.{_≡_}
 use Rattle.command.specs.declared.Command.{Command}
 use Rattle.command.specs.declared.Reading.{Reading}
 use Rattle.command.specs.declared.Reading.the-variants.{Known}
-use Rattle.node.specs.declared.heard.Heard.the-variants.{Intact}
-use Rattle.node.specs.Heard.{heardOf}
-use Rattle.node.proofs.heard.Heard.of.Statement.{statement}
-use Rattle.node.proofs.heard.Heard.of.Tie as tie
+use Rattle.heard.specs.declared.Heard.the-variants.{Intact}
+use Rattle.heard.specs.Heard.{heardOf}
+use Rattle.heard.proofs.Heard.of.Statement.{statement}
+use Rattle.heard.proofs.Heard.of.Tie as tie
 
 known : (r : Reading) (intact : Bool) (c : Command) → intact ≡ true → r ≡ Known c → Intact c ≡ heardOf r intact
 known r intact c t e = rw (t, e)

@@ -1,6 +1,6 @@
 // The host's session by value: how it starts, what it shows, and what the calls and the reports both ask of it.
 // Promised: fresh, power-up and a look at a node; which sessions count as closed.
-// Left to others: sending (host, orders), and closing an exchange (reports).
+// Left to others: sending (host), and closing an exchange (reports).
 use command::Command;
 use command::Place;
 use entry::Entry;

@@ -5,7 +5,6 @@ use crate::state::handed_in;
 use crate::state::is_state;
 use crate::state::read_command;
 use crate::state::target;
-use command::Command;
 use command::Reading;
 use session::End;
 use session::Session;
@@ -67,34 +66,10 @@ pub(crate) fn is_formed(kind: u8, s: &[u8]) -> bool {
     }
 }
 
-// A command of a ready session, by its own call: those with data.
-fn order(s: Session, to: Address, c: Command, lent: &mut [u8]) -> Step {
-    match c {
-        Command::DefineStatus(mask) => orders::define_status(s, to, mask, lent),
-        Command::ReadStatus(mask) => orders::read_status(s, to, mask, lent),
-        Command::SetPwm(pwm) => orders::set_pwm(s, to, pwm, lent),
-        Command::SetOutputs(outputs) => orders::set_outputs(s, to, outputs, lent),
-        Command::SetSynchOutput(held) => orders::set_synch_output(s, to, held, lent),
-        Command::SetTimerMode(mode) => orders::set_timer_mode(s, to, mode, lent),
-        _ => order_bare(s, to, c, lent),
-    }
-}
-
-// Those without. Set Address has no call: no line of the form comes to it.
-fn order_bare(s: Session, to: Address, c: Command, lent: &mut [u8]) -> Step {
-    match c {
-        Command::SynchOutput => orders::synch_output(s, to, lent),
-        Command::SynchInput => orders::synch_input(s, to, lent),
-        Command::Nop => orders::nop(s, to, lent),
-        Command::HardReset => orders::hard_reset(s, to, lent),
-        _ => session::refuse(s, Refusal::Range),
-    }
-}
-
 // A command that was read: every line of the form has one.
 fn order_read(s: Session, to: Address, read: Reading, lent: &mut [u8]) -> Step {
     match read {
-        Reading::Known(c) => order(s, to, c, lent),
+        Reading::Known(c) => host::order(s, to, c, lent),
         Reading::Other => session::refuse(s, Refusal::Range),
     }
 }

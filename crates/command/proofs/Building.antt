@@ -1,31 +1,48 @@
 -- A command's packet is built by the raw builder: its 6 can't occur, since a number is a nibble and no command has more than four data bytes.
-use Prim.Native.Nat.{ℕ}
-use mathlib.Core.Bool.{true}
-use mathlib.Core.List.{List}
-use mathlib.Core.Path.{_≡_}
+use Prim.Native.Nat.{ℕ, _-_, _%_, _/_, _≤_}
+use mathlib.Core.List.{List, [], _∷_, _++_}
+use mathlib.Core.Path.{_≡_, refl, sym, ap}
 use native.Mathlib.Omega.{arith}
-use lib.ListN.{length}
+use lib.ListN.{length, take, replicate, length-append}
+use lib.Seq.{length-take-le}
 use borrow.Author.Tests.{le-ltb}
 use Rattle.wire.specs.Promise.{Lending}
-use Rattle.wire.specs.Buffer.{builtNumber}
+use Rattle.wire.specs.Buffer.{builtNumber, place}
 use Rattle.wire.specs.declared.buffer.Built.{Built}
 use Rattle.packet.specs.Build.{buildOf}
-use Rattle.command.specs.Build.{codeOf, bytesOf, fitsOf, buildFor}
+use Rattle.command.specs.Build.{codeOf, bytesOf, headOf, filled, packetTo}
 use Rattle.command.specs.declared.Command.{Command}
 use Rattle.command.proofs.Rows.{sized}
 
-raw : (a : ℕ) (c : Command) (out : List ℕ) → fitsOf c ≡ true → buildOf a (codeOf c) (bytesOf c) out ≡ buildFor a c out
-unfolding buildOf buildFor
-raw a c out h =
-    let z = sized c in
-    rw (le-ltb 15 (length (bytesOf c)) (omega arith), le-ltb 15 (codeOf c) (omega arith), h)
+-- the command byte holds both numbers
+number : (c : Command) → headOf c % 16 ≡ codeOf c
+number c = let z = sized c in omega arith
 
--- the number and data bytes of a command were handed to the raw builder
-pub handed : (a : ℕ) (c : Command) (out o : List ℕ) (r : Built) → fitsOf c ≡ true
-    → Lending builtNumber r o (buildOf a (codeOf c) (bytesOf c) out) → Lending builtNumber r o (buildFor a c out)
-handed a c out o r h l = rw (← (raw a c out h)) l
+count : (c : Command) → headOf c / 16 ≡ length (bytesOf c)
+count c = let z = sized c in omega arith
 
--- and so for a command c that was matched as v
-pub matched : (a : ℕ) (c v : Command) (out o : List ℕ) (r : Built) → c ≡ v → fitsOf v ≡ true
-    → Lending builtNumber r o (buildOf a (codeOf v) (bytesOf v) out) → Lending builtNumber r o (buildFor a c out)
-matched a c v out o r e h l = rw e (handed a v out o r h l)
+front : (d e : List ℕ) → take (length d) (d ++ e) ≡ d
+front [] e = refl
+front (x ∷ d) e = ap (λ (l : List ℕ). x ∷ l) (front d e)
+
+module _ (c : Command) (h : ℕ) (d : List ℕ) (eh : h ≡ headOf c) (ed : d ≡ filled (bytesOf c)) where
+  -- the data bytes are there, in front
+  pub within : h / 16 ≤ length d
+  within =
+      let n = length-append (bytesOf c) (replicate (4 - length (bytesOf c)) 0) in
+      let k = count c in
+      rw (eh, ed) (omega arith)
+
+  pub counted : h / 16 ≡ length (take (h / 16) d)
+  counted = sym (length-take-le (h / 16) d within)
+
+  in-front : take (h / 16) d ≡ bytesOf c
+  in-front = rw (eh, ed, count c) (front (bytesOf c) _)
+
+  -- the number and data bytes of a command were handed to the raw builder
+  pub handed : (a : ℕ) (out o : List ℕ) (r : Built)
+      → Lending builtNumber r o (buildOf a (h % 16) (take (h / 16) d) out) → Lending builtNumber r o (place (packetTo a c) out)
+  unfolding buildOf
+  handed a out o r l =
+      let z = sized c in
+      rw (in-front, eh, number c, le-ltb 15 (length (bytesOf c)) (omega arith), le-ltb 15 (codeOf c) (omega arith)) at l

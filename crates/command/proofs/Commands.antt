@@ -59,7 +59,8 @@ read-back HardReset h t = refl
 
 -- and a command that is read comes from its own number and data bytes, and is of its range
 pub read-from : (k : ℕ) (d : List ℕ) (c : Command) → AllBytes d → readingOf k d ≡ Known c → (codeOf c ≡ k) × (bytesOf c ≡ d) × (fitsOf c ≡ true)
-read-from k d c h e = let s = says k d c e in (s .code, s .bytes h, s .fits)
+unfolding readingOf
+read-from k d c h e = let s = says k (length d) d c e in (s .code, s .bytes refl h, s .fits)
 
 -- ---- from bytes to bytes
 
@@ -83,9 +84,10 @@ reads-built s a c h r =
 
 -- whose address and command are of their ranges, so that they are built and read back
 pub reads-in-range : (s : List ℕ) (a : Address) (c : Command) → ReadsAs s a c → (inRange a ≡ true) × (fitsOf c ≡ true) × Typed c
+unfolding readingOf
 reads-in-range s a c r =
     let f = packets.framing s a (r .command) (r .count) (packets.read-says s a (r .command) (r .count) (r .whole) .0) in
-    let g = says (r .command) (dataOf s) c (r .known) in
+    let g = says (r .command) (length (dataOf s)) (dataOf s) c (r .known) in
     (rw (← (f .address)) (address-in-range (getD s 1 0)), g .fits, g .typed)
 
 -- ---- what building answers

@@ -2,7 +2,7 @@
 use Prim.Native.Nat.{ℕ, _+_, _*_, _/_, _%_, _<_, _≤_}
 use mathlib.Core.Bool.{Bool, true, false, cond}
 use mathlib.Core.List.{List, [], _∷_}
-use mathlib.Core.Path.{_≡_, refl, sym, ap}
+use mathlib.Core.Path.{_≡_, refl, sym, ap, _∙_}
 use native.Mathlib.Omega.{arith}
 use lib.Dec.{eqb, ltb}
 use lib.ListN.{length, getD}
@@ -10,20 +10,12 @@ use borrow.Author.Tests.{eqb-true, ltb-true, ltb-false, le-leb}
 use Rattle.wire.specs.Address.{isIndividual}
 use Rattle.wire.specs.Change.{AllBytes}
 use Rattle.wire.proofs.Choice.{chose-first}
-use Rattle.command.specs.Command.{wordOf, placeOf, rowsOf, readingOf}
+use Rattle.command.specs.Command.{wordOf, placeOf, rowsOf}
 use Rattle.command.specs.Build.{codeOf, bytesOf, fitsOf, placeFits, groupByte, Typed}
 use Rattle.command.specs.declared.Command.{Command}
 use Rattle.command.specs.declared.Command.the-variants.{SetAddress, DefineStatus, ReadStatus, SetPwm, SynchOutput, SetOutputs, SetSynchOutput, SetTimerMode, SynchInput, Nop, HardReset}
 use Rattle.command.specs.declared.Reading.{Reading}
 use Rattle.command.specs.declared.Reading.the-variants.{Known, Other}
-
--- the row of a command byte
-pub row : (k : ℕ) (d : List ℕ) (c n : ℕ) → k ≤ 15 → c ≤ 15 → k + length d * 16 ≡ c + n * 16 → rowsOf c n d ≡ readingOf k d
-unfolding readingOf
-row k d c n s h e =
-    let a : k ≡ c = omega arith in
-    let b : length d ≡ n = omega arith in
-    rw (a, b)
 
 -- a command's number is a nibble, and it has at most four data bytes
 pub sized : (c : Command) → (codeOf c ≤ 15) × (length (bytesOf c) ≤ 4)
@@ -39,11 +31,11 @@ sized SynchInput = (omega arith, omega arith)
 sized Nop = (omega arith, omega arith)
 sized HardReset = (omega arith, omega arith)
 
--- what reading says of the parts from which it reads a command
-pub record Says (k : ℕ) (d : List ℕ) (c : Command) : Type 0 where
+-- what the rows say of the number, the count and the data bytes from which they read a command
+pub record Says (k n : ℕ) (d : List ℕ) (c : Command) : Type 0 where
   pub code : codeOf c ≡ k
-  pub count : length (bytesOf c) ≡ length d
-  pub bytes : AllBytes d → bytesOf c ≡ d
+  pub count : length (bytesOf c) ≡ n
+  pub bytes : length d ≡ n → AllBytes d → bytesOf c ≡ d
   pub fits : fitsOf c ≡ true
   pub typed : Typed c
 
@@ -58,12 +50,12 @@ met true false e f g = absurd (other-not e)
 met false u e f g = g e
 
 -- the row of v, if the data bytes of v are those that are read
-said : (k : ℕ) (d : List ℕ) (c v : Command) → eqb k (codeOf v) ≡ true → eqb (length d) (length (bytesOf v)) ≡ true → Known v ≡ Known c
-    → (length d ≡ length (bytesOf v) → AllBytes d → bytesOf v ≡ d) → fitsOf v ≡ true → Typed v → Says k d c
-said k d c v a b q h f t =
+said : (k n : ℕ) (d : List ℕ) (c v : Command) → eqb k (codeOf v) ≡ true → eqb n (length (bytesOf v)) ≡ true → Known v ≡ Known c
+    → (length d ≡ length (bytesOf v) → AllBytes d → bytesOf v ≡ d) → fitsOf v ≡ true → Typed v → Says k n d c
+said k n d c v a b q h f t =
     let e : v ≡ c = cc in
-    let n = eqb-true (length d) (length (bytesOf v)) b in
-    rw (← e) (record { code = sym (eqb-true k (codeOf v) a); count = sym n; bytes = h n; fits = f; typed = t })
+    let m = eqb-true n (length (bytesOf v)) b in
+    rw (← e) (record { code = sym (eqb-true k (codeOf v) a); count = sym m; bytes = λ i. h (i ∙ m); fits = f; typed = t })
 
 -- so many data bytes are those that were looked at
 none : (d : List ℕ) → length d ≡ 0 → AllBytes d → [] ≡ d
@@ -112,21 +104,20 @@ place-fits : (a g : ℕ) → isIndividual a ≡ true → placeFits (placeOf a g)
 place-fits a g h = rw (h, le-leb 0x80 (g % 0x80 + 0x80) (omega arith))
 
 -- row by row
-pub says : (k : ℕ) (d : List ℕ) (c : Command) → readingOf k d ≡ Known c → Says k d c
-unfolding readingOf rowsOf
-says k d c e =
-    let n : ℕ = length d in
-    met (eqb k 0x1) (eqb n 2) e (λ a b q. let t = chose-first (isIndividual (getD d 0 0)) q other-not in said k d c _ a b (t .1) (placed d) (place-fits (getD d 0 0) (getD d 1 0) (t .0)) (omega arith))
-    (λ e. met (eqb k 0x2) (eqb n 1) e (λ a b q. said k d c _ a b q (one d) refl tt)
-    (λ e. met (eqb k 0x3) (eqb n 1) e (λ a b q. said k d c _ a b q (one d) refl tt)
-    (λ e. met (eqb k 0x4) (eqb n 2) e (λ a b q. said k d c _ a b q (two d) refl tt)
-    (λ e. met (eqb k 0x5) (eqb n 0) e (λ a b q. said k d c _ a b q (none d) refl tt)
-    (λ e. met (eqb k 0x6) (eqb n 2) e (λ a b q. said k d c _ a b q (words d) refl tt)
-    (λ e. met (eqb k 0x7) (eqb n 4) e (λ a b q. said k d c _ a b q (four d) refl tt)
-    (λ e. met (eqb k 0x8) (eqb n 1) e (λ a b q. said k d c _ a b q (one d) refl tt)
-    (λ e. met (eqb k 0xC) (eqb n 0) e (λ a b q. said k d c _ a b q (none d) refl tt)
-    (λ e. met (eqb k 0xE) (eqb n 0) e (λ a b q. said k d c _ a b q (none d) refl tt)
-    (λ e. met (eqb k 0xF) (eqb n 0) e (λ a b q. said k d c _ a b q (none d) refl tt)
+pub says : (k n : ℕ) (d : List ℕ) (c : Command) → rowsOf k n d ≡ Known c → Says k n d c
+unfolding rowsOf
+says k n d c e =
+    met (eqb k 0x1) (eqb n 2) e (λ a b q. let t = chose-first (isIndividual (getD d 0 0)) q other-not in said k n d c _ a b (t .1) (placed d) (place-fits (getD d 0 0) (getD d 1 0) (t .0)) (omega arith))
+    (λ e. met (eqb k 0x2) (eqb n 1) e (λ a b q. said k n d c _ a b q (one d) refl tt)
+    (λ e. met (eqb k 0x3) (eqb n 1) e (λ a b q. said k n d c _ a b q (one d) refl tt)
+    (λ e. met (eqb k 0x4) (eqb n 2) e (λ a b q. said k n d c _ a b q (two d) refl tt)
+    (λ e. met (eqb k 0x5) (eqb n 0) e (λ a b q. said k n d c _ a b q (none d) refl tt)
+    (λ e. met (eqb k 0x6) (eqb n 2) e (λ a b q. said k n d c _ a b q (words d) refl tt)
+    (λ e. met (eqb k 0x7) (eqb n 4) e (λ a b q. said k n d c _ a b q (four d) refl tt)
+    (λ e. met (eqb k 0x8) (eqb n 1) e (λ a b q. said k n d c _ a b q (one d) refl tt)
+    (λ e. met (eqb k 0xC) (eqb n 0) e (λ a b q. said k n d c _ a b q (none d) refl tt)
+    (λ e. met (eqb k 0xE) (eqb n 0) e (λ a b q. said k n d c _ a b q (none d) refl tt)
+    (λ e. met (eqb k 0xF) (eqb n 0) e (λ a b q. said k n d c _ a b q (none d) refl tt)
     (λ e. absurd (other-not e))))))))))))
 
 -- what is no command is another one
@@ -134,30 +125,28 @@ unknown : (r : Reading) → ((c : Command) → r ≡ Known c → ⊥) → Other 
 unknown (Known c) f = absurd (f c refl)
 unknown Other f = refl
 
-module _ (k : ℕ) (d : List ℕ) where
-  pub above : 15 < k → Other ≡ readingOf k d
-  above h = unknown (readingOf k d) (λ c e. let s = says k d c e in let z = sized c in omega arith)
+module _ (k n : ℕ) (d : List ℕ) where
+  pub above : 15 < k → Other ≡ rowsOf k n d
+  above h = unknown (rowsOf k n d) (λ c e. let s = says k n d c e in let z = sized c in omega arith)
 
-  pub over : 15 < length d → Other ≡ readingOf k d
-  over h = unknown (readingOf k d) (λ c e. let s = says k d c e in let z = sized c in omega arith)
+  pub beyond : 15 < n → Other ≡ rowsOf k n d
+  beyond h = unknown (rowsOf k n d) (λ c e. let s = says k n d c e in let z = sized c in omega arith)
 
-  -- a command byte that is in none of the rows
-  module _ (place : k + length d * 16 ≡ 0x21 → ⊥) (define : k + length d * 16 ≡ 0x12 → ⊥) (ask : k + length d * 16 ≡ 0x13 → ⊥)
-      (pwm : k + length d * 16 ≡ 0x24 → ⊥) (copy : k + length d * 16 ≡ 0x05 → ⊥) (outputs : k + length d * 16 ≡ 0x26 → ⊥)
-      (held : k + length d * 16 ≡ 0x47 → ⊥) (timer : k + length d * 16 ≡ 0x18 → ⊥) (capture : k + length d * 16 ≡ 0x0C → ⊥)
-      (nop : k + length d * 16 ≡ 0x0E → ⊥) (reset : k + length d * 16 ≡ 0x0F → ⊥) where
-    not-read : (c : Command) → codeOf c ≡ k → length (bytesOf c) ≡ length d → ⊥
-    not-read (SetAddress p) e n = place (omega arith)
-    not-read (DefineStatus m) e n = define (omega arith)
-    not-read (ReadStatus m) e n = ask (omega arith)
-    not-read (SetPwm w) e n = pwm (omega arith)
-    not-read SynchOutput e n = copy (omega arith)
-    not-read (SetOutputs w) e n = outputs (omega arith)
-    not-read (SetSynchOutput h) e n = held (omega arith)
-    not-read (SetTimerMode m) e n = timer (omega arith)
-    not-read SynchInput e n = capture (omega arith)
-    not-read Nop e n = nop (omega arith)
-    not-read HardReset e n = reset (omega arith)
+-- a command byte that is in none of the rows
+module _ (h : ℕ) (d : List ℕ) (place : h ≡ 0x21 → ⊥) (define : h ≡ 0x12 → ⊥) (ask : h ≡ 0x13 → ⊥) (pwm : h ≡ 0x24 → ⊥) (copy : h ≡ 0x05 → ⊥)
+    (outputs : h ≡ 0x26 → ⊥) (held : h ≡ 0x47 → ⊥) (timer : h ≡ 0x18 → ⊥) (capture : h ≡ 0x0C → ⊥) (nop : h ≡ 0x0E → ⊥) (reset : h ≡ 0x0F → ⊥) where
+  not-read : (c : Command) → codeOf c ≡ h % 16 → length (bytesOf c) ≡ h / 16 → ⊥
+  not-read (SetAddress p) e n = place (omega arith)
+  not-read (DefineStatus m) e n = define (omega arith)
+  not-read (ReadStatus m) e n = ask (omega arith)
+  not-read (SetPwm w) e n = pwm (omega arith)
+  not-read SynchOutput e n = copy (omega arith)
+  not-read (SetOutputs w) e n = outputs (omega arith)
+  not-read (SetSynchOutput h) e n = held (omega arith)
+  not-read (SetTimerMode m) e n = timer (omega arith)
+  not-read SynchInput e n = capture (omega arith)
+  not-read Nop e n = nop (omega arith)
+  not-read HardReset e n = reset (omega arith)
 
-    pub unlisted : Other ≡ readingOf k d
-    unlisted = unknown (readingOf k d) (λ c e. let s = says k d c e in not-read c (s .code) (s .count))
+  pub unlisted : Other ≡ rowsOf (h % 16) (h / 16) d
+  unlisted = unknown (rowsOf (h % 16) (h / 16) d) (λ c e. let s = says (h % 16) (h / 16) d c e in not-read c (s .code) (s .count))

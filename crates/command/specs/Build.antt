@@ -1,7 +1,8 @@
 -- A command's number and data bytes, and what building its packet answers and leaves.
-use Prim.Native.Nat.{ℕ, _+_, _%_, _/_, _<_}
+use Prim.Native.Nat.{ℕ, _+_, _-_, _*_, _%_, _/_, _<_}
 use mathlib.Core.Bool.{Bool, true, cond, _&&_}
-use mathlib.Core.List.{List, [], _∷_}
+use mathlib.Core.List.{List, [], _∷_, _++_}
+use lib.ListN.{length, replicate}
 use Rattle.wire.specs.Promise.{Outcome}
 use Rattle.wire.specs.Address.{isIndividual, isGroup, inRange, byteOf}
 use Rattle.wire.specs.Buffer.{refused, place}
@@ -44,6 +45,14 @@ bytesOf (SetTimerMode m) = m ∷ []
 bytesOf SynchInput = []
 bytesOf Nop = []
 bytesOf HardReset = []
+
+-- the command byte: "The low nibble of the command byte is the command, the high nibble the number of data bytes"
+abbrev pub headOf : Command → ℕ
+headOf c = codeOf c + length (bytesOf c) * 16
+
+-- four bytes: some data bytes, and zeros behind them
+abbrev pub filled : List ℕ → List ℕ
+filled d = d ++ replicate (4 - length d) 0
 
 -- a place of its range
 abbrev pub placeFits : Place → Bool

@@ -7,14 +7,13 @@ use wire::Group;
 use wire::Individual;
 use wire::Refusal;
 ghost use mathlib.Core.Path.{_≡_};
+ghost use Prim.Native.Nat.{_%_, _/_};
 ghost use mathlib.Core.List.{[], _∷_};
 ghost use lib.ListN.{getD};
 ghost use Rattle.wire.specs.Promise.{Lending};
-ghost use Rattle.wire.specs.Buffer.{builtNumber};
-ghost use Rattle.packet.specs.Build.{buildOf};
-ghost use Rattle.command.specs.Command.{wordOf, placedBy, readingOf};
-ghost use Rattle.command.specs.Build.{groupByte, buildFor, commandBuilt};
-ghost use Rattle.command.specs.declared.Command.the-variants.{SetAddress, SetSynchOutput};
+ghost use Rattle.wire.specs.Buffer.{builtNumber, place};
+ghost use Rattle.command.specs.Command.{wordOf, placedBy, rowsOf, readingOf};
+ghost use Rattle.command.specs.Build.{bytesOf, groupByte, fitsOf, headOf, filled, packetTo, commandBuilt};
 
 // Where a node stands: its individual address, its group, and whether it leads that group.
 pub struct Place {
@@ -87,7 +86,37 @@ fn byte(bytes: &[u8], at: usize) -> u8
     0
 }
 
-// The command of a packet's command nibble and data bytes. The match is on the manual's command bytes, count and command.
+// The command of a command byte, count and command as the manual lists them, and the first four data bytes.
+fn listed(head: u8, one: u8, two: u8, three: u8, four: u8) -> Reading
+    ensures { λ r. ⌜ r ≡ rowsOf (head % 16) (head / 16) (one ∷ two ∷ three ∷ four ∷ []) ⌝ }
+{
+    let c = match head {
+        0x21 => return read_place(one, two),
+        0x12 => Command::DefineStatus(one),
+        0x13 => Command::ReadStatus(one),
+        0x24 => Command::SetPwm(Pwm {
+            first: one,
+            second: two,
+        }),
+        0x05 => Command::SynchOutput,
+        0x26 => Command::SetOutputs(word(one, two)),
+        0x47 => Command::SetSynchOutput(Held {
+            outputs: word(one, two),
+            pwm: Pwm {
+                first: three,
+                second: four,
+            },
+        }),
+        0x18 => Command::SetTimerMode(one),
+        0x0C => Command::SynchInput,
+        0x0E => Command::Nop,
+        0x0F => Command::HardReset,
+        _ => return Reading::Other,
+    };
+    Reading::Known(c)
+}
+
+// The command of a packet's command nibble and data bytes.
 pub fn read(command: u8, bytes: &[u8]) -> Reading
     ensures { λ r. ⌜ r ≡ readingOf command (now (bytes .entry)) ⌝ }
 {
@@ -98,31 +127,13 @@ pub fn read(command: u8, bytes: &[u8]) -> Reading
         return Reading::Other;
     }
     let head = command + (bytes.len() as u8) * 16;
-    let one = byte(bytes, 0);
-    let two = byte(bytes, 1);
-    match head {
-        0x21 => read_place(one, two),
-        0x12 => Reading::Known(Command::DefineStatus(one)),
-        0x13 => Reading::Known(Command::ReadStatus(one)),
-        0x24 => Reading::Known(Command::SetPwm(Pwm {
-            first: one,
-            second: two,
-        })),
-        0x05 => Reading::Known(Command::SynchOutput),
-        0x26 => Reading::Known(Command::SetOutputs(word(one, two))),
-        0x47 => Reading::Known(Command::SetSynchOutput(Held {
-            outputs: word(one, two),
-            pwm: Pwm {
-                first: byte(bytes, 2),
-                second: byte(bytes, 3),
-            },
-        })),
-        0x18 => Reading::Known(Command::SetTimerMode(one)),
-        0x0C => Reading::Known(Command::SynchInput),
-        0x0E => Reading::Known(Command::Nop),
-        0x0F => Reading::Known(Command::HardReset),
-        _ => Reading::Other,
-    }
+    listed(
+        head,
+        byte(bytes, 0),
+        byte(bytes, 1),
+        byte(bytes, 2),
+        byte(bytes, 3),
+    )
 }
 
 // The second data byte of Set Address: the group, with bit 7 clear for a leader.
@@ -133,65 +144,74 @@ fn group_byte(p: Place) -> u8
     if p.leader { low } else { low + 0x80 }
 }
 
-// Set Address; 6 for a place that is not of its range.
-fn build_place(a: u8, p: Place, out: &mut [u8]) -> Built
-    ensures { λ r. ⌜ Lending builtNumber r (now (out .exit)) (buildFor a (SetAddress p) (now (out .entry))) ⌝ }
+// A word's two bytes, least significant first, and two more.
+fn word_then(w: u16, third: u8, fourth: u8) -> [u8; 4]
+    ensures { λ r. ⌜ r ≡ w % 256 ∷ w / 256 ∷ third ∷ fourth ∷ [] ⌝ }
 {
-    let address = p.address;
-    let group = p.group;
-    if address.in_range() {
-        if group.in_range() {
-            return packet::build(a, 0x1, &[address.0, group_byte(p)], out);
-        }
-    }
-    Built::Refused(Refusal::Range)
+    [(w % 256) as u8, (w / 256) as u8, third, fourth]
 }
 
-// Set Synch Output: outputs, then both PWM values.
-fn build_held(a: u8, h: Held, out: &mut [u8]) -> Built
-    ensures { λ r. ⌜ Lending builtNumber r (now (out .exit)) (buildFor a (SetSynchOutput h) (now (out .entry))) ⌝ }
-{
-    let low = (h.outputs % 256) as u8;
-    let high = (h.outputs / 256) as u8;
-    packet::build(a, 0x7, &[low, high, h.pwm.first, h.pwm.second], out)
-}
-
-// A command with no data, with one byte, with two.
-fn build_none(a: u8, code: u8, out: &mut [u8]) -> Built
-    ensures { λ r. ⌜ Lending builtNumber r (now (out .exit)) (buildOf a code [] (now (out .entry))) ⌝ }
-{
-    packet::build(a, code, &[], out)
-}
-
-fn build_one(a: u8, code: u8, x: u8, out: &mut [u8]) -> Built
-    ensures { λ r. ⌜ Lending builtNumber r (now (out .exit)) (buildOf a code (x ∷ []) (now (out .entry))) ⌝ }
-{
-    packet::build(a, code, &[x], out)
-}
-
-fn build_two(a: u8, code: u8, x: u8, y: u8, out: &mut [u8]) -> Built
-    ensures { λ r. ⌜ Lending builtNumber r (now (out .exit)) (buildOf a code (x ∷ y ∷ []) (now (out .entry))) ⌝ }
-{
-    packet::build(a, code, &[x, y], out)
-}
-
-// The packet of a command to the address byte `a`.
-fn build_to(a: u8, c: Command, out: &mut [u8]) -> Built
-    ensures { λ r. ⌜ Lending builtNumber r (now (out .exit)) (buildFor a c (now (out .entry))) ⌝ }
+// The command byte: how many data bytes, and the command.
+fn head(c: Command) -> u8
+    ensures { λ r. ⌜ r ≡ headOf c ⌝ }
 {
     match c {
-        Command::SetAddress(p) => build_place(a, p, out),
-        Command::DefineStatus(mask) => build_one(a, 0x2, mask, out),
-        Command::ReadStatus(mask) => build_one(a, 0x3, mask, out),
-        Command::SetPwm(w) => build_two(a, 0x4, w.first, w.second, out),
-        Command::SynchOutput => build_none(a, 0x5, out),
-        Command::SetOutputs(w) => build_two(a, 0x6, (w % 256) as u8, (w / 256) as u8, out),
-        Command::SetSynchOutput(h) => build_held(a, h, out),
-        Command::SetTimerMode(mode) => build_one(a, 0x8, mode, out),
-        Command::SynchInput => build_none(a, 0xC, out),
-        Command::Nop => build_none(a, 0xE, out),
-        Command::HardReset => build_none(a, 0xF, out),
+        Command::SetAddress(_) => 0x21,
+        Command::DefineStatus(_) => 0x12,
+        Command::ReadStatus(_) => 0x13,
+        Command::SetPwm(_) => 0x24,
+        Command::SynchOutput => 0x05,
+        Command::SetOutputs(_) => 0x26,
+        Command::SetSynchOutput(_) => 0x47,
+        Command::SetTimerMode(_) => 0x18,
+        Command::SynchInput => 0x0C,
+        Command::Nop => 0x0E,
+        Command::HardReset => 0x0F,
     }
+}
+
+// A command's own data, and zeros behind it.
+fn own_data(c: Command) -> [u8; 4]
+    ensures { λ r. ⌜ r ≡ filled (bytesOf c) ⌝ }
+{
+    match c {
+        Command::SetAddress(p) => [p.address.0, group_byte(p), 0, 0],
+        Command::DefineStatus(mask) => [mask, 0, 0, 0],
+        Command::ReadStatus(mask) => [mask, 0, 0, 0],
+        Command::SetPwm(w) => [w.first, w.second, 0, 0],
+        Command::SynchOutput => [0; 4],
+        Command::SetOutputs(w) => word_then(w, 0, 0),
+        Command::SetSynchOutput(h) => word_then(h.outputs, h.pwm.first, h.pwm.second),
+        Command::SetTimerMode(mode) => [mode, 0, 0, 0],
+        Command::SynchInput => [0; 4],
+        Command::Nop => [0; 4],
+        Command::HardReset => [0; 4],
+    }
+}
+
+// Whether a command's values are of their range.
+fn fits(c: Command) -> bool
+    ensures { λ r. ⌜ r ≡ fitsOf c ⌝ }
+{
+    if let Command::SetAddress(p) = c {
+        let address = p.address;
+        let group = p.group;
+        if address.in_range() {
+            return group.in_range();
+        }
+        return false;
+    }
+    true
+}
+
+// The packet of a command whose values are of their range, to the address byte `a`.
+fn build_to(a: u8, c: Command, out: &mut [u8]) -> Built
+    ensures { λ r. ⌜ Lending builtNumber r (now (out .exit)) (place (packetTo a c) (now (out .entry))) ⌝ }
+{
+    let command_byte = head(c);
+    let bytes = own_data(c);
+    let count = (command_byte / 16) as usize;
+    packet::build(a, command_byte % 16, &bytes[..count], out)
 }
 
 // Builds the packet of a command at the start of `out`, whose rest stays. 6 where the address or a place is not of its range, then 5.
@@ -199,8 +219,9 @@ pub fn build(to: Address, c: Command, out: &mut [u8]) -> Built
     ensures { λ r. ⌜ Lending builtNumber r (now (out .exit)) (commandBuilt to c (now (out .entry))) ⌝ }
 {
     if to.in_range() {
-        build_to(to.byte(), c, out)
-    } else {
-        Built::Refused(Refusal::Range)
+        if fits(c) {
+            return build_to(to.byte(), c, out);
+        }
     }
+    Built::Refused(Refusal::Range)
 }

@@ -12,11 +12,11 @@ use Rattle.wire.specs.Buffer.{written, place}
 use Rattle.wire.specs.declared.refusal.Refusal.the-variants.{Range}
 use Rattle.text.specs.Lines.{newline, linesOf, grown}
 use Rattle.text.specs.Digits.{decimalOf, decimalIn}
-use Rattle.text.specs.Hex.{hexText, Content, bytes, malformed, bytesIn}
+use Rattle.hex.specs.Hex.{hexText, Content, bytes, malformed, bytesIn}
 use Rattle.text.specs.declared.digits.Decimal.{Decimal}
 use Rattle.text.specs.declared.digits.Decimal.the-variants.{Value, Malformed}
-use Rattle.text.proofs.Puts.{length-line}
-use Rattle.text.proofs.Meaning.{read-written}
+use Rattle.hex.proofs.Puts.{length-line}
+use Rattle.hex.proofs.Meaning.{read-written}
 use Rattle.table.specs.declared.Table.{Table}
 use Rattle.chain.specs.declared.decision.Delivery.{Delivery}
 use Rattle.chain.specs.declared.decision.Delivery.the-variants.{Silent, Replied, Collision, Refused}

@@ -11,7 +11,7 @@ use borrow.Author.Tests.{ltb-true, ltb-false}
 use Rattle.chain.proofs.Lengths.{deliver-long}
 use Rattle.table.specs.declared.Table.{Table}
 use Rattle.table.specs.Table.{nodesOf, keptBy, deliveredOf}
-use Rattle.text.specs.Hex.{over}
+use Rattle.hex.specs.Hex.{over}
 
 table-long : (t : Table) (p out : List ℕ) → 20 ≤ length p → getD p 2 0 < 256 → deliveredOf t (take 20 p) out ≡ deliveredOf t p out
 unfolding deliveredOf

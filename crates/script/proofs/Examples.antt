@@ -5,8 +5,9 @@ use Rattle.wire.specs.Buffer.{place}
 use Rattle.wire.specs.Sum.{total, endsInSum}
 use Rattle.packet.specs.Packet.{dataOf, frameOf, intactOf}
 use Rattle.command.specs.Command.{rowsOf, readingOf}
-use Rattle.text.specs.Digits.{digitOf, charOf, oneDigit, twoDigits, decimalOf, decimalIn}
-use Rattle.text.specs.Hex.{hexRest, pairBy, pairOf}
+use Rattle.text.specs.Digits.{valueOf, oneDigit, twoDigits, decimalOf, decimalIn}
+use Rattle.hex.specs.Digits.{digitOf, charOf}
+use Rattle.hex.specs.Hex.{hexRest, pairBy, pairOf}
 use Rattle.reply.specs.Items.{itemBytes}
 use Rattle.reply.specs.Reply.{replyOf}
 use Rattle.chain.specs.One.{acts, replies, turned, sound}
@@ -18,9 +19,9 @@ use Rattle.script.specs.Bench.{startOf, stepOf, played, onCount, benchOf
 use Rattle.script.specs.Example.{Shown, paper, edges}
 
 pub example : benchOf (paper .input) ≡ paper .output
-unfolding place total endsInSum dataOf frameOf intactOf rowsOf readingOf digitOf charOf oneDigit twoDigits decimalOf decimalIn hexRest pairBy pairOf itemBytes replyOf acts replies turned sound after replierIn said valid deliveredTo deliveredOn deliveredOf numberEnd startOf stepOf played onCount benchOf
+unfolding place total endsInSum dataOf frameOf intactOf rowsOf readingOf valueOf oneDigit twoDigits decimalOf decimalIn digitOf charOf hexRest pairBy pairOf itemBytes replyOf acts replies turned sound after replierIn said valid deliveredTo deliveredOn deliveredOf numberEnd startOf stepOf played onCount benchOf
 example = refl
 
 pub edge : map (λ (e : Shown). benchOf (e .input)) edges ≡ map (λ (e : Shown). e .output) edges
-unfolding place total endsInSum dataOf frameOf intactOf rowsOf readingOf digitOf charOf oneDigit twoDigits decimalOf decimalIn hexRest pairBy pairOf itemBytes replyOf acts replies turned sound after replierIn said valid deliveredTo deliveredOn deliveredOf numberEnd startOf stepOf played onCount benchOf
+unfolding place total endsInSum dataOf frameOf intactOf rowsOf readingOf valueOf oneDigit twoDigits decimalOf decimalIn digitOf charOf hexRest pairBy pairOf itemBytes replyOf acts replies turned sound after replierIn said valid deliveredTo deliveredOn deliveredOf numberEnd startOf stepOf played onCount benchOf
 edge = refl

@@ -18,8 +18,8 @@ use Rattle.wire.specs.declared.buffer.Built.the-variants as built
 use Rattle.wire.proofs.Writing.{place-long}
 use Rattle.text.specs.Lines.{newline}
 use Rattle.text.specs.Digits.{decimalOf}
-use Rattle.text.specs.Hex.{hexLine}
-use Rattle.text.proofs.Puts.{length-line}
+use Rattle.hex.specs.Hex.{hexLine}
+use Rattle.hex.proofs.Puts.{length-line}
 use Rattle.chain.specs.declared.decision.Delivery.{Delivery}
 use Rattle.chain.specs.declared.decision.Delivery.the-variants.{Silent, Replied, Collision, Refused}
 use Rattle.script.specs.Answers.{silentLine, collisionLine, refusedWord, numberEnd, refusedLine, answerLine}

@@ -9,11 +9,11 @@ use Rattle.wire.specs.Promise.{Outcome, Lending}
 use Rattle.wire.specs.Change.{AllBytes}
 use Rattle.wire.proofs.Bytes.{byte-at}
 use Rattle.text.specs.Lines.{lineOf, linesOf}
-use Rattle.text.specs.Hex.{Content, bytes, malformed, bytesIn, over, readInto, parsedNumber}
-use Rattle.text.specs.declared.pairs.Parsed.{Parsed}
-use Rattle.text.specs.declared.pairs.Parsed.the-variants.{Bytes, Malformed}
+use Rattle.hex.specs.Hex.{Content, bytes, malformed, bytesIn, over, readInto, parsedNumber}
+use Rattle.hex.specs.declared.pairs.Parsed.{Parsed}
+use Rattle.hex.specs.declared.pairs.Parsed.the-variants.{Bytes, Malformed}
 use Rattle.text.proofs.Parts.{line-short, lines-step}
-use Rattle.text.proofs.Meaning.{read-written}
+use Rattle.hex.proofs.Meaning.{read-written}
 use Rattle.node.specs.declared.state.Node.{Node}
 use Rattle.node.specs.Node.{powerUp}
 use Rattle.table.specs.declared.Table.{Table}

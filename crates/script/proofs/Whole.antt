@@ -18,7 +18,7 @@ use Rattle.text.specs.Digits.{decimalIn, decimalNumber}
 use Rattle.text.specs.declared.digits.Decimal.{Decimal}
 use Rattle.text.specs.declared.digits.Decimal.the-variants.{Value, Malformed}
 use Rattle.text.proofs.Parts.{lines-step}
-use Rattle.text.proofs.Puts.{sets-start}
+use Rattle.hex.proofs.Puts.{sets-start}
 use Rattle.table.specs.declared.Table.{Table}
 use Rattle.script.specs.Wrote.{Wrote, Line}
 use Rattle.script.specs.Bench.{startOf, played, wrong, onCount, onDecimal, benchOf}

@@ -6,7 +6,7 @@ use Rattle.wire.specs.Numbers.{numberOf}
 use Rattle.wire.specs.declared.refusal.Refusal.{Refusal}
 use Rattle.text.specs.Lines.{newline}
 use Rattle.text.specs.Digits.{decimalOf}
-use Rattle.text.specs.Hex.{hexLine}
+use Rattle.hex.specs.Hex.{hexLine}
 use Rattle.chain.specs.declared.decision.Delivery.{Delivery}
 use Rattle.chain.specs.declared.decision.Delivery.the-variants.{Silent, Replied, Collision, Refused}
 

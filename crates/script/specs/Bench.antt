@@ -16,7 +16,7 @@ use Rattle.text.specs.declared.digits.Decimal.{Decimal}
 use Rattle.text.specs.declared.digits.Decimal.the-variants.{Value, Malformed}
 use Rattle.text.specs.Lines.{linesOf}
 use Rattle.text.specs.Digits.{decimalIn}
-use Rattle.text.specs.Hex.{Content, bytes, malformed, bytesIn}
+use Rattle.hex.specs.Hex.{Content, bytes, malformed, bytesIn}
 use Rattle.script.specs.Answers.{answerLine, refusedLine}
 use Rattle.script.specs.Wrote.{Line}
 use Rattle.script.specs.declared.rehearsal.Step.{Step}

@@ -5,7 +5,7 @@ use wire::Built;
 use wire::Refusal;
 ghost use Prim.Native.Nat.{_+_, _≤_, _<_};
 ghost use lib.ListN.{length};
-ghost use Rattle.text.specs.Hex.{hexLine};
+ghost use Rattle.hex.specs.Hex.{hexLine};
 ghost use Rattle.script.specs.Answers.{numberEnd, refusedLine, answerLine};
 ghost use Rattle.script.specs.Wrote.{far, Wrote, Line};
 
@@ -44,7 +44,7 @@ fn put_reply(out: &mut [u8], at: usize, reply: &[u8]) -> usize
     ensures { λ r. ⌜ Line (hexLine (now (reply .entry))) at (now (out .entry)) r (now (out .exit)) ⌝ }
 {
     let mut line = [0; 64];
-    match text::write_line(reply, &mut line) {
+    match hex::write_line(reply, &mut line) {
         Built::Bytes(n) => append(out, at, text::first(&line, n)),
         // It never comes to this.
         Built::Refused(_) => at,

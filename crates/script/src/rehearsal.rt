@@ -1,11 +1,11 @@
 // The bench program as a function on slices: a node count, then a packet a line; an answer a line.
 use crate::answers::put_answer;
 use crate::answers::put_refused;
+use hex::Parsed;
 use node::Bench;
 use node::Node;
 use table::Table;
 use text::Decimal;
-use text::Parsed;
 use wire::Built;
 use wire::Refusal;
 ghost use mathlib.Core.Path.{_≡_};
@@ -82,7 +82,7 @@ fn play(table: Table, line: &[u8], out: &mut [u8], at: usize) -> Step
     ensures { λ r. ⌜ Lined (stepOf table (now (line .entry))) at (now (out .entry)) r (now (out .exit)) ⌝ }
 {
     let mut packet = [0; 20];
-    let found = text::read_bytes(line, &mut packet);
+    let found = hex::read_bytes(line, &mut packet);
     match found {
         Parsed::Bytes(n) => send(table, text::first(&packet, n), out, at),
         Parsed::Malformed => refuse(table, out, at),

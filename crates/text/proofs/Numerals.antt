@@ -5,16 +5,16 @@ use mathlib.Core.Path.{_≡_}
 use lib.ListN.{length, getD}
 use borrow.Author.Tests.{eq-eqb, ne-eqb}
 use Rattle.wire.specs.Promise.{Promise, promised}
-use Rattle.text.specs.Digits.{digitOf, oneDigit, twoDigits, decimalIn, decimalNumber}
+use Rattle.text.specs.Digits.{valueOf, oneDigit, twoDigits, decimalIn, decimalNumber}
 use Rattle.text.specs.declared.digits.Decimal.{Decimal}
 use Rattle.text.specs.declared.digits.Decimal.the-variants.{Malformed}
 
 module _ (s : List ℕ) (r : Decimal) (a : ℕ) where
-  pub decimal-one : length s ≡ 1 → a ≡ digitOf (getD s 0 0) → r ≡ oneDigit a → Promise decimalNumber r (decimalIn s)
+  pub decimal-one : length s ≡ 1 → a ≡ valueOf (getD s 0 0) → r ≡ oneDigit a → Promise decimalNumber r (decimalIn s)
   unfolding decimalIn
   decimal-one e f g = promised (rw (eq-eqb (length s) 1 e, ← f) g)
 
-  pub decimal-two : (b : ℕ) → (length s ≡ 1 → ⊥) → length s ≡ 2 → a ≡ digitOf (getD s 0 0) → b ≡ digitOf (getD s 1 0) → r ≡ twoDigits a b
+  pub decimal-two : (b : ℕ) → (length s ≡ 1 → ⊥) → length s ≡ 2 → a ≡ valueOf (getD s 0 0) → b ≡ valueOf (getD s 1 0) → r ≡ twoDigits a b
       → Promise decimalNumber r (decimalIn s)
   unfolding decimalIn
   decimal-two b n e f k g = promised (rw (ne-eqb (length s) 1 n, eq-eqb (length s) 2 e, ← f, ← k) g)

@@ -1,4 +1,4 @@
--- A second result that meets a contract is equal to the first, for each public function; and what a lent buffer then holds.
+-- A second result that meets a contract is equal to the first, for each public function.
 use mathlib.Core.Path.{_≡_, sym, _∙_}
 use denote.Ref.{now}
 use Rattle.wire.proofs.OneResult.{OneResult}
@@ -6,8 +6,6 @@ use Rattle.text.proofs.lines.first.Reads as first
 use Rattle.text.proofs.lines.rest.Reads as rest
 use Rattle.text.proofs.lines.first_line.Reads as first-line
 use Rattle.text.proofs.digits.read_decimal.Reads as read-decimal
-use Rattle.text.proofs.pairs.read_bytes.Reads as read-bytes
-use Rattle.text.proofs.writing.write_line.Reads as write-line
 
 pub read-decimal-unique : OneResult read-decimal.Post
 read-decimal-unique κs a r r′ s s′ p q = p .answer ∙ sym (q .answer)
@@ -21,9 +19,3 @@ rest-unique κs a r r′ s s′ p q = p ∙ sym q
 
 pub first-line-unique : (κs : _) (a : _) (r r′ : _) (s s′ : _) → first-line.Post κs a r s → first-line.Post κs a r′ s′ → now r ≡ now r′
 first-line-unique κs a r r′ s s′ p q = p ∙ sym q
-
-pub read-bytes-unique : (κs : _) (a : _) (r r′ : _) (s s′ : _) → read-bytes.Post κs a r s → read-bytes.Post κs a r′ s′ → (r ≡ r′) × (now (s .1 .0) ≡ now (s′ .1 .0))
-read-bytes-unique κs a r r′ s s′ p q = (p .answer ∙ sym (q .answer), p .leaves ∙ sym (q .leaves))
-
-pub write-line-unique : (κs : _) (a : _) (r r′ : _) (s s′ : _) → write-line.Post κs a r s → write-line.Post κs a r′ s′ → (r ≡ r′) × (now (s .1 .0) ≡ now (s′ .1 .0))
-write-line-unique κs a r r′ s s′ p q = (p .answer ∙ sym (q .answer), p .leaves ∙ sym (q .leaves))

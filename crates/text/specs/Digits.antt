@@ -1,4 +1,4 @@
--- Digits by their ASCII codes: 0 to 9 are 48 to 57, A to F are 65 to 70. Decimal numbers of one or two of them.
+-- Decimal numbers of one or two digits: 0 to 9 are the ASCII codes 48 to 57.
 use Prim.Native.Nat.{ℕ, _+_, _-_, _*_, _/_, _%_}
 use mathlib.Core.Bool.{cond}
 use mathlib.Core.List.{List, [], _∷_}
@@ -9,13 +9,9 @@ use Rattle.wire.specs.declared.refusal.Refusal.the-variants.{Range}
 use Rattle.text.specs.declared.digits.Decimal.{Decimal}
 use Rattle.text.specs.declared.digits.Decimal.the-variants.{Value, Malformed}
 
--- the value of a capital hexadecimal digit; 16 for all else
-unfoldable pub digitOf : ℕ → ℕ
-digitOf b = cond (ltb b 48) 16 (cond (ltb b 58) (b - 48) (cond (ltb b 65) 16 (cond (ltb b 71) (b - 55) 16)))
-
--- the capital hexadecimal digit of a value below 16
-unfoldable pub charOf : ℕ → ℕ
-charOf v = cond (ltb v 10) (48 + v) (55 + v)
+-- the value of a decimal digit; 10 for all else
+unfoldable pub valueOf : ℕ → ℕ
+valueOf b = cond (ltb b 48) 10 (cond (ltb b 58) (b - 48) 10)
 
 -- a number below 100 in decimal
 unfoldable pub decimalOf : ℕ → List ℕ
@@ -32,8 +28,8 @@ twoDigits a b = cond (ltb a 1) Malformed (cond (ltb 9 a) Malformed (cond (ltb 9 
 -- the decimal number that some text is
 unfoldable pub decimalIn : List ℕ → Decimal
 decimalIn s =
-    cond (eqb (length s) 1) (oneDigit (digitOf (getD s 0 0)))
-    (cond (eqb (length s) 2) (twoDigits (digitOf (getD s 0 0)) (digitOf (getD s 1 0))) Malformed)
+    cond (eqb (length s) 1) (oneDigit (valueOf (getD s 0 0)))
+    (cond (eqb (length s) 2) (twoDigits (valueOf (getD s 0 0)) (valueOf (getD s 1 0))) Malformed)
 
 -- the number of what reading finds: 6, "bench line not of its form"
 abbrev pub decimalNumber : Decimal → ℕ

@@ -1,8 +1,7 @@
-// Digits, and decimal numbers of one or two of them.
+// Decimal numbers of one or two digits.
 ghost use mathlib.Core.Path.{_≡_};
-ghost use Prim.Native.Nat.{_<_};
 ghost use Rattle.wire.specs.Promise.{Promise};
-ghost use Rattle.text.specs.Digits.{digitOf, charOf, oneDigit, twoDigits, decimalIn, decimalNumber};
+ghost use Rattle.text.specs.Digits.{valueOf, oneDigit, twoDigits, decimalIn, decimalNumber};
 
 // What reading a decimal number finds.
 pub enum Decimal {
@@ -10,31 +9,17 @@ pub enum Decimal {
     Malformed,
 }
 
-// The value of a capital hexadecimal digit; 16 where b is none.
-pub(crate) fn digit(b: u8) -> u8
-    ensures { λ r. ⌜ r ≡ digitOf b ⌝ }
+// The value of a decimal digit; 10 where b is none.
+fn value(b: u8) -> u8
+    ensures { λ r. ⌜ r ≡ valueOf b ⌝ }
 {
     if b < 48 {
-        return 16;
+        return 10;
     }
     if b < 58 {
         return b - 48;
     }
-    if b < 65 {
-        return 16;
-    }
-    if b < 71 {
-        return b - 55;
-    }
-    16
-}
-
-// The capital hexadecimal digit of a value below 16.
-pub(crate) fn character(v: u8) -> u8
-    requires { ⌜ v < 16 ⌝ }
-    ensures { λ r. ⌜ r ≡ charOf v ⌝ }
-{
-    if v < 10 { 48 + v } else { 55 + v }
+    10
 }
 
 // A number of one digit, by that digit's value.
@@ -68,10 +53,10 @@ pub fn read_decimal(s: &[u8]) -> Decimal
     ensures { λ r. ⌜ Promise decimalNumber r (decimalIn (now (s .entry))) ⌝ }
 {
     if s.len() == 1 {
-        return one_digit(digit(s[0]));
+        return one_digit(value(s[0]));
     }
     if s.len() == 2 {
-        return two_digits(digit(s[0]), digit(s[1]));
+        return two_digits(value(s[0]), value(s[1]));
     }
     Decimal::Malformed
 }

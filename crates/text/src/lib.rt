@@ -1,10 +1,8 @@
-// Text of the bench: lines, bytes as two-digit capitals with single spaces, decimal numbers.
-// Promised: what is written is read back, and only what is so written is of its form.
-// Left to others: what the bytes mean, and how many of them a caller keeps.
+// Text of the bench: its parts, its lines, decimal numbers.
+// Promised: a newline ends each line, the last may lack it; a decimal number is of its form exactly if it is one below 100, written in decimal.
+// Left to others: the bytes of a line (hex), and what a number counts (script).
 mod digits;
 mod lines;
-mod pairs;
-mod writing;
 
 pub use digits::Decimal;
 pub use digits::read_decimal;
@@ -12,6 +10,3 @@ pub use lines::NEWLINE;
 pub use lines::first;
 pub use lines::first_line;
 pub use lines::rest;
-pub use pairs::Parsed;
-pub use pairs::read_bytes;
-pub use writing::write_line;

@@ -9,12 +9,12 @@ mod state;
 
 use calls::is_formed;
 use calls::is_sending;
+use hex::Parsed;
 use libc::STDIN_FILENO;
 use libc::STDOUT_FILENO;
 use parts::room_end;
 use session::Session;
 use session::Step;
-use text::Parsed;
 use wire::Built;
 ghost use Prim.Native.Nat.{_≤_};
 ghost use mathlib.Core.Path.{_≡_};
@@ -64,7 +64,7 @@ fn line_room() -> [u8; 3267]
 // Writes bytes as a line.
 fn show(bytes: &[u8]) {
     let mut line = line_room();
-    match text::write_line(bytes, &mut line) {
+    match hex::write_line(bytes, &mut line) {
         Built::Bytes(n) => {
             io::write_all(STDOUT_FILENO, text::first(&line, n));
         }
@@ -179,7 +179,7 @@ fn try_bytes(s: Session, bytes: &[u8]) -> Session {
 
 // Tries a line; the session after it.
 fn try_line(s: Session, line: &[u8], bytes: &mut [u8]) -> Session {
-    match text::read_bytes(line, bytes) {
+    match hex::read_bytes(line, bytes) {
         Parsed::Bytes(n) => try_bytes(s, text::first(bytes, n)),
         Parsed::Malformed => {
             show_malformed();

@@ -1,4 +1,4 @@
--- An address of its range hands its byte on, another is refused.
+-- An address and a command of their ranges are built, all others are refused.
 use borrow.Author.Needs.{needs}
 use Prim.Native.Nat.{ℕ}
 use mathlib.Core.Bool.{Bool, true, false}
@@ -6,24 +6,30 @@ use mathlib.Core.List.{List}
 use mathlib.Core.Path.{_≡_, sym, _∙_}
 use Rattle.wire.specs.Promise.{Lending, lent}
 use Rattle.wire.specs.Address.{inRange, byteOf}
-use Rattle.wire.specs.Buffer.{builtNumber}
+use Rattle.wire.specs.Buffer.{builtNumber, place}
 use Rattle.wire.specs.declared.address.Address.{Address}
 use Rattle.wire.specs.declared.refusal.Refusal.the-variants.{Range}
 use Rattle.wire.specs.declared.buffer.Built.{Built}
 use Rattle.wire.specs.declared.buffer.Built.the-variants.{Refused}
-use Rattle.command.specs.Build.{buildFor, commandBuilt}
+use Rattle.command.specs.Build.{fitsOf, packetTo, buildFor, commandBuilt}
 use Rattle.command.specs.declared.Command.{Command}
 use Rattle.command.proofs.build.Statement.{statement}
 use Rattle.command.proofs.build.Tie as tie
 
 module _ (to : Address) (k : Command) (out : List ℕ) (ok : Bool) (e : ok ≡ inRange to) where
-  off : ok ≡ false → Lending builtNumber (Refused Range) out (commandBuilt to k out)
+  no-address : ok ≡ false → Lending builtNumber (Refused Range) out (commandBuilt to k out)
   unfolding commandBuilt
-  off h = lent (rw (sym e ∙ h))
+  no-address h = lent (rw (sym e ∙ h))
 
-  sent : (a : ℕ) (r : Built) (o : List ℕ) → ok ≡ true → a ≡ byteOf to → Lending builtNumber r o (buildFor a k out) → Lending builtNumber r o (commandBuilt to k out)
-  unfolding commandBuilt
-  sent a r o h b l = rw (sym e ∙ h) (rw b at l)
+  module _ (yes : ok ≡ true) (fit : Bool) (f : fit ≡ fitsOf k) where
+    unfit : fit ≡ false → Lending builtNumber (Refused Range) out (commandBuilt to k out)
+    unfolding commandBuilt buildFor
+    unfit h = lent (rw (sym e ∙ yes, sym f ∙ h))
+
+    sent : (a : ℕ) (r : Built) (o : List ℕ) → fit ≡ true → a ≡ byteOf to → Lending builtNumber r o (place (packetTo a k) out)
+        → Lending builtNumber r o (commandBuilt to k out)
+    unfolding commandBuilt buildFor
+    sent a r o h b l = rw (sym e ∙ yes, sym f ∙ h) (rw b at l)
 
 pub build-spec : {M : Type 1} → statement M
 build-spec =
@@ -32,6 +38,8 @@ build-spec =
     (λ c κs. search needs)
     (λ c κs. search needs)
     (λ c κs. search needs)
+    (λ c κs. search needs)
     (λ c. search needs)
     (λ c. search sent)
-    (λ c. search off))
+    (λ c. search unfit)
+    (λ c. search no-address))

@@ -1,0 +1,4 @@
+pub mod Puts
+pub mod Pairing
+pub mod Meaning
+pub mod Unique

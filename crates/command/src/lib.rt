@@ -12,7 +12,7 @@ ghost use mathlib.Core.List.{[], _∷_};
 ghost use lib.ListN.{getD};
 ghost use Rattle.wire.specs.Promise.{Lending};
 ghost use Rattle.wire.specs.Buffer.{builtNumber, place};
-ghost use Rattle.command.specs.Command.{wordOf, placedBy, rowsOf, readingOf};
+ghost use Rattle.command.specs.Command.{wordOf, placeOf, rowsOf, readingOf};
 ghost use Rattle.command.specs.Build.{bytesOf, groupByte, fitsOf, headOf, filled, packetTo, commandBuilt};
 
 // Where a node stands: its individual address, its group, and whether it leads that group.
@@ -61,18 +61,14 @@ fn word(low: u8, high: u8) -> u16
     low as u16 + high as u16 * 256
 }
 
-// The command of the two data bytes of Set Address.
-fn read_place(address: u8, group: u8) -> Reading
-    ensures { λ r. ⌜ r ≡ placedBy address group ⌝ }
+// The place of the two data bytes of Set Address.
+fn place_of(address: u8, group: u8) -> Place
+    ensures { λ r. ⌜ r ≡ placeOf address group ⌝ }
 {
-    if address < 0x80 {
-        Reading::Known(Command::SetAddress(Place {
-            address: Individual(address),
-            group: Group(group % 0x80 + 0x80),
-            leader: group < 0x80,
-        }))
-    } else {
-        Reading::Other
+    Place {
+        address: Individual(address),
+        group: Group(group % 0x80 + 0x80),
+        leader: group < 0x80,
     }
 }
 
@@ -91,7 +87,12 @@ fn listed(head: u8, one: u8, two: u8, three: u8, four: u8) -> Reading
     ensures { λ r. ⌜ r ≡ rowsOf (head % 16) (head / 16) (one ∷ two ∷ three ∷ four ∷ []) ⌝ }
 {
     let c = match head {
-        0x21 => return read_place(one, two),
+        0x21 => {
+            if 0x80 <= one {
+                return Reading::Other;
+            }
+            Command::SetAddress(place_of(one, two))
+        }
         0x12 => Command::DefineStatus(one),
         0x13 => Command::ReadStatus(one),
         0x24 => Command::SetPwm(Pwm {

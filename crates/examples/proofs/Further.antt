@@ -17,7 +17,9 @@ use Rattle.session.specs.declared.Exchange.the-variants.{Waiting}
 use Rattle.session.specs.declared.Session.{Session}
 use Rattle.session.specs.declared.End.the-variants.{Done, Sent, Refused}
 use Rattle.session.specs.Session.{validOf, closedOf, askDue, nodeAt, givenPlace}
-use Rattle.host.specs.Calls.{waitingOf, clashOf, readyCheck, nextCheck, askCheck, orderCheck, regroupCheck, opened, transmitted, nextOf, askOf, orderOf, regroupOf}
+use Rattle.sending.specs.Sending.{waitingOf, readyCheck, opened, transmitted}
+use Rattle.walk.specs.Walk.{nextCheck, askCheck, nextOf, askOf}
+use Rattle.host.specs.Calls.{clashOf, orderCheck, regroupCheck, orderOf, regroupOf}
 use Rattle.reports.specs.Report.{giving, asking, concluded, finished}
 use Rattle.examples.specs.Example.{next, ask, order, regroup, stepOf, knownBut, entryWith, addressed, pair, Shown, shown, ready}
 use Rattle.examples.specs.Starred.{fresh}

@@ -16,7 +16,8 @@ use Rattle.session.specs.declared.Exchange.the-variants.{Idle, Waiting}
 use Rattle.session.specs.declared.Session.{Session}
 use Rattle.session.specs.declared.End.the-variants.{Done, Sent}
 use Rattle.session.specs.Session.{validOf, closedOf, nodeAt, givenPlace}
-use Rattle.host.specs.Calls.{waitingOf, readyCheck, orderCheck, opened, transmitted, orderOf}
+use Rattle.sending.specs.Sending.{waitingOf, readyCheck, opened, transmitted}
+use Rattle.host.specs.Calls.{orderCheck, orderOf}
 use Rattle.reports.specs.Report.{giving, asking, concluded, finished}
 use Rattle.examples.specs.Example.{stepOf, knownBut, entryWith, addressed, pair, shown}
 use Rattle.examples.specs.Starred.{outputs5, fresh, doubtful, known5, Starred}

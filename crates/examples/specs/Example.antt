@@ -24,7 +24,8 @@ use Rattle.session.specs.declared.Exchange.the-variants.{Idle}
 use Rattle.session.specs.declared.Session.{Session}
 use Rattle.session.specs.declared.Step.{Step}
 use Rattle.session.specs.Session.{stepNumber, givenPlace}
-use Rattle.host.specs.Calls.{nextOf, askOf, orderOf, regroupOf}
+use Rattle.walk.specs.Walk.{nextOf, askOf}
+use Rattle.host.specs.Calls.{orderOf, regroupOf}
 use Rattle.reports.specs.Report.{finished, reportOf}
 
 -- what the host does, or hears

@@ -1,20 +1,10 @@
 -- A second result that meets a contract is equal to the first, for each public function.
 use mathlib.Core.Path.{_≡_, sym, _∙_}
 use denote.Ref.{now}
-use Rattle.host.proofs.calls.next.Reads as next
-use Rattle.host.proofs.calls.ask.Reads as ask
-use Rattle.host.proofs.calls.order.Reads as order
-use Rattle.host.proofs.calls.regroup.Reads as regroup
+use Rattle.host.proofs.order.Reads as order
+use Rattle.host.proofs.regroup.Reads as regroup
 
 -- the result, and what the lent buffer holds
-pub next-unique : (κs : _) (a : _) (r r′ : _) (s s′ : _) → next.Post κs a r s → next.Post κs a r′ s′
-    → (r ≡ r′) × (now (s .1 .0) ≡ now (s′ .1 .0))
-next-unique κs a r r′ s s′ p q = (p .answer ∙ sym (q .answer), p .leaves ∙ sym (q .leaves))
-
-pub ask-unique : (κs : _) (a : _) (r r′ : _) (s s′ : _) → ask.Post κs a r s → ask.Post κs a r′ s′
-    → (r ≡ r′) × (now (s .1 .0) ≡ now (s′ .1 .0))
-ask-unique κs a r r′ s s′ p q = (p .answer ∙ sym (q .answer), p .leaves ∙ sym (q .leaves))
-
 pub order-unique : (κs : _) (a : _) (r r′ : _) (s s′ : _) → order.Post κs a r s → order.Post κs a r′ s′
     → (r ≡ r′) × (now (s .1 .1 .1 .0) ≡ now (s′ .1 .1 .1 .0))
 order-unique κs a r r′ s s′ p q = (p .answer ∙ sym (q .answer), p .leaves ∙ sym (q .leaves))

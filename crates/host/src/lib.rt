@@ -1,10 +1,89 @@
-// The calls that send: the host addresses the chain and sends commands.
+// The calls of a ready session: a command to a node or a group, and a node in another group.
 // Promised: the refusals in the paper's order, else the packet at the start of the lent buffer and its exchange opened; any number but 0 changes nothing.
-// Left to others: the bytes on the line, how long to wait for a reply (the caller), and what it comes to (reports).
-mod calls;
-mod checks;
+// Left to others: how a session becomes ready (start, walk), how long to wait for a reply (the caller), and what it comes to (reports).
+use command::Command;
+use command::Place;
+use sending::Check;
+use sending::ready_check;
+use sending::transmit;
+use session::Session;
+use session::Step;
+use session::is_placing;
+use session::off_chain;
+use session::refuse;
+use wire::Address;
+use wire::Group;
+use wire::Individual;
+use wire::Refusal;
+ghost use mathlib.Core.Path.{_≡_};
+ghost use Rattle.wire.specs.Promise.{Lending};
+ghost use Rattle.session.specs.Session.{stepNumber};
+ghost use Rattle.host.specs.Calls.{badGroup, clashOf, orderCheck, regroupCheck, orderOf, regroupOf};
 
-pub use calls::ask;
-pub use calls::next;
-pub use calls::order;
-pub use calls::regroup;
+fn is_bad_group(to: Address) -> bool
+    ensures { λ r. ⌜ r ≡ badGroup to ⌝ }
+{
+    match to {
+        Address::Individual(_) => false,
+        Address::Group(g) => !g.in_range(),
+    }
+}
+
+fn order_check(s: Session, to: Address, c: Command) -> Check
+    ensures { λ r. ⌜ r ≡ orderCheck s to c ⌝ }
+{
+    ready_check(s)
+        .refuse_if(is_placing(c), Refusal::Range)
+        .refuse_if(is_bad_group(to), Refusal::Range)
+        .refuse_if(off_chain(s.n, to), Refusal::NoNode)
+        .refuse_if(s.walk < s.n, Refusal::NotDue)
+}
+
+// 11: a leader wish, while another node leads that group or has its place in doubt.
+fn does_clash(s: Session, node: Individual, group: Group, leader: bool) -> bool
+    ensures { λ r. ⌜ r ≡ clashOf s node group leader ⌝ }
+{
+    if leader {
+        let entries = s.entries;
+        return ledger::is_led(entries, s.n, node.0, group);
+    }
+    false
+}
+
+fn regroup_check(s: Session, node: Individual, group: Group, leader: bool) -> Check
+    ensures { λ r. ⌜ r ≡ regroupCheck s node group leader ⌝ }
+{
+    ready_check(s)
+        .refuse_if(!group.in_range(), Refusal::Range)
+        .refuse_if(off_chain(s.n, Address::Individual(node)), Refusal::NoNode)
+        .refuse_if(s.walk < s.n, Refusal::NotDue)
+        .refuse_if(does_clash(s, node, group, leader), Refusal::Led)
+}
+
+// A command of a ready session to a node or a group. A Set Address is refused with 6: it has calls of its own.
+pub fn order(s: Session, to: Address, c: Command, out: &mut [u8]) -> Step
+    ensures { λ r. ⌜ Lending stepNumber r (now (out .exit)) (orderOf s to c (now (out .entry))) ⌝ }
+{
+    match order_check(s, to, c) {
+        Check::Refuse(why) => refuse(s, why),
+        Check::Clear => transmit(s, to, to, c, out),
+    }
+}
+
+// Set Address to a node of a ready session, with its own address, a group and a leader wish.
+pub fn regroup(s: Session, node: Individual, group: Group, leader: bool, out: &mut [u8]) -> Step
+    ensures { λ r. ⌜ Lending stepNumber r (now (out .exit)) (regroupOf s node group leader (now (out .entry))) ⌝ }
+{
+    match regroup_check(s, node, group, leader) {
+        Check::Refuse(why) => refuse(s, why),
+        Check::Clear => {
+            let to = Address::Individual(node);
+            let place = Place {
+                address: node,
+                group,
+                leader,
+            };
+            transmit(s, to, to, Command::SetAddress(place), out)
+        }
+    }
+}

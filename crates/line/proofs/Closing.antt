@@ -23,8 +23,8 @@ use Rattle.session.specs.declared.Session.{Session}
 use Rattle.session.specs.declared.Step.{Step}
 use Rattle.session.specs.Session.{Sound, offChain, entryOf, askDue, givenPlace, nodeAt}
 use Rattle.session.proofs.Sessions.{valid-from, open-is}
-use Rattle.host.specs.Calls.{isReset, opened}
-use Rattle.host.proofs.Sent.{opened-waits}
+use Rattle.sending.specs.Sending.{isReset, opened}
+use Rattle.sending.proofs.Sent.{opened-waits}
 use Rattle.reports.specs.Report.{giving, asking, onWalk, concluded, finished}
 use Rattle.reports.proofs.Concluding.{meant, walkAfter, concluded-at, concluded-walk, concluded-n, concluded-idle, concluded-started, finished-waiting, report-is}
 use Rattle.reports.proofs.Soundness.{concluded-sound}

@@ -30,7 +30,9 @@ use Rattle.session.specs.declared.Exchange.the-variants.{Idle, Waiting}
 use Rattle.session.specs.declared.Session.{Session}
 use Rattle.session.specs.Session.{validOf, closedOf, askDue, givenPlace, nodeAt}
 use Rattle.start.specs.Start.{poweredOf}
-use Rattle.host.specs.Calls.{waitingOf, readyCheck, nextCheck, askCheck, orderCheck, opened, transmitted, nextOf, askOf, orderOf}
+use Rattle.sending.specs.Sending.{waitingOf, readyCheck, opened, transmitted}
+use Rattle.walk.specs.Walk.{nextCheck, askCheck, nextOf, askOf}
+use Rattle.host.specs.Calls.{orderCheck, orderOf}
 use Rattle.reports.specs.Report.{giving, asking, concluded, finished, reportOf}
 use Rattle.examples.specs.Example.{buffer, knownBut, entryWith, addressed, pair}
 use Rattle.line.specs.History.{Sending, Sent, gives, asks, sends}

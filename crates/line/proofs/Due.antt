@@ -26,11 +26,17 @@ use Rattle.session.specs.declared.End.{End}
 use Rattle.session.specs.declared.End.the-variants.{Done, Sent}
 use Rattle.session.specs.declared.Step.{Step}
 use Rattle.session.specs.Session.{offChain, entryOf, isPlacing, givenPlace, nodeAt, endNumber, stepNumber}
-use Rattle.host.specs.Calls.{isReset, badGroup, opened}
+use Rattle.sending.specs.Sending.{isReset, opened}
+use Rattle.host.specs.Calls.{badGroup}
 use Rattle.session.proofs.Sessions.{OnChain, on-chain}
-use Rattle.host.proofs.Clear.{Ready, next-says, ask-says, order-says, regroup-says, wish-free}
-use Rattle.host.proofs.Sent.{sending, next-went, ask-went, order-went, regroup-went}
-use Rattle.host.proofs.Stands.{next-stands, ask-stands, order-stands, regroup-stands}
+use Rattle.sending.proofs.Clear.{Ready}
+use Rattle.walk.proofs.Clear.{next-says, ask-says}
+use Rattle.host.proofs.Clear.{order-says, regroup-says, wish-free}
+use Rattle.sending.proofs.Sent.{sending}
+use Rattle.walk.proofs.Sent.{next-went, ask-went}
+use Rattle.host.proofs.Sent.{order-went, regroup-went}
+use Rattle.walk.proofs.Stands.{next-stands, ask-stands}
+use Rattle.host.proofs.Stands.{order-stands, regroup-stands}
 use Rattle.line.specs.History.{Sending, gives, asks, sends}
 use Rattle.line.specs.Call as calls
 use Rattle.line.specs.Call.{Call, calledOf, whatOf, resets}

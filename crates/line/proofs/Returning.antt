@@ -11,8 +11,8 @@ use Rattle.ledger.proofs.Ledgers.{settled-quiet}
 use Rattle.session.specs.declared.Exchange.{Exchange}
 use Rattle.session.specs.declared.Exchange.the-variants.{Idle}
 use Rattle.session.specs.declared.Session.{Session}
-use Rattle.host.specs.Calls.{isReset, opened}
-use Rattle.host.proofs.Sent.{opened-waits}
+use Rattle.sending.specs.Sending.{isReset, opened}
+use Rattle.sending.proofs.Sent.{opened-waits}
 use Rattle.reports.specs.Report.{idleAt, concluded}
 use Rattle.reports.proofs.Concluding.{marked-is, silent-is}
 use Rattle.line.proofs.Closing.{waitingAt}

@@ -12,7 +12,9 @@ use Rattle.command.specs.declared.Command.{Command}
 use Rattle.command.specs.declared.Command.the-variants.{SetAddress}
 use Rattle.session.specs.declared.Session.{Session}
 use Rattle.session.specs.declared.Step.{Step}
-use Rattle.host.specs.Calls.{nextOf, askOf, orderOf, regroupOf, isReset}
+use Rattle.sending.specs.Sending.{isReset}
+use Rattle.walk.specs.Walk.{nextOf, askOf}
+use Rattle.host.specs.Calls.{orderOf, regroupOf}
 use Rattle.line.specs.History.{Sending, gives, asks, sends}
 
 pub data Call : Type 0 where

@@ -1,6 +1,6 @@
 // The host's session by value: what it shows, and what the calls and the reports both ask of it.
 // Promised: a look at a node; which sessions count as closed.
-// Left to others: how one starts (start), sending (host), and closing an exchange (reports).
+// Left to others: how one starts (start), sending (sending, walk, host), and closing an exchange (reports).
 use command::Command;
 use command::Place;
 use entry::Entry;

@@ -1,6 +1,6 @@
 // How a session starts.
 // Promised: a fresh session, and power-up with n nodes, at any time.
-// Left to others: the walk, which gives the nodes their addresses (host).
+// Left to others: the walk, which gives the nodes their addresses (walk).
 use session::End;
 use session::Exchange;
 use session::Session;

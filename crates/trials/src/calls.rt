@@ -77,8 +77,8 @@ fn order_read(s: Session, to: Address, read: Reading, lent: &mut [u8]) -> Step {
 // A call that sends.
 pub(crate) fn send(s: Session, kind: u8, args: &[u8], lent: &mut [u8]) -> Step {
     match kind {
-        0x31 => host::next(s, lent),
-        0x32 => host::ask(s, lent),
+        0x31 => walk::next(s, lent),
+        0x32 => walk::ask(s, lent),
         0x33 => order_read(s, target(args), read_command(args), lent),
         _ => {
             let node = Individual(byte(args, 0));

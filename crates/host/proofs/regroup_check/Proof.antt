@@ -1,0 +1,23 @@
+-- The tests in their order.
+use borrow.Author.Needs.{needs}
+use Rattle.host.specs.Calls.{regroupCheck}
+use Rattle.host.proofs.regroup_check.Statement.{statement}
+use Rattle.host.proofs.regroup_check.Tie as tie
+
+in-order : tie.Need-returns
+unfolding regroupCheck
+in-order c = rw (c .refuse-if4 .ensures, c .before .does-clash .ensures, c .before .before .refuse-if3 .ensures, c .before .before .before .before .refuse-if2 .ensures, c .before .before .before .before .before .off-chain .ensures, c .before .before .before .before .before .before .refuse-if .ensures, c .before .before .before .before .before .before .before .in-range .ensures, c .before .before .before .before .before .before .before .before .ready-check .ensures)
+
+pub regroup-check-spec : {M : Type 1} → statement M
+regroup-check-spec =
+    tie.close
+    (tie.spec
+    (λ c κs. search needs)
+    (λ c κs. search needs)
+    (λ c κs. search needs)
+    (λ c κs. search needs)
+    (λ c κs. search needs)
+    (λ c κs. search needs)
+    (λ c κs. search needs)
+    (λ c κs. search needs)
+    in-order)

@@ -1,0 +1,48 @@
+-- What a clear check says: each of its tests failed.
+use Prim.Native.Nat.{ℕ}
+use mathlib.Core.Bool.{Bool, true, false, true≢false}
+use mathlib.Core.Path.{_≡_, refl}
+use native.Mathlib.Omega.{arith}
+use Rattle.wire.specs.declared.refusal.Refusal.{Refusal}
+use Rattle.wire.specs.declared.refusal.Refusal.the-variants.{Busy, Closed}
+use Rattle.session.specs.declared.Exchange.{Exchange}
+use Rattle.session.specs.declared.Exchange.the-variants.{Idle, Waiting}
+use Rattle.session.specs.declared.Session.{Session}
+use Rattle.session.specs.Session.{closedOf}
+use Rattle.session.proofs.Sessions.{Valid, valid-says, closed-not}
+use Rattle.sending.specs.declared.Check.{Check}
+use Rattle.sending.specs.declared.Check.the-variants.{Clear, Refuse}
+use Rattle.sending.specs.Sending.{refuseIf, waits, waitingOf, readyCheck}
+
+-- a check that is clear was clear before, and its last test failed
+pub record Passed (k : Check) (test : Bool) : Type 0 where
+  pub before : k ≡ Clear
+  pub failed : test ≡ false
+
+pub passed : (k : Check) (test : Bool) (why : Refusal) → refuseIf k test why ≡ Clear → Passed k test
+passed (Refuse first) test why h = absurd (let z : _≡_ {A = ℕ} 0 1 = cc in omega arith)
+passed Clear true why h = absurd (let z : _≡_ {A = ℕ} 0 1 = cc in omega arith)
+passed Clear false why h = record { before = refl; failed = refl }
+
+-- a started session with nothing on the line
+pub record Ready (s : Session) : Type 0 where
+  pub valid : Valid s
+  pub started : s .started ≡ true
+  pub idle : s .exchange ≡ Idle
+
+idle-says : (x : Exchange) → waits x ≡ false → x ≡ Idle
+idle-says Idle h = refl
+idle-says (Waiting to c) h = absurd (true≢false h)
+
+waiting-not : (s : Session) → closedOf s ≡ false → waitingOf s ≡ false → s .exchange ≡ Idle
+unfolding waitingOf
+waiting-not s p h = idle-says (s .exchange) (rw p at h)
+
+-- 12 and 7 did not occur
+pub ready-says : (s : Session) → readyCheck s ≡ Clear → Ready s
+unfolding readyCheck
+ready-says s h =
+    let t = passed (refuseIf Clear (closedOf s) Closed) (waitingOf s) Busy h in
+    let u = passed Clear (closedOf s) Closed (t .before) in
+    let v = closed-not s (u .failed) in
+    record { valid = valid-says s (v .0); started = v .1; idle = waiting-not s (u .failed) (t .failed) }

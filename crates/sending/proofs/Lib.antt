@@ -1,0 +1,7 @@
+pub mod Refusing
+pub mod Transmitting
+pub mod Clear
+pub mod Sent
+pub mod Stands
+pub mod Soundness
+pub mod Unique

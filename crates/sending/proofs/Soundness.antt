@@ -1,0 +1,50 @@
+-- A sound session stays sound when a command is sent.
+use Prim.Native.Nat.{ℕ}
+use mathlib.Core.Bool.{Bool, true, false, cond}
+use mathlib.Core.List.{List}
+use mathlib.Core.Path.{_≡_, refl, _∙_}
+use Rattle.wire.specs.Promise.{Outcome}
+use Rattle.wire.specs.declared.address.Address.{Address}
+use Rattle.wire.specs.declared.buffer.Built.{Built}
+use Rattle.wire.specs.declared.buffer.Built.the-variants as built
+use Rattle.command.specs.declared.Command.{Command}
+use Rattle.command.specs.Build.{commandBuilt}
+use Rattle.ledger.specs.Ledger.{forgotten}
+use Rattle.ledger.proofs.Ledgers.{length-forgotten}
+use Rattle.session.specs.declared.Exchange.the-variants.{Idle, Waiting}
+use Rattle.session.specs.declared.Session.{Session}
+use Rattle.session.specs.declared.Step.{Step}
+use Rattle.session.specs.Session.{Sound, offChain}
+use Rattle.session.proofs.Sessions.{valid-says, valid-from}
+use Rattle.sending.specs.declared.Check.{Check}
+use Rattle.sending.specs.declared.Check.the-variants as check
+use Rattle.sending.specs.Sending.{isReset, opened, stepBy, transmitted, byCheck}
+
+-- an exchange is opened with a node 1 to n, or with a group
+opened-by : (b : Bool) (s : Session) (to : Address) (c : Command) → Sound s → offChain (s .n) to ≡ false
+    → Sound (cond b (record { started = false; n = s .n; walk = s .walk; exchange = Idle; entries = forgotten (s .entries) })
+    (record { started = s .started; n = s .n; walk = s .walk; exchange = Waiting to c; entries = s .entries }))
+opened-by true s to c h p =
+    let v = valid-says s (h .valid) in
+    record { valid = valid-from _ (v .few) (v .walked) refl; whole = length-forgotten (s .entries) ∙ h .whole }
+opened-by false s to c h p =
+    let v = valid-says s (h .valid) in
+    record { valid = valid-from _ (v .few) (v .walked) p; whole = h .whole }
+
+pub opened-sound : (s : Session) (to : Address) (c : Command) → Sound s → offChain (s .n) to ≡ false → Sound (opened s to c)
+unfolding opened
+opened-sound s to c = opened-by (isReset c) s to c
+
+by-built : (s t : Session) (b : Built) → Sound s → Sound t → Sound (stepBy s t b .session)
+by-built s t (built.Bytes n) h k = k
+by-built s t (built.Refused why) h k = h
+
+pub transmitted-sound : (s : Session) (line to : Address) (c : Command) (out : List ℕ) → Sound s → offChain (s .n) to ≡ false
+    → Sound (transmitted s line to c out .answer .session)
+unfolding transmitted
+transmitted-sound s line to c out h p = by-built s (opened s to c) (commandBuilt line c out .answer) h (opened-sound s to c h p)
+
+pub check-sound : (k : Check) (s : Session) (out : List ℕ) (o : Outcome Step (List ℕ)) → Sound s → (k ≡ check.Clear → Sound (o .answer .session))
+    → Sound (byCheck k s out o .answer .session)
+check-sound check.Clear s out o h p = p refl
+check-sound (check.Refuse why) s out o h p = h

@@ -1,0 +1,36 @@
+-- Any number but 0 leaves session and buffer as they stood.
+use Prim.Native.Nat.{ℕ}
+use mathlib.Core.List.{List}
+use mathlib.Core.Path.{_≡_, refl}
+use Rattle.wire.specs.Promise.{Outcome}
+use Rattle.wire.specs.declared.address.Address.{Address}
+use Rattle.wire.specs.declared.buffer.Built.{Built}
+use Rattle.wire.specs.declared.buffer.Built.the-variants as built
+use Rattle.wire.specs.Numbers.{done}
+use Rattle.wire.proofs.Refusals.{Spares}
+use Rattle.command.specs.declared.Command.{Command}
+use Rattle.command.specs.Build.{commandBuilt}
+use Rattle.command.proofs.Commands.{command-spares}
+use Rattle.session.specs.declared.Session.{Session}
+use Rattle.session.specs.declared.Step.{Step}
+use Rattle.session.specs.Session.{stepNumber}
+use Rattle.sending.specs.declared.Check.{Check}
+use Rattle.sending.specs.declared.Check.the-variants.{Clear, Refuse}
+use Rattle.sending.specs.Sending.{opened, stepBy, transmitted, byCheck}
+
+-- and leaves the buffer
+abbrev pub Stands : Session → List ℕ → Outcome Step (List ℕ) → Type 0
+Stands s out o = (stepNumber (o .answer) ≡ done → ⊥) → (o .answer .session ≡ s) × (o .left ≡ out)
+
+by-built : (s t : Session) (out left : List ℕ) (b : Built) → Spares out (record { answer = b; left = left }) → Stands s out (record { answer = stepBy s t b; left = left })
+by-built s t out left (built.Bytes n) h z = absurd (z refl)
+by-built s t out left (built.Refused why) h z = (refl, h z)
+
+pub transmitted-stands : (s : Session) (line to : Address) (c : Command) (out : List ℕ) → Stands s out (transmitted s line to c out)
+unfolding transmitted
+transmitted-stands s line to c out =
+    by-built s (opened s to c) out (commandBuilt line c out .left) (commandBuilt line c out .answer) (command-spares line c out)
+
+pub check-stands : (k : Check) (s : Session) (out : List ℕ) (o : Outcome Step (List ℕ)) → Stands s out o → Stands s out (byCheck k s out o)
+check-stands Clear s out o h z = h z
+check-stands (Refuse why) s out o h z = (refl, refl)

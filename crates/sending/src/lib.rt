@@ -1,0 +1,124 @@
+// What every call that sends does: first it tests the session, last it builds its packet.
+// Promised: 12, then 7; the first refusal wins; the packet at the start of the lent buffer and its exchange opened, or 5.
+// Left to others: which command goes where, with the refusals of its own (walk, host); the bytes on the line (the caller).
+use command::Command;
+use session::End;
+use session::Exchange;
+use session::Session;
+use session::Step;
+use session::is_closed;
+use session::refuse;
+use wire::Address;
+use wire::Built;
+use wire::Refusal;
+ghost use mathlib.Core.Path.{_≡_};
+ghost use Rattle.wire.specs.Promise.{Lending};
+ghost use Rattle.session.specs.Session.{stepNumber};
+ghost use Rattle.sending.specs.Sending.{refuseIf, waits, waitingOf, readyCheck, isReset, opened, transmitted};
+
+// What the tests so far came to.
+pub enum Check {
+    Clear,
+    Refuse(Refusal),
+}
+
+impl Check {
+    // Refused already, or refused now if the test holds.
+    pub fn refuse_if(self, test: bool, why: Refusal) -> Check
+        ensures { λ r. ⌜ r ≡ refuseIf self test why ⌝ }
+    {
+        match self {
+            Check::Refuse(first) => Check::Refuse(first),
+            Check::Clear => {
+                if test {
+                    return Check::Refuse(why);
+                }
+                Check::Clear
+            }
+        }
+    }
+}
+
+fn does_wait(x: Exchange) -> bool
+    ensures { λ r. ⌜ r ≡ waits x ⌝ }
+{
+    match x {
+        Exchange::Idle => false,
+        Exchange::Waiting { to: _, command: _ } => true,
+    }
+}
+
+// Whether an exchange is open; a closed session has none.
+fn is_waiting(s: Session) -> bool
+    ensures { λ r. ⌜ r ≡ waitingOf s ⌝ }
+{
+    if is_closed(s) {
+        return false;
+    }
+    let x = s.exchange;
+    does_wait(x)
+}
+
+// 12 and 7, which every call that sends tests first.
+pub fn ready_check(s: Session) -> Check
+    ensures { λ r. ⌜ r ≡ readyCheck s ⌝ }
+{
+    Check::Clear
+        .refuse_if(is_closed(s), Refusal::Closed)
+        .refuse_if(is_waiting(s), Refusal::Busy)
+}
+
+// Hard Reset closes the session and opens no exchange.
+fn is_reset(c: Command) -> bool
+    ensures { λ r. ⌜ r ≡ isReset c ⌝ }
+{
+    match c {
+        Command::HardReset => true,
+        Command::SetAddress(_) => false,
+        Command::DefineStatus(_) => false,
+        Command::ReadStatus(_) => false,
+        Command::SetPwm(_) => false,
+        Command::SynchOutput => false,
+        Command::SetOutputs(_) => false,
+        Command::SetSynchOutput(_) => false,
+        Command::SetTimerMode(_) => false,
+        Command::SynchInput => false,
+        Command::Nop => false,
+    }
+}
+
+// The session with a command on the line: Hard Reset closes it and opens no exchange, any other command waits.
+fn open_exchange(s: Session, to: Address, c: Command) -> Session
+    ensures { λ r. ⌜ r ≡ opened s to c ⌝ }
+{
+    let entries = s.entries;
+    if is_reset(c) {
+        return Session {
+            started: false,
+            n: s.n,
+            walk: s.walk,
+            exchange: Exchange::Idle,
+            entries: ledger::forget(entries),
+        };
+    }
+    Session {
+        started: s.started,
+        n: s.n,
+        walk: s.walk,
+        exchange: Exchange::Waiting { to, command: c },
+        entries,
+    }
+}
+
+// Sends a command to the address `line`, for the node or group `to`; 5 where the packet has no room.
+pub fn transmit(s: Session, line: Address, to: Address, c: Command, out: &mut [u8]) -> Step
+    ensures { λ r. ⌜ Lending stepNumber r (now (out .exit)) (transmitted s line to c (now (out .entry))) ⌝ }
+{
+    match command::build(line, c, out) {
+        Built::Bytes(n) => Step {
+            end: End::Sent(n),
+            session: open_exchange(s, to, c),
+        },
+        Built::Refused(why) => refuse(s, why),
+    }
+}

@@ -1,0 +1,50 @@
+-- What the walk sends: where the check is clear, its packet stands at the start of the buffer, or 5 leaves all as it stood.
+use Prim.Native.Nat.{ℕ, _+_}
+use mathlib.Core.List.{List}
+use mathlib.Core.Path.{_≡_, refl}
+use native.Mathlib.Omega.{arith}
+use Rattle.wire.specs.declared.refusal.Refusal.{Refusal}
+use Rattle.wire.specs.Numbers.{done}
+use Rattle.command.specs.declared.Command.the-variants.{SetAddress, Nop}
+use Rattle.session.specs.declared.Session.{Session}
+use Rattle.session.specs.Session.{nodeAt, givenPlace, stepNumber}
+use Rattle.sending.specs.declared.Check.the-variants.{Clear, Refuse}
+use Rattle.walk.specs.Walk.{nextCheck, askCheck, nextOf, askOf}
+use Rattle.sending.proofs.Sent.{Sends, transmitted-sends, by-clear, node-fits, refusing, Went, went}
+use Rattle.walk.proofs.Clear.{next-says, ask-says}
+
+pub next-sent : (s : Session) (out : List ℕ) → nextCheck s ≡ Clear
+    → Sends s (nodeAt 0x00) (nodeAt (s .walk + 1)) (SetAddress (givenPlace (s .walk + 1))) out (nextOf s out)
+unfolding nextOf
+next-sent s out h =
+    let t = next-says s h in
+    let w = t .walking in
+    let f = t .session .valid .few in
+    by-clear (nextCheck s) s _ _ _ out _ h (transmitted-sends s _ _ _ out refl (rw (node-fits (s .n) (s .walk + 1) f (omega arith))))
+
+pub ask-sent : (s : Session) (out : List ℕ) → askCheck s ≡ Clear → Sends s (nodeAt (s .walk + 1)) (nodeAt (s .walk + 1)) Nop out (askOf s out)
+unfolding askOf
+ask-sent s out h =
+    let t = ask-says s h in
+    let w = t .walking in
+    let f = t .session .valid .few in
+    by-clear (askCheck s) s _ _ _ out _ h (transmitted-sends s _ _ _ out (node-fits (s .n) (s .walk + 1) f (omega arith)) refl)
+
+module _ (s : Session) (out : List ℕ) (why : Refusal) where
+  pub next-refuses : nextCheck s ≡ Refuse why → nextOf s out ≡ refusing s why out
+  unfolding nextOf
+  next-refuses h = rw h
+
+  pub ask-refuses : askCheck s ≡ Refuse why → askOf s out ≡ refusing s why out
+  unfolding askOf
+  ask-refuses h = rw h
+
+module _ (s : Session) (out : List ℕ) where
+  pub next-went : stepNumber (nextOf s out .answer) ≡ done
+      → Went (nextCheck s) s (nodeAt 0x00) (nodeAt (s .walk + 1)) (SetAddress (givenPlace (s .walk + 1))) out (nextOf s out)
+  unfolding nextOf
+  next-went d = went (nextCheck s) s _ _ _ out _ (next-sent s out) d
+
+  pub ask-went : stepNumber (askOf s out .answer) ≡ done → Went (askCheck s) s (nodeAt (s .walk + 1)) (nodeAt (s .walk + 1)) Nop out (askOf s out)
+  unfolding askOf
+  ask-went d = went (askCheck s) s _ _ _ out _ (ask-sent s out) d

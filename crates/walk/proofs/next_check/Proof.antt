@@ -1,0 +1,19 @@
+-- The tests in their order.
+use borrow.Author.Needs.{needs}
+use Rattle.walk.specs.Walk.{nextCheck}
+use Rattle.walk.proofs.next_check.Statement.{statement}
+use Rattle.walk.proofs.next_check.Tie as tie
+
+in-order : tie.Need-returns
+unfolding nextCheck
+in-order c = rw (c .refuse-if2 .ensures, c .before .is-ask-due .ensures, c .before .before .refuse-if .ensures, c .before .before .before .before .ready-check .ensures)
+
+pub next-check-spec : {M : Type 1} → statement M
+next-check-spec =
+    tie.close
+    (tie.spec
+    (λ c κs. search needs)
+    (λ c κs. search needs)
+    (λ c κs. search needs)
+    (λ c κs. search needs)
+    in-order)

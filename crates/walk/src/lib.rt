@@ -1,0 +1,68 @@
+// The walk: the host gives the nodes their addresses, one after another.
+// Promised: the refusals in the paper's order, else "next" sends Set Address to 0x00, or "ask" a Nop to the new address; any number but 0 changes nothing.
+// Left to others: how a walk starts (start), what an answer makes of it (reports), how long to wait for one (the caller).
+use command::Command;
+use sending::Check;
+use sending::ready_check;
+use sending::transmit;
+use session::Session;
+use session::Step;
+use session::given_place;
+use session::is_ask_due;
+use session::refuse;
+use wire::Address;
+use wire::Individual;
+use wire::Refusal;
+ghost use mathlib.Core.Path.{_≡_};
+ghost use Rattle.wire.specs.Promise.{Lending};
+ghost use Rattle.session.specs.Session.{stepNumber};
+ghost use Rattle.walk.specs.Walk.{nextCheck, askCheck, nextOf, askOf};
+
+fn next_check(s: Session) -> Check
+    ensures { λ r. ⌜ r ≡ nextCheck s ⌝ }
+{
+    ready_check(s)
+        .refuse_if(s.n <= s.walk, Refusal::NotDue)
+        .refuse_if(is_ask_due(s), Refusal::NotDue)
+}
+
+fn ask_check(s: Session) -> Check
+    ensures { λ r. ⌜ r ≡ askCheck s ⌝ }
+{
+    ready_check(s)
+        .refuse_if(s.n <= s.walk, Refusal::NotDue)
+        .refuse_if(!is_ask_due(s), Refusal::NotDue)
+}
+
+// Set Address to 0x00 with the next address of 1, 2, .. n.
+pub fn next(s: Session, out: &mut [u8]) -> Step
+    ensures { λ r. ⌜ Lending stepNumber r (now (out .exit)) (nextOf s (now (out .entry))) ⌝ }
+{
+    match next_check(s) {
+        Check::Refuse(why) => refuse(s, why),
+        Check::Clear => {
+            let k = s.walk + 1;
+            let c = Command::SetAddress(given_place(k));
+            transmit(
+                s,
+                Address::Individual(Individual(0)),
+                Address::Individual(Individual(k)),
+                c,
+                out,
+            )
+        }
+    }
+}
+
+// Where the last Set Address is unconfirmed: a Nop to the address that it gave.
+pub fn ask(s: Session, out: &mut [u8]) -> Step
+    ensures { λ r. ⌜ Lending stepNumber r (now (out .exit)) (askOf s (now (out .entry))) ⌝ }
+{
+    match ask_check(s) {
+        Check::Refuse(why) => refuse(s, why),
+        Check::Clear => {
+            let to = Address::Individual(Individual(s.walk + 1));
+            transmit(s, to, to, Command::Nop, out)
+        }
+    }
+}

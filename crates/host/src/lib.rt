@@ -20,6 +20,7 @@ ghost use Rattle.wire.specs.Promise.{Lending};
 ghost use Rattle.session.specs.Session.{stepNumber};
 ghost use Rattle.host.specs.Calls.{badGroup, clashOf, orderCheck, regroupCheck, orderOf, regroupOf};
 
+// 6: a group below 0x80.
 fn is_bad_group(to: Address) -> bool
     ensures { λ r. ⌜ r ≡ badGroup to ⌝ }
 {
@@ -29,6 +30,7 @@ fn is_bad_group(to: Address) -> bool
     }
 }
 
+// 12, 7, then 6, 10, 9.
 fn order_check(s: Session, to: Address, c: Command) -> Check
     ensures { λ r. ⌜ r ≡ orderCheck s to c ⌝ }
 {
@@ -50,6 +52,7 @@ fn does_clash(s: Session, node: Individual, group: Group, leader: bool) -> bool
     false
 }
 
+// 12, 7, then 6, 10, 9, 11.
 fn regroup_check(s: Session, node: Individual, group: Group, leader: bool) -> Check
     ensures { λ r. ⌜ r ≡ regroupCheck s node group leader ⌝ }
 {

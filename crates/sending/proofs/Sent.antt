@@ -58,6 +58,7 @@ pub transmitted-sends : (s : Session) (line to : Address) (c : Command) (out : L
 unfolding transmitted
 transmitted-sends s line to c out p q = rw (built-written line c out p q) (by-place s line to c out)
 
+-- where the check before it is clear
 pub by-clear : (k : Check) (s : Session) (line to : Address) (c : Command) (out : List ℕ) (o : Outcome Step (List ℕ)) → k ≡ Clear
     → Sends s line to c out o → Sends s line to c out (byCheck k s out o)
 by-clear k s line to c out o p h = rw p h
@@ -81,6 +82,7 @@ by-room true s line to c out o e h d =
     absurd (not-done Room (sym (ap (λ (x : Outcome Step (List ℕ)). stepNumber (x .answer)) (h .none (ltb-true _ _ e))) ∙ d))
 by-room false s line to c out o e h d = h .room (ltb-false _ _ e)
 
+-- by the check before it
 pub went : (k : Check) (s : Session) (line to : Address) (c : Command) (out : List ℕ) (o : Outcome Step (List ℕ))
     → (k ≡ Clear → Sends s line to c out (byCheck k s out o)) → stepNumber (byCheck k s out o .answer) ≡ done → Went k s line to c out (byCheck k s out o)
 went Clear s line to c out o h d =

@@ -44,6 +44,7 @@ pub transmitted-sound : (s : Session) (line to : Address) (c : Command) (out : L
 unfolding transmitted
 transmitted-sound s line to c out h p = by-built s (opened s to c) (commandBuilt line c out .answer) h (opened-sound s to c h p)
 
+-- by the check before it
 pub check-sound : (k : Check) (s : Session) (out : List ℕ) (o : Outcome Step (List ℕ)) → Sound s → (k ≡ check.Clear → Sound (o .answer .session))
     → Sound (byCheck k s out o .answer .session)
 check-sound check.Clear s out o h p = p refl

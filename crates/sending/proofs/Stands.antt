@@ -18,7 +18,7 @@ use Rattle.sending.specs.declared.Check.{Check}
 use Rattle.sending.specs.declared.Check.the-variants.{Clear, Refuse}
 use Rattle.sending.specs.Sending.{opened, stepBy, transmitted, byCheck}
 
--- and leaves the buffer
+-- refused with any number: session and buffer are as they were handed in
 abbrev pub Stands : Session → List ℕ → Outcome Step (List ℕ) → Type 0
 Stands s out o = (stepNumber (o .answer) ≡ done → ⊥) → (o .answer .session ≡ s) × (o .left ≡ out)
 
@@ -31,6 +31,7 @@ unfolding transmitted
 transmitted-stands s line to c out =
     by-built s (opened s to c) out (commandBuilt line c out .left) (commandBuilt line c out .answer) (command-spares line c out)
 
+-- by the check before it
 pub check-stands : (k : Check) (s : Session) (out : List ℕ) (o : Outcome Step (List ℕ)) → Stands s out o → Stands s out (byCheck k s out o)
 check-stands Clear s out o h z = h z
 check-stands (Refuse why) s out o h z = (refl, refl)

@@ -18,6 +18,7 @@ ghost use Rattle.wire.specs.Promise.{Lending};
 ghost use Rattle.session.specs.Session.{stepNumber};
 ghost use Rattle.walk.specs.Walk.{nextCheck, askCheck, nextOf, askOf};
 
+// 9 where the walk has ended, or "ask" is due instead.
 fn next_check(s: Session) -> Check
     ensures { λ r. ⌜ r ≡ nextCheck s ⌝ }
 {
@@ -26,6 +27,7 @@ fn next_check(s: Session) -> Check
         .refuse_if(is_ask_due(s), Refusal::NotDue)
 }
 
+// 9 where the walk has ended, or nothing is unconfirmed.
 fn ask_check(s: Session) -> Check
     ensures { λ r. ⌜ r ≡ askCheck s ⌝ }
 {

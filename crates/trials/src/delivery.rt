@@ -1,64 +1,48 @@
 // The chain: 20 delivers a packet to node records that are lent for that line alone.
 use crate::layout::NODE;
-use crate::layout::is_node;
-use crate::layout::put_node;
+use crate::layout::are_records;
+use crate::layout::node_bytes;
 use crate::layout::read_node;
-use crate::parts::put;
-use crate::parts::room_end;
+use crate::parts::Answer;
+use crate::parts::byte;
+use crate::parts::is_lending;
+use crate::parts::malformed;
+use crate::parts::nothing;
 use chain::Delivery;
+use node::Node;
+use table::Delivered;
 use table::Table;
 use text::rest;
 ghost use Prim.Native.Nat.{_≤_};
-ghost use lib.ListN.{length};
 
 // How many records a line may lend, and a table has room for.
-const MOST_RECORDS: u8 = 33;
-
 const NODES: usize = 33;
 
-// Whether s starts with so many node records.
-fn are_nodes(s: &[u8], count: u8) -> bool {
-    let mut i: u8 = 0;
-    while i < count {
-        let at = i as usize * NODE;
-        if is_node(rest(s, at)) {
-            i += 1;
-        } else {
-            return false;
-        }
-    }
-    true
-}
-
-// The table of so many records at the start of s.
-fn read_table(s: &[u8], count: usize) -> Table {
+// The records at the start of s, as many as a table has room for.
+fn read_nodes(s: &[u8]) -> [Node; 33] {
     let n = read_node(s);
-    let mut table = Table {
-        nodes: [n; 33],
-        count,
-    };
+    let mut nodes = [n; 33];
     let mut i = 0;
     while i < NODES {
         let n = read_node(rest(s, i * NODE));
-        table.nodes[i] = n;
+        nodes[i] = n;
         i += 1;
     }
-    table
+    nodes
 }
 
-// Puts the first `count` nodes of a table; the place behind them.
-fn put_nodes(out: &mut [u8], at: usize, t: Table, count: usize) -> usize {
-    let mut end = at;
+// With the first `count` nodes more.
+fn put_nodes(a: Answer, nodes: [Node; 33], count: usize) -> Answer
+    requires { ⌜ count ≤ 33 ⌝ }
+{
+    let mut all = a;
     let mut i = 0;
-    while i < NODES {
-        if count <= i {
-            return end;
-        }
-        let n = t.nodes[i];
-        end = put_node(out, end, n);
+    while i < count {
+        let n = nodes[i];
+        all = all.put_all(&node_bytes(n));
         i += 1;
     }
-    end
+    all
 }
 
 // The number of a delivery.
@@ -81,36 +65,40 @@ fn reply_length(d: Delivery) -> u8 {
     }
 }
 
-// `room n NODE*n packet..`: `NN len buffer NODE*n`.
-pub(crate) fn deliver(args: &[u8], out: &mut [u8]) -> usize {
-    if args.len() < 2 {
-        return 0;
-    }
-    let end = room_end(out.len(), 2, args[0]);
-    if end < 2 {
-        return 0;
-    }
-    let count = args[1];
-    if MOST_RECORDS < count {
-        return 0;
-    }
-    let records = rest(args, 2);
-    if are_nodes(records, count) {
-        return deliver_to(records, count as usize, end, out);
-    }
-    0
+// `NN len buffer NODE*n`.
+fn put_delivered(d: Delivered, lent: &[u8], count: usize) -> Answer
+    requires { ⌜ count ≤ 33 ⌝ }
+{
+    let answer = d.answer;
+    let table = d.table;
+    let nodes = table.nodes;
+    let a = nothing()
+        .put(number(answer))
+        .put(reply_length(answer))
+        .put_all(lent);
+    put_nodes(a, nodes, count)
 }
 
-// A packet behind so many node records; the lent buffer is out[2..end].
-fn deliver_to(records: &[u8], count: usize, end: usize, out: &mut [u8]) -> usize
-    requires { ⌜ (count ≤ 33) × ((2 ≤ end) × (end ≤ length (now out))) ⌝ }
+// A packet behind so many node records.
+fn deliver_to(records: &[u8], count: usize, lent: &mut [u8]) -> Answer
+    requires { ⌜ count ≤ 33 ⌝ }
 {
-    let length = count * NODE;
-    let table = read_table(records, count);
-    let delivered = table::deliver(table, rest(records, length), &mut out[2..end]);
-    let answer = delivered.answer;
-    let after = delivered.table;
-    put(out, 0, number(answer));
-    put(out, 1, reply_length(answer));
-    put_nodes(out, end, after, count)
+    let nodes = read_nodes(records);
+    let packet = rest(records, count * NODE);
+    let delivered = table::deliver(Table { nodes, count }, packet, lent);
+    put_delivered(delivered, lent, count)
+}
+
+// `room n NODE*n packet..`: `NN len buffer NODE*n`. A node record has two flags, leader and addressed.
+pub(crate) fn deliver(args: &[u8], lent: &mut [u8]) -> Answer {
+    let count = byte(args, 1) as usize;
+    let records = rest(args, 2);
+    if is_lending(args, 2) {
+        if count <= NODES {
+            if are_records(records, count, NODE, 3, 2) {
+                return deliver_to(records, count, lent);
+            }
+        }
+    }
+    malformed()
 }

@@ -1,12 +1,9 @@
 // The layouts of a node record and of an entry of the host's record.
 use crate::parts::byte;
 use crate::parts::flag;
-use crate::parts::high;
-use crate::parts::high_word;
 use crate::parts::long;
-use crate::parts::low;
-use crate::parts::low_word;
-use crate::parts::put_all;
+use crate::parts::split;
+use crate::parts::split_long;
 use crate::parts::word;
 use command::Held;
 use command::Place;
@@ -27,6 +24,31 @@ pub(crate) const NODE: usize = 31;
 // ENTRY: place (3), the settings behind it (10), known.
 pub(crate) const ENTRY: usize = 14;
 
+// Whether a record's leader is a flag, 00 or 01, and its byte at `place` below a limit.
+fn is_record(s: &[u8], place: usize, limit: u8) -> bool {
+    if byte(s, 2) < 2 {
+        return byte(s, place) < limit;
+    }
+    false
+}
+
+// Whether s starts with so many such records of this size.
+pub(crate) fn are_records(s: &[u8], count: usize, size: usize, place: usize, limit: u8) -> bool {
+    let mut at = 0;
+    let mut i = 0;
+    while i < count {
+        if s.len() - at < size {
+            return false;
+        }
+        if !is_record(rest(s, at), place, limit) {
+            return false;
+        }
+        at += size;
+        i += 1;
+    }
+    true
+}
+
 // Address, group, leader.
 fn read_place(s: &[u8]) -> Place {
     let leader = byte(s, 2) == 1;
@@ -38,20 +60,22 @@ fn read_place(s: &[u8]) -> Place {
 }
 
 // PWM 1, PWM 2.
-fn read_pwm(s: &[u8]) -> Pwm {
-    let first = byte(s, 0);
-    let second = byte(s, 1);
-    Pwm { first, second }
+fn read_pwm(s: &[u8], at: usize) -> Pwm {
+    let pair = rest(s, at);
+    Pwm {
+        first: byte(pair, 0),
+        second: byte(pair, 1),
+    }
 }
 
 // Mask, outputs (2), PWM pair, held outputs (2), held PWM pair, timer mode.
 fn read_settings(place: Place, s: &[u8]) -> Settings {
     let mask = byte(s, 0);
-    let outputs = word(rest(s, 1));
-    let pwm = read_pwm(rest(s, 3));
+    let outputs = word(s, 1);
+    let pwm = read_pwm(s, 3);
     let held = Held {
-        outputs: word(rest(s, 5)),
-        pwm: read_pwm(rest(s, 7)),
+        outputs: word(s, 5),
+        pwm: read_pwm(s, 7),
     };
     let timer = byte(s, 9);
     Settings {
@@ -66,8 +90,8 @@ fn read_settings(place: Place, s: &[u8]) -> Settings {
 
 // Inputs (2), counter (4), analog 0, 1, 2, device ID, version.
 fn read_bench(s: &[u8]) -> Bench {
-    let inputs = word(s);
-    let counter = long(rest(s, 2));
+    let inputs = word(s, 0);
+    let counter = long(s, 2);
     Bench {
         inputs,
         counter,
@@ -81,20 +105,9 @@ fn read_bench(s: &[u8]) -> Bench {
 
 // Inputs (2), counter (4).
 fn read_captured(s: &[u8]) -> Captured {
-    let inputs = word(s);
-    let counter = long(rest(s, 2));
+    let inputs = word(s, 0);
+    let counter = long(s, 2);
     Captured { inputs, counter }
-}
-
-// Whether s starts with a node record: both flags are 00 or 01.
-pub(crate) fn is_node(s: &[u8]) -> bool {
-    if s.len() < NODE {
-        return false;
-    }
-    if 1 < byte(s, 2) {
-        return false;
-    }
-    byte(s, 3) < 2
 }
 
 // The node record at the start of s.
@@ -109,17 +122,6 @@ pub(crate) fn read_node(s: &[u8]) -> Node {
         bench,
         captured,
     }
-}
-
-// Whether s starts with an entry: the flag is 00 or 01, and bits 6 and 7 of known are 0.
-pub(crate) fn is_entry(s: &[u8]) -> bool {
-    if s.len() < ENTRY {
-        return false;
-    }
-    if 1 < byte(s, 2) {
-        return false;
-    }
-    byte(s, 13) < 64
 }
 
 // Bits 0 to 5: place, mask, outputs, PWM pair, held set, timer mode.
@@ -142,56 +144,53 @@ pub(crate) fn read_entry(s: &[u8]) -> Entry {
 }
 
 // The bytes of a node record.
-fn node_bytes(n: Node) -> [u8; 31] {
+pub(crate) fn node_bytes(n: Node) -> [u8; 31] {
     let s = n.settings;
     let place = s.place;
+    let outputs = split(s.outputs);
     let pwm = s.pwm;
     let held = s.held;
-    let later = held.pwm;
+    let held_outputs = split(held.outputs);
+    let held_pwm = held.pwm;
     let b = n.bench;
-    let counter = low_word(b.counter);
-    let counter_top = high_word(b.counter);
+    let inputs = split(b.inputs);
+    let counter = split_long(b.counter);
     let c = n.captured;
-    let captured = low_word(c.counter);
-    let captured_top = high_word(c.counter);
+    let captured = split(c.inputs);
+    let captured_counter = split_long(c.counter);
     [
         place.address.0,
         place.group.0,
         flag(place.leader),
         flag(n.addressed),
         s.mask,
-        low(s.outputs),
-        high(s.outputs),
+        outputs.low,
+        outputs.high,
         pwm.first,
         pwm.second,
-        low(held.outputs),
-        high(held.outputs),
-        later.first,
-        later.second,
+        held_outputs.low,
+        held_outputs.high,
+        held_pwm.first,
+        held_pwm.second,
         s.timer,
-        low(b.inputs),
-        high(b.inputs),
-        low(counter),
-        high(counter),
-        low(counter_top),
-        high(counter_top),
+        inputs.low,
+        inputs.high,
+        counter.low.low,
+        counter.low.high,
+        counter.high.low,
+        counter.high.high,
         b.analog0,
         b.analog1,
         b.analog2,
         b.id,
         b.version,
-        low(c.inputs),
-        high(c.inputs),
-        low(captured),
-        high(captured),
-        low(captured_top),
-        high(captured_top),
+        captured.low,
+        captured.high,
+        captured_counter.low.low,
+        captured_counter.low.high,
+        captured_counter.high.low,
+        captured_counter.high.high,
     ]
-}
-
-// Puts a node record; the place behind it.
-pub(crate) fn put_node(out: &mut [u8], at: usize, n: Node) -> usize {
-    put_all(out, at, &node_bytes(n))
 }
 
 // The bits of what is known.
@@ -205,22 +204,24 @@ fn known_bits(k: Known) -> u8 {
 pub(crate) fn entry_bytes(e: Entry) -> [u8; 14] {
     let s = e.settings;
     let place = s.place;
+    let outputs = split(s.outputs);
     let pwm = s.pwm;
     let held = s.held;
-    let later = held.pwm;
+    let held_outputs = split(held.outputs);
+    let held_pwm = held.pwm;
     [
         place.address.0,
         place.group.0,
         flag(place.leader),
         s.mask,
-        low(s.outputs),
-        high(s.outputs),
+        outputs.low,
+        outputs.high,
         pwm.first,
         pwm.second,
-        low(held.outputs),
-        high(held.outputs),
-        later.first,
-        later.second,
+        held_outputs.low,
+        held_outputs.high,
+        held_pwm.first,
+        held_pwm.second,
         s.timer,
         known_bits(e.known),
     ]

@@ -1,12 +1,13 @@
 // The session between two lines: 37 shows it, 38 hands in one made by hand.
 use crate::layout::ENTRY;
+use crate::layout::are_records;
 use crate::layout::entry_bytes;
-use crate::layout::is_entry;
 use crate::layout::read_entry;
+use crate::parts::Answer;
 use crate::parts::byte;
 use crate::parts::flag;
-use crate::parts::put;
-use crate::parts::put_all;
+use crate::parts::malformed;
+use crate::parts::numbered;
 use command::Command;
 use command::Reading;
 use entry::Entry;
@@ -17,7 +18,6 @@ use session::Step;
 use text::first;
 use text::rest;
 use wire::Address;
-use wire::Built;
 use wire::Group;
 use wire::Individual;
 
@@ -34,7 +34,7 @@ pub(crate) fn target(s: &[u8]) -> Address {
 }
 
 // `kind target command-byte data..`, with as many data bytes as the command byte counts.
-pub(crate) fn read_command(s: &[u8]) -> Reading {
+fn read_command(s: &[u8]) -> Reading {
     if s.len() < 3 {
         return Reading::Other;
     }
@@ -49,6 +49,22 @@ pub(crate) fn read_command(s: &[u8]) -> Reading {
     command::read(head % 16, bytes)
 }
 
+// Whether that is a command.
+pub(crate) fn is_command(s: &[u8]) -> bool {
+    match read_command(s) {
+        Reading::Known(_) => true,
+        Reading::Other => false,
+    }
+}
+
+// The command, of a line that has one.
+pub(crate) fn read_order(s: &[u8]) -> Command {
+    match read_command(s) {
+        Reading::Known(command) => command,
+        Reading::Other => Command::Nop,
+    }
+}
+
 // How many bytes the EXCHANGE at the start of s has: `00`, or `01 kind target command-byte data..`.
 fn exchange_length(s: &[u8]) -> usize {
     if byte(s, 0) < 1 {
@@ -59,16 +75,10 @@ fn exchange_length(s: &[u8]) -> usize {
 
 // EXCHANGE, of its form.
 fn is_exchange(s: &[u8]) -> bool {
-    let open = byte(s, 0);
-    if open < 1 {
-        return true;
-    }
-    if 1 < open {
-        return false;
-    }
-    match read_command(rest(s, 1)) {
-        Reading::Known(_) => true,
-        Reading::Other => false,
+    match byte(s, 0) {
+        0 => true,
+        1 => is_command(rest(s, 1)),
+        _ => false,
     }
 }
 
@@ -78,29 +88,10 @@ fn read_exchange(s: &[u8]) -> Exchange {
         return Exchange::Idle;
     }
     let order = rest(s, 1);
-    match read_command(order) {
-        Reading::Known(command) => {
-            let to = target(order);
-            Exchange::Waiting { to, command }
-        }
-        Reading::Other => Exchange::Idle,
+    Exchange::Waiting {
+        to: target(order),
+        command: read_order(order),
     }
-}
-
-// Whether s is 31 entries.
-fn are_entries(s: &[u8]) -> bool {
-    if s.len() != ENTRIES * ENTRY {
-        return false;
-    }
-    let mut i = 0;
-    while i < ENTRIES {
-        if is_entry(rest(s, i * ENTRY)) {
-            i += 1;
-        } else {
-            return false;
-        }
-    }
-    true
 }
 
 // The 31 entries of s.
@@ -116,7 +107,7 @@ fn read_entries(s: &[u8]) -> [Entry; 31] {
     entries
 }
 
-// STATE, of its form: open, n, walk, EXCHANGE, ENTRY*31.
+// STATE, of its form: open, n, walk, EXCHANGE, ENTRY*31. An entry has a flag, leader, and bits 6 and 7 of its last byte, known, are 0.
 pub(crate) fn is_state(s: &[u8]) -> bool {
     if 1 < byte(s, 0) {
         return false;
@@ -124,7 +115,10 @@ pub(crate) fn is_state(s: &[u8]) -> bool {
     let behind = rest(s, 3);
     let length = exchange_length(behind);
     if is_exchange(first(behind, length)) {
-        return are_entries(rest(behind, length));
+        let entries = rest(behind, length);
+        if entries.len() == ENTRIES * ENTRY {
+            return are_records(entries, ENTRIES, ENTRY, 13, 64);
+        }
     }
     false
 }
@@ -159,47 +153,44 @@ fn target_kind(to: Address) -> u8 {
     }
 }
 
-// `command-byte data..`: what a packet has from its third byte on, without the sum.
-fn put_command(out: &mut [u8], at: usize, c: Command) -> usize {
+// The packet of a command. Its address is no part of what is shown of it.
+fn packet_of(c: Command) -> [u8; 19] {
     let mut packet = [0; 19];
-    match command::build(Address::Individual(Individual(0)), c, &mut packet) {
-        Built::Bytes(n) => {
-            if n < 1 {
-                return at;
-            }
-            put_all(out, at, rest(first(&packet, n - 1), 2))
-        }
-        Built::Refused(_) => at,
-    }
+    command::build(Address::Individual(Individual(0)), c, &mut packet);
+    packet
 }
 
-// EXCHANGE.
-fn put_exchange(out: &mut [u8], at: usize, x: Exchange) -> usize {
+// With EXCHANGE more: the command byte is a packet's third, and its data bytes follow.
+fn put_exchange(a: Answer, x: Exchange) -> Answer {
     match x {
-        Exchange::Idle => put(out, at, 0),
+        Exchange::Idle => a.put(0),
         Exchange::Waiting { to, command } => {
-            let end = put_all(out, at, &[1, target_kind(to), to.byte()]);
-            put_command(out, end, command)
+            let packet = packet_of(command);
+            a.put_all(&[1, target_kind(to), to.byte(), packet[2]])
+                .put_all(packet::data_part(&packet))
         }
     }
 }
 
-fn put_entries(out: &mut [u8], at: usize, entries: [Entry; 31]) -> usize {
-    let mut end = at;
+// With ENTRY*31 more.
+fn put_entries(a: Answer, entries: [Entry; 31]) -> Answer {
+    let mut all = a;
     let mut i = 0;
     while i < ENTRIES {
         let e = entries[i];
-        end = put_all(out, end, &entry_bytes(e));
+        all = all.put_all(&entry_bytes(e));
         i += 1;
     }
-    end
+    all
 }
 
-// `00 STATE`.
-pub(crate) fn put_state(s: Session, out: &mut [u8]) -> usize {
+// Nothing: `00 STATE`.
+pub(crate) fn show(s: Session, args: &[u8]) -> Answer {
+    if 0 < args.len() {
+        return malformed();
+    }
     let x = s.exchange;
     let entries = s.entries;
-    let mut end = put_all(out, 0, &[wire::DONE, flag(s.started), s.n, s.walk]);
-    end = put_exchange(out, end, x);
-    put_entries(out, end, entries)
+    let a = numbered(wire::DONE, &[flag(s.started), s.n, s.walk]);
+    put_entries(put_exchange(a, x), entries)
 }

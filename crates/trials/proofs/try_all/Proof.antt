@@ -1,16 +1,15 @@
 -- Each line moves on behind its end, or is the last.
-use Prim.Native.Nat.{_-_}
-use mathlib.Core.Path.{_≡_}
+use Prim.Native.Nat.{_≤_, _-_}
 use lib.ListN.{length}
 use borrow.Author.Needs.{needs}
 use Rattle.trials.proofs.try_all.Statement.{statement}
 use Rattle.trials.proofs.try_all.Tie as tie
 
 abbrev Inv-loop : tie.InvT-loop
-Inv-loop input bytes₀ s₀ at₀ bytes s at = length bytes ≡ length bytes₀
+Inv-loop input s₀ at₀ s at = at ≤ length input
 
 abbrev μ-loop : tie.MeasureT-loop
-μ-loop input bytes₀ s₀ at₀ bytes s at = length input - at
+μ-loop input s₀ at₀ s at = length input - at
 
 pub try-all-spec : {M : Type 1} → statement M
 try-all-spec =
@@ -23,8 +22,6 @@ try-all-spec =
     (λ c κs. search needs)
     (λ c κs. search needs)
     (λ c κs. search needs)
-    (λ c. search needs)
-    (λ c. search needs)
     (λ c. search needs)
     (λ c. search needs)
     (λ c. search needs)

@@ -1,16 +1,14 @@
 -- At most 33 turns.
-use Prim.Native.Nat.{_-_}
-use mathlib.Core.Path.{_≡_}
-use lib.ListN.{length}
+use Prim.Native.Nat.{_≤_, _-_}
 use borrow.Author.Needs.{needs}
 use Rattle.trials.proofs.delivery.put_nodes.Statement.{statement}
 use Rattle.trials.proofs.delivery.put_nodes.Tie as tie
 
 abbrev Inv-loop : tie.InvT-loop
-Inv-loop out₀ at count t end₀ i₀ out end i = length out ≡ length out₀
+Inv-loop count nodes all₀ i₀ all i = i ≤ count
 
 abbrev μ-loop : tie.MeasureT-loop
-μ-loop out₀ at count t end₀ i₀ out end i = 33 - i
+μ-loop count nodes all₀ i₀ all i = count - i
 
 pub put-nodes-spec : {M : Type 1} → statement M
 put-nodes-spec =
@@ -21,10 +19,9 @@ put-nodes-spec =
     (λ c. search needs)
     (λ c. search needs)
     (λ c. search needs)
-    (λ c. search needs)
-    (λ c. search needs)
     (λ c κs. search needs)
     (λ c. search needs)
+    (λ c κs. search needs)
     (λ c. search needs)
     (λ c. search needs)
     (λ c. search needs)

@@ -1,16 +1,14 @@
 -- 31 turns.
-use Prim.Native.Nat.{_-_}
-use mathlib.Core.Path.{_≡_}
-use lib.ListN.{length}
+use Prim.Native.Nat.{_≤_, _-_}
 use borrow.Author.Needs.{needs}
 use Rattle.trials.proofs.state.put_entries.Statement.{statement}
 use Rattle.trials.proofs.state.put_entries.Tie as tie
 
 abbrev Inv-loop : tie.InvT-loop
-Inv-loop out₀ at entries end₀ i₀ out end i = length out ≡ length out₀
+Inv-loop entries all₀ i₀ all i = i ≤ 31
 
 abbrev μ-loop : tie.MeasureT-loop
-μ-loop out₀ at entries end₀ i₀ out end i = 31 - i
+μ-loop entries all₀ i₀ all i = 31 - i
 
 pub put-entries-spec : {M : Type 1} → statement M
 put-entries-spec =
@@ -24,7 +22,6 @@ put-entries-spec =
     (λ c κs. search needs)
     (λ c. search needs)
     (λ c κs. search needs)
-    (λ c. search needs)
     (λ c. search needs)
     (λ c. search needs)
     (λ c. search needs)

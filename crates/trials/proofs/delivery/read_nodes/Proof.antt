@@ -1,17 +1,17 @@
 -- 33 turns.
 use Prim.Native.Nat.{_≤_, _-_}
 use borrow.Author.Needs.{needs}
-use Rattle.trials.proofs.delivery.read_table.Statement.{statement}
-use Rattle.trials.proofs.delivery.read_table.Tie as tie
+use Rattle.trials.proofs.delivery.read_nodes.Statement.{statement}
+use Rattle.trials.proofs.delivery.read_nodes.Tie as tie
 
 abbrev Inv-loop : tie.InvT-loop
-Inv-loop s count table₀ i₀ table i = i ≤ 33
+Inv-loop s nodes₀ i₀ nodes i = i ≤ 33
 
 abbrev μ-loop : tie.MeasureT-loop
-μ-loop s count table₀ i₀ table i = 33 - i
+μ-loop s nodes₀ i₀ nodes i = 33 - i
 
-pub read-table-spec : {M : Type 1} → statement M
-read-table-spec =
+pub read-nodes-spec : {M : Type 1} → statement M
+read-nodes-spec =
     tie.close
     (tie.spec
     Inv-loop

@@ -1,9 +1,9 @@
 // The bench program: standard input to standard output, by `script::rehearse`.
 ghost use mathlib.Core.Path.{_≡_};
 ghost use lib.ListN.{length};
+use buffer::Built;
 use libc::STDIN_FILENO;
 use libc::STDOUT_FILENO;
-use wire::Built;
 
 // Room for the longest input, 64 KiB, and one byte more, which tells that it is longer.
 fn input_room() -> [u8; 65537]

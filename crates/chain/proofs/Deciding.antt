@@ -4,10 +4,10 @@ use mathlib.Core.List.{List}
 use mathlib.Core.Path.{_≡_, sym, ap, _∙_}
 use borrow.Author.Tests.{lt-ltb, le-ltb}
 use Rattle.wire.specs.Promise.{Outcome, Lending}
-use Rattle.wire.specs.Buffer.{place, builtNumber}
+use Rattle.buffer.specs.Buffer.{place, builtNumber}
 use Rattle.wire.specs.declared.refusal.Refusal.{Refusal}
-use Rattle.wire.specs.declared.buffer.Built.{Built}
-use Rattle.wire.specs.declared.buffer.Built.the-variants as built
+use Rattle.buffer.specs.declared.Built.{Built}
+use Rattle.buffer.specs.declared.Built.the-variants as built
 use Rattle.node.specs.declared.state.Node.{Node}
 use Rattle.heard.specs.declared.Heard.{Heard}
 use Rattle.reply.specs.Reply.{replyOf}

@@ -9,12 +9,12 @@ use lib.ListN.{length, getD, take}
 use lib.Seq.{length-take-le, getD-take}
 use borrow.Author.Tests.{eq-eqb, lt-ltb, le-ltb}
 use Rattle.wire.specs.Promise.{Outcome}
-use Rattle.wire.specs.Buffer.{place}
+use Rattle.buffer.specs.Buffer.{place}
 use Rattle.wire.specs.declared.address.Address.{Address}
 use Rattle.wire.specs.declared.refusal.Refusal.the-variants.{Short, Header, Long, Room, Range}
-use Rattle.wire.specs.declared.buffer.Built.{Built}
-use Rattle.wire.specs.declared.buffer.Built.the-variants as built
-use Rattle.wire.proofs.Writing.{place-long}
+use Rattle.buffer.specs.declared.Built.{Built}
+use Rattle.buffer.specs.declared.Built.the-variants as built
+use Rattle.buffer.proofs.Writing.{place-long}
 use Rattle.packet.specs.Packet.{countOf, partsOf, frameOf}
 use Rattle.packet.specs.declared.Framed.{Framed}
 use Rattle.packet.specs.declared.Framed.the-variants as framed

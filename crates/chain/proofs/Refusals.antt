@@ -5,12 +5,12 @@ use mathlib.Core.List.{List}
 use mathlib.Core.Path.{_≡_, refl}
 use Rattle.wire.specs.Promise.{Outcome}
 use Rattle.wire.specs.Numbers.{done, collision}
-use Rattle.wire.specs.Buffer.{place, builtNumber}
+use Rattle.buffer.specs.Buffer.{place, builtNumber}
 use Rattle.wire.specs.declared.address.Address.{Address}
 use Rattle.wire.specs.declared.refusal.Refusal.the-variants.{Range}
-use Rattle.wire.specs.declared.buffer.Built.{Built}
-use Rattle.wire.specs.declared.buffer.Built.the-variants as built
-use Rattle.wire.proofs.Refusals as wire
+use Rattle.buffer.specs.declared.Built.{Built}
+use Rattle.buffer.specs.declared.Built.the-variants as built
+use Rattle.buffer.proofs.Refusals as wire
 use Rattle.packet.specs.Packet.{frameOf}
 use Rattle.packet.specs.declared.Framed.{Framed}
 use Rattle.packet.specs.declared.Framed.the-variants as framed

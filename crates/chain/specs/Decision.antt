@@ -4,10 +4,10 @@ use mathlib.Core.Bool.{cond}
 use mathlib.Core.List.{List, [], _∷_}
 use lib.Dec.{eqb, ltb}
 use Rattle.wire.specs.Promise.{Outcome}
-use Rattle.wire.specs.Buffer.{place}
+use Rattle.buffer.specs.Buffer.{place}
 use Rattle.wire.specs.declared.refusal.Refusal.{Refusal}
-use Rattle.wire.specs.declared.buffer.Built.{Built}
-use Rattle.wire.specs.declared.buffer.Built.the-variants as built
+use Rattle.buffer.specs.declared.Built.{Built}
+use Rattle.buffer.specs.declared.Built.the-variants as built
 use Rattle.node.specs.declared.state.Node.{Node}
 use Rattle.heard.specs.declared.Heard.{Heard}
 use Rattle.heard.specs.declared.Heard.the-variants.{Other}

@@ -2,9 +2,9 @@
 use crate::sets::Replier;
 use crate::survey::Plan;
 use crate::survey::Survey;
+use buffer::Built;
 use heard::Heard;
 use node::Node;
-use wire::Built;
 use wire::Refusal;
 ghost use mathlib.Core.Path.{_≡_};
 ghost use Rattle.node.specs.Node.{taken};

@@ -7,8 +7,8 @@ use lib.ListN.{length, take, replicate, length-append}
 use lib.Seq.{length-take-le}
 use borrow.Author.Tests.{le-ltb}
 use Rattle.wire.specs.Promise.{Lending}
-use Rattle.wire.specs.Buffer.{builtNumber, place}
-use Rattle.wire.specs.declared.buffer.Built.{Built}
+use Rattle.buffer.specs.Buffer.{builtNumber, place}
+use Rattle.buffer.specs.declared.Built.{Built}
 use Rattle.packet.specs.Build.{buildOf}
 use Rattle.command.specs.Build.{codeOf, bytesOf, headOf, filled, packetTo}
 use Rattle.command.specs.declared.Command.{Command}

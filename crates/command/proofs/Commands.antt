@@ -8,14 +8,14 @@ use lib.ListN.{length, getD}
 use borrow.Author.Tests.{lt-ltb, le-ltb, leb-true}
 use Rattle.wire.specs.Promise.{Outcome}
 use Rattle.wire.specs.Address.{isIndividual, isGroup, inRange, byteOf}
-use Rattle.wire.specs.Buffer.{refused, place}
-use Rattle.wire.specs.Change.{AllBytes}
+use Rattle.buffer.specs.Buffer.{refused, place}
+use Rattle.buffer.specs.Change.{AllBytes}
 use Rattle.wire.specs.declared.address.Address.{Address}
 use Rattle.wire.specs.declared.refusal.Refusal.the-variants.{Range}
-use Rattle.wire.specs.declared.buffer.Built.{Built}
+use Rattle.buffer.specs.declared.Built.{Built}
 use Rattle.wire.proofs.Addresses.{address-back, address-in-range}
 use Rattle.wire.proofs.Choice.{both}
-use Rattle.wire.proofs.Refusals.{Spares, place-spares, else-spares}
+use Rattle.buffer.proofs.Refusals.{Spares, place-spares, else-spares}
 use Rattle.packet.specs.Packet.{dataOf}
 use Rattle.packet.proofs.Packets as packets
 use Rattle.packet.proofs.Laws as packet

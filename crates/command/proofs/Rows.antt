@@ -8,7 +8,7 @@ use lib.Dec.{eqb, ltb}
 use lib.ListN.{length, getD}
 use borrow.Author.Tests.{eqb-true, ltb-true, ltb-false, le-leb}
 use Rattle.wire.specs.Address.{isIndividual}
-use Rattle.wire.specs.Change.{AllBytes}
+use Rattle.buffer.specs.Change.{AllBytes}
 use Rattle.wire.proofs.Choice.{chose-first}
 use Rattle.command.specs.Command.{wordOf, placeOf, rowsOf}
 use Rattle.command.specs.Build.{codeOf, bytesOf, fitsOf, placeFits, groupByte, Typed}

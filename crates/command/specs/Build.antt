@@ -5,10 +5,10 @@ use mathlib.Core.List.{List, [], _∷_, _++_}
 use lib.ListN.{length, replicate}
 use Rattle.wire.specs.Promise.{Outcome}
 use Rattle.wire.specs.Address.{isIndividual, isGroup, inRange, byteOf}
-use Rattle.wire.specs.Buffer.{refused, place}
+use Rattle.buffer.specs.Buffer.{refused, place}
 use Rattle.wire.specs.declared.address.Address.{Address}
 use Rattle.wire.specs.declared.refusal.Refusal.the-variants.{Range}
-use Rattle.wire.specs.declared.buffer.Built.{Built}
+use Rattle.buffer.specs.declared.Built.{Built}
 use Rattle.packet.specs.Build.{packetOf}
 use Rattle.command.specs.declared.Place.{Place}
 use Rattle.command.specs.declared.Command.{Command}

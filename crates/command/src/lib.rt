@@ -1,8 +1,8 @@
 // The commands of an LS-773: one enum, whose cases carry their own data; read from a packet's parts, and built.
 // Promised: a built packet reads back as the same command, an accepted one is the one built from its command.
 // Left to others: header and sum (packet), and what a command does (node).
+use buffer::Built;
 use wire::Address;
-use wire::Built;
 use wire::Group;
 use wire::Individual;
 use wire::Refusal;
@@ -11,7 +11,7 @@ ghost use Prim.Native.Nat.{_%_, _/_};
 ghost use mathlib.Core.List.{[], _∷_};
 ghost use lib.ListN.{getD};
 ghost use Rattle.wire.specs.Promise.{Lending};
-ghost use Rattle.wire.specs.Buffer.{builtNumber, place};
+ghost use Rattle.buffer.specs.Buffer.{builtNumber, place};
 ghost use Rattle.command.specs.Command.{wordOf, placeOf, rowsOf, readingOf};
 ghost use Rattle.command.specs.Build.{bytesOf, groupByte, fitsOf, headOf, filled, packetTo, commandBuilt};
 

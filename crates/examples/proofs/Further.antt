@@ -3,8 +3,8 @@ use Prim.Native.Nat.{ℕ}
 use mathlib.Core.Bool.{true, false}
 use mathlib.Core.List.{List}
 use mathlib.Core.Path.{_≡_, refl}
-use Rattle.wire.specs.Sum.{total, endsInSum}
-use Rattle.wire.specs.Buffer.{place}
+use Rattle.buffer.specs.Sum.{total, endsInSum}
+use Rattle.buffer.specs.Buffer.{place}
 use Rattle.wire.specs.declared.refusal.Refusal.the-variants.{NotDue, Led}
 use Rattle.packet.specs.Packet.{frameOf, intactOf, readOf}
 use Rattle.command.specs.declared.Command.{Command}
@@ -16,7 +16,8 @@ use Rattle.ledger.specs.Ledger.{leastOf, eachFrom, settled, ledFrom, isLed}
 use Rattle.session.specs.declared.Exchange.the-variants.{Waiting}
 use Rattle.session.specs.declared.Session.{Session}
 use Rattle.session.specs.declared.End.the-variants.{Done, Sent, Refused}
-use Rattle.session.specs.Session.{validOf, closedOf, askDue, nodeAt, givenPlace}
+use Rattle.placing.specs.Placing.{givenPlace}
+use Rattle.session.specs.Session.{validOf, closedOf, askDue, nodeAt}
 use Rattle.sending.specs.Sending.{waitingOf, readyCheck, opened, transmitted}
 use Rattle.walk.specs.Walk.{nextCheck, askCheck, nextOf, askOf}
 use Rattle.host.specs.Calls.{clashOf, orderCheck, regroupCheck, orderOf, regroupOf}

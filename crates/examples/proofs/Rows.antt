@@ -1,7 +1,7 @@
 -- What the replies of the examples count as; and rows joined, one after the other.
 use mathlib.Core.List.{[], _∷_}
 use mathlib.Core.Path.{_≡_, refl, ap, _∙_}
-use Rattle.wire.specs.Sum.{total, endsInSum}
+use Rattle.buffer.specs.Sum.{total, endsInSum}
 use Rattle.status.specs.Status.{judged}
 use Rattle.status.specs.declared.Answer.the-variants as answer
 use Rattle.session.specs.declared.Session.{Session}

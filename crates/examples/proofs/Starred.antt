@@ -2,8 +2,8 @@
 use mathlib.Core.Bool.{Bool, true, false}
 use mathlib.Core.List.{List}
 use mathlib.Core.Path.{_≡_, refl}
-use Rattle.wire.specs.Sum.{total, endsInSum}
-use Rattle.wire.specs.Buffer.{place}
+use Rattle.buffer.specs.Sum.{total, endsInSum}
+use Rattle.buffer.specs.Buffer.{place}
 use Rattle.packet.specs.Packet.{dataOf, frameOf, intactOf, readOf}
 use Rattle.packet.specs.Build.{buildOf}
 use Rattle.command.specs.declared.Command.the-variants.{SetOutputs}
@@ -15,7 +15,8 @@ use Rattle.ledger.specs.Ledger.{leastOf, eachFrom, settled}
 use Rattle.session.specs.declared.Exchange.the-variants.{Idle, Waiting}
 use Rattle.session.specs.declared.Session.{Session}
 use Rattle.session.specs.declared.End.the-variants.{Done, Sent}
-use Rattle.session.specs.Session.{validOf, closedOf, nodeAt, givenPlace}
+use Rattle.placing.specs.Placing.{givenPlace}
+use Rattle.session.specs.Session.{validOf, closedOf, nodeAt}
 use Rattle.sending.specs.Sending.{waitingOf, readyCheck, opened, transmitted}
 use Rattle.host.specs.Calls.{orderCheck, orderOf}
 use Rattle.reports.specs.Report.{giving, asking, concluded, finished}

@@ -6,7 +6,7 @@ use mathlib.Core.Path.{_≡_}
 use lib.ListN.{replicate}
 use Rattle.wire.specs.Promise.{Outcome}
 use Rattle.wire.specs.Address.{byteOf}
-use Rattle.wire.specs.Buffer.{place}
+use Rattle.buffer.specs.Buffer.{place}
 use Rattle.wire.specs.declared.address.Individual.{Individual}
 use Rattle.wire.specs.declared.address.Group.{Group}
 use Rattle.wire.specs.declared.address.Address.{Address}
@@ -23,7 +23,8 @@ use Rattle.session.specs.declared.Exchange.{Exchange}
 use Rattle.session.specs.declared.Exchange.the-variants.{Idle}
 use Rattle.session.specs.declared.Session.{Session}
 use Rattle.session.specs.declared.Step.{Step}
-use Rattle.session.specs.Session.{stepNumber, givenPlace}
+use Rattle.placing.specs.Placing.{givenPlace}
+use Rattle.session.specs.Session.{stepNumber}
 use Rattle.walk.specs.Walk.{nextOf, askOf}
 use Rattle.host.specs.Calls.{orderOf, regroupOf}
 use Rattle.reports.specs.Report.{finished, reportOf}

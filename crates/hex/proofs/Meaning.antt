@@ -8,7 +8,7 @@ use native.Mathlib.Nat.{not-suc-le-zero}
 use lib.Dec.{eqb, ltb}
 use lib.ListN.{length}
 use borrow.Author.Tests.{lt-ltb, le-ltb, ltb-true, ltb-false, eqb-true}
-use Rattle.wire.specs.Change.{AllBytes}
+use Rattle.buffer.specs.Change.{AllBytes}
 use Rattle.hex.specs.Digits.{digitOf, charOf}
 use Rattle.hex.specs.Hex.{space, hexOf, hexRest, hexText, Content, bytes, malformed, pairBy, pairOf, before, onPair, packetIn, bytesIn}
 use Rattle.hex.specs.declared.pairs.Pair.the-variants.{Last, More, Bad}

@@ -8,11 +8,11 @@ use native.Mathlib.Numerals.{add-one}
 use lib.ListN.{length, drop, getD, set, length-append, length-drop, length-set, drop-of-length-le}
 use lib.Seq.{sets, sets-eq, drop-cons, length-sets}
 use Rattle.wire.specs.Promise.{Lending}
-use Rattle.wire.specs.Buffer.{builtNumber, place}
+use Rattle.buffer.specs.Buffer.{builtNumber, place}
 use Rattle.wire.specs.declared.refusal.Refusal.the-variants.{Room}
-use Rattle.wire.specs.declared.buffer.Built.{Built}
-use Rattle.wire.specs.declared.buffer.Built.the-variants.{Bytes, Refused}
-use Rattle.wire.proofs.Writing.{no-room, has-room, sets-append}
+use Rattle.buffer.specs.declared.Built.{Built}
+use Rattle.buffer.specs.declared.Built.the-variants.{Bytes, Refused}
+use Rattle.buffer.proofs.Writing.{no-room, has-room, sets-append}
 use Rattle.text.specs.Lines.{newline}
 use Rattle.hex.specs.Digits.{charOf}
 use Rattle.hex.specs.Hex.{space, hexOf, hexRest, hexText, hexLine}

@@ -1,9 +1,9 @@
 // Writing a line of bytes: two-digit capitals, single spaces.
 use crate::digits::character;
 use crate::pairs::SPACE;
+use buffer::Built;
 use text::NEWLINE;
 use text::rest;
-use wire::Built;
 use wire::Refusal;
 ghost use mathlib.Core.Path.{_≡_};
 ghost use mathlib.Core.List.{[], _∷_};
@@ -11,7 +11,7 @@ ghost use Prim.Native.Nat.{_+_, _*_, _≤_};
 ghost use lib.ListN.{length};
 ghost use lib.Seq.{sets};
 ghost use Rattle.wire.specs.Promise.{Lending};
-ghost use Rattle.wire.specs.Buffer.{builtNumber, place};
+ghost use Rattle.buffer.specs.Buffer.{builtNumber, place};
 ghost use Rattle.hex.specs.Hex.{hexOf, hexRest, hexLine};
 
 // Two digits.

@@ -13,7 +13,8 @@ use Rattle.wire.specs.declared.refusal.Refusal.the-variants.{Range, NotDue, NoN
 use Rattle.command.specs.declared.Command.{Command}
 use Rattle.ledger.specs.Ledger.{isLed}
 use Rattle.session.specs.declared.Session.{Session}
-use Rattle.session.specs.Session.{offChain, isPlacing}
+use Rattle.placing.specs.Placing.{isPlacing}
+use Rattle.session.specs.Session.{offChain}
 use Rattle.session.proofs.Sessions.{OnChain, on-chain}
 use Rattle.sending.specs.declared.Check.{Check}
 use Rattle.sending.specs.declared.Check.the-variants.{Clear}

@@ -16,7 +16,8 @@ use Rattle.command.specs.declared.Command.{Command}
 use Rattle.command.specs.declared.Command.the-variants.{SetAddress, DefineStatus, ReadStatus, SetPwm, SynchOutput, SetOutputs, SetSynchOutput, SetTimerMode, SynchInput, Nop, HardReset}
 use Rattle.command.specs.Build.{fitsOf}
 use Rattle.session.specs.declared.Session.{Session}
-use Rattle.session.specs.Session.{offChain, isPlacing, stepNumber}
+use Rattle.placing.specs.Placing.{isPlacing}
+use Rattle.session.specs.Session.{offChain, stepNumber}
 use Rattle.session.proofs.Sessions.{on-chain}
 use Rattle.sending.specs.declared.Check.the-variants.{Clear, Refuse}
 use Rattle.host.specs.Calls.{badGroup, orderCheck, regroupCheck, orderOf, regroupOf}

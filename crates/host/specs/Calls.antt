@@ -15,7 +15,8 @@ use Rattle.command.specs.declared.Command.the-variants.{SetAddress}
 use Rattle.ledger.specs.Ledger.{isLed}
 use Rattle.session.specs.declared.Session.{Session}
 use Rattle.session.specs.declared.Step.{Step}
-use Rattle.session.specs.Session.{offChain, isPlacing}
+use Rattle.placing.specs.Placing.{isPlacing}
+use Rattle.session.specs.Session.{offChain}
 use Rattle.sending.specs.declared.Check.{Check}
 use Rattle.sending.specs.Sending.{refuseIf, readyCheck, transmitted, byCheck}
 

@@ -3,12 +3,12 @@
 // Left to others: how a session becomes ready (start, walk), how long to wait for a reply (the caller), and what it comes to (reports).
 use command::Command;
 use command::Place;
+use placing::is_placing;
 use sending::Check;
 use sending::ready_check;
 use sending::transmit;
 use session::Session;
 use session::Step;
-use session::is_placing;
 use session::off_chain;
 use session::refuse;
 use wire::Address;

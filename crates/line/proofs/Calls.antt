@@ -8,7 +8,7 @@ use lib.ListN.{length, drop}
 use lib.Seq.{take-append-seam}
 use borrow.Author.Tests.{le-leb, le-ltb}
 use Rattle.wire.specs.Promise.{Outcome}
-use Rattle.wire.specs.Buffer.{place}
+use Rattle.buffer.specs.Buffer.{place}
 use Rattle.wire.specs.declared.address.Address.{Address}
 use Rattle.packet.specs.Packet.{frameOf}
 use Rattle.packet.specs.declared.Framed.{Framed}

@@ -21,7 +21,8 @@ use Rattle.ledger.specs.Ledger.{blank, reachOf}
 use Rattle.session.specs.declared.Exchange.the-variants.{Idle, Waiting}
 use Rattle.session.specs.declared.Session.{Session}
 use Rattle.session.specs.declared.Step.{Step}
-use Rattle.session.specs.Session.{Sound, offChain, entryOf, askDue, givenPlace, nodeAt}
+use Rattle.placing.specs.Placing.{givenPlace}
+use Rattle.session.specs.Session.{Sound, offChain, entryOf, askDue, nodeAt}
 use Rattle.session.proofs.Sessions.{valid-from, open-is}
 use Rattle.sending.specs.Sending.{isReset, opened}
 use Rattle.sending.proofs.Sent.{opened-waits}

@@ -29,7 +29,7 @@ use Rattle.line.specs.History.{Sending, Sent, counted}
 use Rattle.line.specs.Call.{Call, calledOf, whatOf, resets, Typed}
 use Rattle.line.specs.Line.{Line, quiet, going, coming, Arrives, Returns, nodesAfter, saidAfter, reportedOf, heardIn}
 use Rattle.line.specs.World.{World, hosting, callEnded, called, Comes, start, power, unpowered, call, deliver, report, stray, bench}
-use Rattle.wire.proofs.Refusals.{not-done}
+use Rattle.buffer.proofs.Refusals.{not-done}
 use Rattle.line.proofs.Due.{Due, Accepted, accepted, call-not-done, call-stays}
 use Rattle.line.proofs.Closing.{waitingAt, due-opens, reported-concludes, conclusion}
 use Rattle.line.proofs.Exactly.{Exactly, exactly-step}

@@ -5,8 +5,8 @@ use mathlib.Core.List.{List, [], _∷_}
 use mathlib.Core.Option.{Option, none, some}
 use mathlib.Core.Path.{_≡_, refl}
 use lib.ListN.{replicate}
-use Rattle.wire.specs.Sum.{total, endsInSum}
-use Rattle.wire.specs.Buffer.{place}
+use Rattle.buffer.specs.Sum.{total, endsInSum}
+use Rattle.buffer.specs.Buffer.{place}
 use Rattle.packet.specs.Packet.{dataOf, frameOf, intactOf}
 use Rattle.command.specs.declared.Place.{Place}
 use Rattle.command.specs.declared.Command.the-variants.{SetAddress, SetOutputs, Nop}
@@ -28,7 +28,8 @@ use Rattle.entry.specs.Entry.{entryUp}
 use Rattle.ledger.specs.Ledger.{ledgerUp, leastOf, eachFrom, settled}
 use Rattle.session.specs.declared.Exchange.the-variants.{Idle, Waiting}
 use Rattle.session.specs.declared.Session.{Session}
-use Rattle.session.specs.Session.{validOf, closedOf, askDue, givenPlace, nodeAt}
+use Rattle.placing.specs.Placing.{givenPlace}
+use Rattle.session.specs.Session.{validOf, closedOf, askDue, nodeAt}
 use Rattle.start.specs.Start.{poweredOf}
 use Rattle.sending.specs.Sending.{waitingOf, readyCheck, opened, transmitted}
 use Rattle.walk.specs.Walk.{nextCheck, askCheck, nextOf, askOf}

@@ -7,7 +7,7 @@ use mathlib.Core.Path.{_≡_, refl, sym, ap, subst, _∙_}
 use native.Mathlib.Omega.{arith}
 use lib.ListN.{getD}
 use Rattle.wire.specs.Address.{inRange, addressOf}
-use Rattle.wire.specs.Change.{Altered, Damaged}
+use Rattle.buffer.specs.Change.{Altered, Damaged}
 use Rattle.wire.specs.declared.address.Address.{Address}
 use Rattle.packet.specs.Packet.{frameOf}
 use Rattle.packet.specs.declared.Framed.the-variants.{Whole}

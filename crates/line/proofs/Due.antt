@@ -25,7 +25,8 @@ use Rattle.session.specs.declared.Session.{Session}
 use Rattle.session.specs.declared.End.{End}
 use Rattle.session.specs.declared.End.the-variants.{Done, Sent}
 use Rattle.session.specs.declared.Step.{Step}
-use Rattle.session.specs.Session.{offChain, entryOf, isPlacing, givenPlace, nodeAt, endNumber, stepNumber}
+use Rattle.placing.specs.Placing.{isPlacing, givenPlace}
+use Rattle.session.specs.Session.{offChain, entryOf, nodeAt, endNumber, stepNumber}
 use Rattle.sending.specs.Sending.{isReset, opened}
 use Rattle.host.specs.Calls.{badGroup}
 use Rattle.session.proofs.Sessions.{OnChain, on-chain}

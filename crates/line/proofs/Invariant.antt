@@ -21,7 +21,7 @@ use Rattle.chain.specs.Chain.{blank, hearsAt, repliesAt}
 use Rattle.entry.specs.declared.Entry.{Entry}
 use Rattle.entry.specs.Entry.{knows}
 use Rattle.session.specs.declared.Session.{Session}
-use Rattle.session.specs.Session.{givenPlace}
+use Rattle.placing.specs.Placing.{givenPlace}
 use Rattle.line.proofs.Closing.{entryAt}
 use Rattle.line.proofs.Sound.{Sound}
 

@@ -27,7 +27,8 @@ use Rattle.entry.specs.Entry.{knows, doubted, noted, nop}
 use Rattle.entry.proofs.Entries.{quiet-noted}
 use Rattle.ledger.specs.Ledger.{reachOf}
 use Rattle.session.specs.declared.Session.{Session}
-use Rattle.session.specs.Session.{givenPlace, nodeAt}
+use Rattle.placing.specs.Placing.{givenPlace}
+use Rattle.session.specs.Session.{nodeAt}
 use Rattle.line.specs.History.{gives, asks}
 use Rattle.line.proofs.Bools.{and-false}
 use Rattle.line.proofs.Closing.{entryAt, walked, settles, Concluded}

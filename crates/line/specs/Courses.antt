@@ -9,7 +9,8 @@ use Rattle.node.specs.Setting.{Setting, place, outputs, Value, get}
 use Rattle.node.specs.Effect.{settingsUp}
 use Rattle.entry.specs.Entry.{knows, shows}
 use Rattle.session.specs.declared.Exchange.the-variants.{Idle}
-use Rattle.session.specs.Session.{entryOf, givenPlace, nodeAt}
+use Rattle.placing.specs.Placing.{givenPlace}
+use Rattle.session.specs.Session.{entryOf, nodeAt}
 use Rattle.line.specs.History.{Sent, gives, asks, sends}
 use Rattle.line.specs.World.{World, Comes}
 use Rattle.line.specs.Demand3.{nodeOf}

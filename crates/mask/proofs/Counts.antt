@@ -4,7 +4,7 @@ use mathlib.Core.Bool.{Bool, true, false, cond}
 use mathlib.Core.List.{List, [], _∷_}
 use mathlib.Core.Path.{_≡_, refl}
 use native.Mathlib.Omega.{arith}
-use Rattle.wire.specs.Sum.{total}
+use Rattle.buffer.specs.Sum.{total}
 use Rattle.status.specs.Status.{T}
 use Rattle.mask.specs.Mask.{counts, bit, countFrom, sizeOf}
 

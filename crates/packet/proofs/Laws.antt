@@ -4,12 +4,12 @@ use mathlib.Core.List.{List, _∷_}
 use native.Mathlib.Omega.{arith}
 use lib.Dec.{ltb}
 use lib.ListN.{length, drop}
-use Rattle.wire.specs.Change.{AllBytes}
+use Rattle.buffer.specs.Change.{AllBytes}
 use Rattle.wire.specs.declared.refusal.Refusal.the-variants.{Range}
 use Rattle.packet.specs.Packet.{countOf, dataOf}
 use Rattle.packet.specs.Build.{headOf, packetOf, buildOf}
-use Rattle.wire.proofs.Bytes.{take-bytes, drop-bytes, with-sum-bytes}
-use Rattle.wire.proofs.Refusals.{Spares, place-spares, test-spares}
+use Rattle.buffer.proofs.Bytes.{take-bytes, drop-bytes, with-sum-bytes}
+use Rattle.buffer.proofs.Refusals.{Spares, place-spares, test-spares}
 
 pub packet-bytes : (a c : ℕ) (d : List ℕ) → a < 256 → c < 16 → length d ≤ 15 → AllBytes d → AllBytes (packetOf a c d)
 packet-bytes a c d ha hc hn h = (omega arith, with-sum-bytes (a ∷ headOf c d ∷ d) (ha, (omega arith, h)))

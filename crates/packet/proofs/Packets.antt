@@ -8,11 +8,11 @@ use lib.ListN.{length, getD, take, drop, set, length-drop}
 use lib.Seq.{take-append-seam, length-take-le, getD-set-other, getD-drop, drop-set-add}
 use lib.Dec.{ltb, eqb}
 use borrow.Author.Tests.{eqb-true, eq-eqb, le-ltb, ltb-false, not-false}
-use Rattle.wire.specs.Sum.{withSum}
+use Rattle.buffer.specs.Sum.{withSum}
 use Rattle.wire.specs.Address.{addressOf, byteOf}
 use Rattle.packet.specs.Packet.{commandOf, countOf, partsOf, dataOf, frameOf, intactOf, checked, readOf}
 use Rattle.packet.specs.Build.{headOf, packetOf}
-use Rattle.wire.specs.Change.{Changed, Damaged}
+use Rattle.buffer.specs.Change.{Changed, Damaged}
 use Rattle.wire.specs.declared.address.Address.{Address}
 use Rattle.wire.specs.declared.refusal.Refusal.{Refusal}
 use Rattle.wire.specs.declared.refusal.Refusal.the-variants.{Short, Header, Long, Sum}
@@ -20,7 +20,7 @@ use Rattle.packet.specs.declared.Framed.{Framed}
 use Rattle.packet.specs.declared.Framed.the-variants.{Whole, Refused}
 use Rattle.wire.proofs.Choice.{chose-first, chose-second}
 use Rattle.wire.proofs.Addresses.{byte-address}
-use Rattle.wire.proofs.Sums.{length-with-sum, with-sum-ends, ends-shape, changed-length, changed-breaks}
+use Rattle.buffer.proofs.Sums.{length-with-sum, with-sum-ends, ends-shape, changed-length, changed-breaks}
 
 -- a refusal is no packet
 refused-not : (why : Refusal) (a : Address) (c n : ℕ) → Refused why ≡ Whole a c n → ⊥

@@ -5,10 +5,10 @@ use mathlib.Core.List.{List, _∷_}
 use lib.ListN.{length}
 use lib.Dec.{ltb}
 use Rattle.wire.specs.Promise.{Outcome}
-use Rattle.wire.specs.Sum.{withSum}
-use Rattle.wire.specs.Buffer.{refused, place}
+use Rattle.buffer.specs.Sum.{withSum}
+use Rattle.buffer.specs.Buffer.{refused, place}
 use Rattle.wire.specs.declared.refusal.Refusal.the-variants.{Range}
-use Rattle.wire.specs.declared.buffer.Built.{Built}
+use Rattle.buffer.specs.declared.Built.{Built}
 
 -- the command byte: the low nibble is the command, the high nibble the number of data bytes
 abbrev pub headOf : ℕ → List ℕ → ℕ

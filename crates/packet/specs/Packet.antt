@@ -5,7 +5,7 @@ use mathlib.Core.List.{List}
 use lib.ListN.{length, getD, take, drop}
 use lib.Dec.{ltb, eqb}
 use Rattle.wire.specs.Numbers.{done, numberOf}
-use Rattle.wire.specs.Sum.{endsInSum}
+use Rattle.buffer.specs.Sum.{endsInSum}
 use Rattle.wire.specs.Address.{addressOf}
 use Rattle.wire.specs.declared.refusal.Refusal.the-variants.{Short, Header, Long, Sum}
 use Rattle.packet.specs.declared.Framed.{Framed}

@@ -1,8 +1,8 @@
 // Command packets: 0xAA; address; command byte; 0 to 15 data bytes; sum.
 // Promised: a built packet reads back as its parts, an accepted one is the one built from its parts.
 // Left to others: which command a nibble with its data is (command), and that a wrong sum is answered (node).
+use buffer::Built;
 use wire::Address;
-use wire::Built;
 use wire::Refusal;
 ghost use mathlib.Core.Path.{_≡_};
 ghost use mathlib.Core.List.{_++_};
@@ -10,7 +10,7 @@ ghost use lib.ListN.{length, drop};
 ghost use Prim.Native.Nat.{_+_, _≤_};
 ghost use Rattle.wire.specs.Promise.{Promise, Lending};
 ghost use Rattle.packet.specs.Packet.{frameOf, framedNumber, intactOf, readOf, dataOf};
-ghost use Rattle.wire.specs.Buffer.{builtNumber};
+ghost use Rattle.buffer.specs.Buffer.{builtNumber};
 ghost use Rattle.packet.specs.Build.{packetWith, buildOf};
 
 // The first byte of every command packet.
@@ -61,7 +61,7 @@ pub fn is_intact(s: &[u8]) -> bool
     if s.len() < 1 {
         return false;
     }
-    wire::ends_in_sum(&s[1..])
+    buffer::ends_in_sum(&s[1..])
 }
 
 // One whole command packet with a right sum.
@@ -109,11 +109,11 @@ fn lay(address: u8, head: u8, bytes: &[u8], out: &mut [u8])
 {
     let end = 3 + bytes.len();
     let start = std::num::wrapping_add_u8(address, head);
-    let total = std::num::wrapping_add_u8(start, wire::sum(bytes));
+    let total = std::num::wrapping_add_u8(start, buffer::sum(bytes));
     out[0] = HEADER;
     out[1] = address;
     out[2] = head;
-    wire::put(out, 3, bytes);
+    buffer::put(out, 3, bytes);
     out[end] = total;
 }
 

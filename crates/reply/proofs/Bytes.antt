@@ -7,7 +7,7 @@ use native.Mathlib.Omega.{arith}
 use native.Mathlib.Nat.{add-zero, pow-suc, div-lt-iff-lt-mul}
 use lib.ListN.{length, set}
 use lib.Seq.{sets}
-use Rattle.wire.specs.Change.{AllBytes}
+use Rattle.buffer.specs.Change.{AllBytes}
 use Rattle.reply.specs.Items.{bytesOf, asked, Wrote}
 
 pub bytes-length : (n w : ℕ) → length (bytesOf n w) ≡ n

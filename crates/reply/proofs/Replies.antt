@@ -5,10 +5,10 @@ use mathlib.Core.Bool.{Bool, true, false}
 use mathlib.Core.Path.{_≡_, refl, ap, _∙_}
 use native.Mathlib.Omega.{arith}
 use lib.ListN.{length}
-use Rattle.wire.specs.Sum.{endsInSum}
-use Rattle.wire.specs.Change.{Altered, AllBytes}
-use Rattle.wire.proofs.Sums.{with-sum-ends}
-use Rattle.wire.proofs.Bytes.{append-bytes}
+use Rattle.buffer.specs.Sum.{endsInSum}
+use Rattle.buffer.specs.Change.{Altered, AllBytes}
+use Rattle.buffer.proofs.Sums.{with-sum-ends}
+use Rattle.buffer.proofs.Bytes.{append-bytes}
 use Rattle.status.specs.Status.{itemsOf, cleared, judged}
 use Rattle.status.specs.declared.Status.the-variants.{Whole}
 use Rattle.status.specs.declared.Answer.the-variants.{Clear, Marked, Silent}

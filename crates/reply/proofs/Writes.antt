@@ -8,7 +8,7 @@ use native.Mathlib.Numerals.{add-one}
 use lib.Dec.{eqb}
 use lib.ListN.{length, take, drop, getD, length-append}
 use lib.Seq.{sets, sets-eq, take-append-seam, drop-cons, drop-length}
-use Rattle.wire.proofs.Writing.{sets-append}
+use Rattle.buffer.proofs.Writing.{sets-append}
 use Rattle.node.specs.declared.state.Node.{Node}
 use Rattle.reply.specs.declared.Item.{Item}
 use Rattle.reply.specs.Items.{_of_, bytesOf, asked, askedFrom, itemTable, itemBytes, Wrote}

@@ -1,15 +1,15 @@
 // What a node sends back: the status packet, with the items of Define Status in their order, least significant byte first.
 // Promised: every reply is good, says by bit 1 whether the sum was wrong, and reads back under its mask as the items asked for.
 // Left to others: whether the node replies at all (node, chain).
+use buffer::Built;
 use command::Command;
 use heard::Heard;
 use node::Node;
-use wire::Built;
 ghost use mathlib.Core.Path.{_≡_};
 ghost use Prim.Native.Nat.{_+_, _≤_};
 ghost use lib.ListN.{length};
 ghost use Rattle.wire.specs.Promise.{Lending};
-ghost use Rattle.wire.specs.Buffer.{builtNumber, place};
+ghost use Rattle.buffer.specs.Buffer.{builtNumber, place};
 ghost use Rattle.status.specs.Status.{T};
 ghost use Rattle.reply.specs.Items.{bytesOf, asked, itemBytes, itemTable, Wrote};
 ghost use Rattle.reply.specs.Reply.{ownMask, maskOf, statusByte, replyOf};

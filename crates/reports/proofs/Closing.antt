@@ -24,7 +24,8 @@ use Rattle.session.specs.declared.Exchange.the-variants.{Idle, Waiting}
 use Rattle.session.specs.declared.Session.{Session}
 use Rattle.session.specs.declared.End.the-variants.{Done}
 use Rattle.session.specs.declared.Step.{Step}
-use Rattle.session.specs.Session.{stepNumber, refusedStep, closedOf, isPlacing, askDue, givenPlace}
+use Rattle.placing.specs.Placing.{isPlacing, givenPlace}
+use Rattle.session.specs.Session.{stepNumber, refusedStep, closedOf, askDue}
 use Rattle.reports.specs.Report.{isNop}
 use Rattle.reports.specs.Report.{onWalk, giving, asking, idleAt, concluded, finishedBy, finished, reportOf}
 

@@ -18,7 +18,8 @@ use Rattle.session.specs.declared.Exchange.the-variants.{Idle, Waiting}
 use Rattle.session.specs.declared.Session.{Session}
 use Rattle.session.specs.declared.End.the-variants.{Done}
 use Rattle.session.specs.declared.Step.{Step}
-use Rattle.session.specs.Session.{refusedStep, closedOf, isPlacing, askDue, givenPlace}
+use Rattle.placing.specs.Placing.{isPlacing, givenPlace}
+use Rattle.session.specs.Session.{refusedStep, closedOf, askDue}
 
 -- Nop
 abbrev pub isNop : Command → Bool

@@ -3,14 +3,14 @@
 // Left to others: when silence is silence (the caller).
 use command::Command;
 use entry::Entry;
+use placing::given_place;
+use placing::is_placing;
 use session::End;
 use session::Exchange;
 use session::Session;
 use session::Step;
-use session::given_place;
 use session::is_ask_due;
 use session::is_closed;
-use session::is_placing;
 use session::refuse;
 use status::Answer;
 use wire::Address;

@@ -9,8 +9,8 @@ use lib.Dec.{ltb}
 use lib.ListN.{length, length-append}
 use lib.Seq.{sets, sets-eq}
 use borrow.Author.Tests.{le-ltb, ltb-true, ltb-false}
-use Rattle.wire.specs.Buffer.{putAt}
-use Rattle.wire.proofs.Writing.{put-not, length-put, sets-append}
+use Rattle.buffer.specs.Buffer.{putAt}
+use Rattle.buffer.proofs.Writing.{put-not, length-put, sets-append}
 use Rattle.script.specs.Wrote.{Wrote}
 
 put-sets : (out : List ℕ) (at : ℕ) (d : List ℕ) → at + length d ≤ length out → putAt out at d ≡ sets out at d

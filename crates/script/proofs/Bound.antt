@@ -8,7 +8,7 @@ use lib.Dec.{eqb, ltb}
 use lib.ListN.{length, replicate, take, length-append, length-take}
 use borrow.Author.Tests.{le-ltb, ltb-true, ltb-false}
 use Rattle.wire.specs.Promise.{Outcome}
-use Rattle.wire.specs.Buffer.{written, place}
+use Rattle.buffer.specs.Buffer.{written, place}
 use Rattle.wire.specs.declared.refusal.Refusal.the-variants.{Range}
 use Rattle.text.specs.Lines.{newline, linesOf, grown}
 use Rattle.text.specs.Digits.{decimalOf, decimalIn}

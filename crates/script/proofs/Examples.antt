@@ -1,8 +1,8 @@
 -- Document 01's example of the bench program, and the edges of the text's form, come out as the table has them.
 use mathlib.Core.List.{map}
 use mathlib.Core.Path.{_≡_, refl}
-use Rattle.wire.specs.Buffer.{place}
-use Rattle.wire.specs.Sum.{total, endsInSum}
+use Rattle.buffer.specs.Buffer.{place}
+use Rattle.buffer.specs.Sum.{total, endsInSum}
 use Rattle.packet.specs.Packet.{dataOf, frameOf, intactOf}
 use Rattle.command.specs.Command.{rowsOf, readingOf}
 use Rattle.text.specs.Digits.{valueOf, oneDigit, twoDigits, decimalOf, decimalIn}

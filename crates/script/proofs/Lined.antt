@@ -10,12 +10,12 @@ use lib.Seq.{take-at}
 use borrow.Author.Tests.{lt-ltb, le-ltb}
 use Rattle.wire.specs.Promise.{Lending}
 use Rattle.wire.specs.Numbers.{numberOf}
-use Rattle.wire.specs.Buffer.{written, place, builtNumber}
+use Rattle.buffer.specs.Buffer.{written, place, builtNumber}
 use Rattle.wire.specs.declared.refusal.Refusal.{Refusal}
 use Rattle.wire.specs.declared.refusal.Refusal.the-variants.{Short, Header, Long, Sum, Room, Range, Busy, Idle, NotDue, NoNode, Led, Closed}
-use Rattle.wire.specs.declared.buffer.Built.{Built}
-use Rattle.wire.specs.declared.buffer.Built.the-variants as built
-use Rattle.wire.proofs.Writing.{place-long}
+use Rattle.buffer.specs.declared.Built.{Built}
+use Rattle.buffer.specs.declared.Built.the-variants as built
+use Rattle.buffer.proofs.Writing.{place-long}
 use Rattle.text.specs.Lines.{newline}
 use Rattle.text.specs.Digits.{decimalOf}
 use Rattle.hex.specs.Hex.{hexLine}

@@ -8,10 +8,10 @@ use lib.Dec.{ltb}
 use lib.ListN.{length, take, drop, length-append}
 use lib.Seq.{length-take-le}
 use Rattle.wire.specs.Promise.{Lending}
-use Rattle.wire.specs.Buffer.{written, refused, place, builtNumber}
+use Rattle.buffer.specs.Buffer.{written, refused, place, builtNumber}
 use Rattle.wire.specs.declared.refusal.Refusal.the-variants.{Room}
-use Rattle.wire.specs.declared.buffer.Built.{Built}
-use Rattle.wire.specs.declared.buffer.Built.the-variants.{Bytes}
+use Rattle.buffer.specs.declared.Built.{Built}
+use Rattle.buffer.specs.declared.Built.the-variants.{Bytes}
 
 chosen : (t : Bool) (p out left : List ℕ) (n : ℕ) → Bytes n ≡ cond t (refused Room out) (written p out) .answer → left ≡ cond t (refused Room out) (written p out) .left → n ≤ length left
 chosen true p out left n e f = absurd (let z : _≡_ {A = ℕ} 0 1 = cc in let y : ⊥ = omega arith in y)

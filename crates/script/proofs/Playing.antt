@@ -6,8 +6,8 @@ use native.Mathlib.Omega.{arith}
 use lib.ListN.{length, take, drop, replicate, length-drop, drop-of-length-le}
 use lib.Seq.{drop-drop}
 use Rattle.wire.specs.Promise.{Outcome, Lending}
-use Rattle.wire.specs.Change.{AllBytes}
-use Rattle.wire.proofs.Bytes.{byte-at}
+use Rattle.buffer.specs.Change.{AllBytes}
+use Rattle.buffer.proofs.Bytes.{byte-at}
 use Rattle.text.specs.Lines.{lineOf, linesOf}
 use Rattle.hex.specs.Hex.{Content, bytes, malformed, bytesIn, over, readInto, parsedNumber}
 use Rattle.hex.specs.declared.pairs.Parsed.{Parsed}

@@ -9,10 +9,10 @@ use lib.Dec.{ltb}
 use lib.ListN.{length, drop, length-drop}
 use borrow.Author.Tests.{lt-ltb, le-ltb, ltb-true, ltb-false}
 use Rattle.wire.specs.Promise.{Promise, Lending}
-use Rattle.wire.specs.Buffer.{builtNumber, place}
+use Rattle.buffer.specs.Buffer.{builtNumber, place}
 use Rattle.wire.specs.declared.refusal.Refusal.the-variants.{Room}
-use Rattle.wire.specs.declared.buffer.Built.the-variants as built
-use Rattle.wire.proofs.Writing.{no-room, has-room}
+use Rattle.buffer.specs.declared.Built.the-variants as built
+use Rattle.buffer.proofs.Writing.{no-room, has-room}
 use Rattle.text.specs.Lines.{lineOf, linesOf}
 use Rattle.text.specs.Digits.{decimalIn, decimalNumber}
 use Rattle.text.specs.declared.digits.Decimal.{Decimal}

@@ -1,7 +1,7 @@
 // The line that is written for an answer of the chain.
 // Each function writes from `at` on, if there is room, and answers the place behind what it wrote or would have written.
+use buffer::Built;
 use chain::Delivery;
-use wire::Built;
 use wire::Refusal;
 ghost use Prim.Native.Nat.{_+_, _≤_, _<_};
 ghost use lib.ListN.{length};
@@ -13,7 +13,7 @@ fn append(out: &mut [u8], at: usize, part: &[u8]) -> usize
     requires { ⌜ (at ≤ far + 64) × (length (now part) ≤ 64) ⌝ }
     ensures { λ r. ⌜ Wrote (now (part .entry)) at (now (out .entry)) r (now (out .exit)) ⌝ }
 {
-    wire::put(out, at, part);
+    buffer::put(out, at, part);
     at + part.len()
 }
 

@@ -1,19 +1,19 @@
 // The bench program as a function on slices: a node count, then a packet a line; an answer a line.
 use crate::answers::put_answer;
 use crate::answers::put_refused;
+use buffer::Built;
 use hex::Parsed;
 use node::Bench;
 use node::Node;
 use table::Table;
 use text::Decimal;
-use wire::Built;
 use wire::Refusal;
 ghost use mathlib.Core.Path.{_≡_};
 ghost use Prim.Native.Nat.{_≤_};
 ghost use lib.ListN.{length, replicate};
 ghost use lib.Dec.{ltb};
 ghost use Rattle.wire.specs.Promise.{Lending};
-ghost use Rattle.wire.specs.Buffer.{builtNumber, place};
+ghost use Rattle.buffer.specs.Buffer.{builtNumber, place};
 ghost use Rattle.table.specs.Table.{deliveredOf};
 ghost use Rattle.text.specs.Lines.{linesOf};
 ghost use Rattle.script.specs.Wrote.{far, Wrote};

@@ -12,9 +12,9 @@ use Rattle.wire.specs.Address.{isIndividual, inRange}
 use Rattle.wire.specs.declared.address.Address.{Address}
 use Rattle.wire.specs.declared.refusal.Refusal.{Refusal}
 use Rattle.wire.specs.declared.refusal.Refusal.the-variants.{Room}
-use Rattle.wire.specs.Buffer.{place}
+use Rattle.buffer.specs.Buffer.{place}
 use Rattle.wire.specs.Numbers.{done}
-use Rattle.wire.proofs.Refusals.{not-done}
+use Rattle.buffer.proofs.Refusals.{not-done}
 use Rattle.command.specs.declared.Command.{Command}
 use Rattle.command.specs.Build.{fitsOf, packetFor}
 use Rattle.command.proofs.Commands.{built-written}

@@ -4,10 +4,10 @@ use mathlib.Core.List.{List}
 use mathlib.Core.Path.{_≡_, refl}
 use Rattle.wire.specs.Promise.{Outcome}
 use Rattle.wire.specs.declared.address.Address.{Address}
-use Rattle.wire.specs.declared.buffer.Built.{Built}
-use Rattle.wire.specs.declared.buffer.Built.the-variants as built
+use Rattle.buffer.specs.declared.Built.{Built}
+use Rattle.buffer.specs.declared.Built.the-variants as built
 use Rattle.wire.specs.Numbers.{done}
-use Rattle.wire.proofs.Refusals.{Spares}
+use Rattle.buffer.proofs.Refusals.{Spares}
 use Rattle.command.specs.declared.Command.{Command}
 use Rattle.command.specs.Build.{commandBuilt}
 use Rattle.command.proofs.Commands.{command-spares}

@@ -6,9 +6,9 @@ use mathlib.Core.Path.{_≡_}
 use Rattle.wire.specs.Promise.{Outcome, Lending, lent}
 use Rattle.wire.specs.declared.address.Address.{Address}
 use Rattle.wire.specs.declared.refusal.Refusal.{Refusal}
-use Rattle.wire.specs.declared.buffer.Built.{Built}
-use Rattle.wire.specs.declared.buffer.Built.the-variants as built
-use Rattle.wire.specs.Buffer.{builtNumber}
+use Rattle.buffer.specs.declared.Built.{Built}
+use Rattle.buffer.specs.declared.Built.the-variants as built
+use Rattle.buffer.specs.Buffer.{builtNumber}
 use Rattle.command.specs.declared.Command.{Command}
 use Rattle.command.specs.Build.{commandBuilt}
 use Rattle.entry.specs.declared.Entry.{Entry}

@@ -1,6 +1,7 @@
 // What every call that sends does: first it tests the session, last it builds its packet.
 // Promised: 12, then 7; the first refusal wins; the packet at the start of the lent buffer and its exchange opened, or 5.
 // Left to others: which command goes where, with the refusals of its own (walk, host); the bytes on the line (the caller).
+use buffer::Built;
 use command::Command;
 use session::End;
 use session::Exchange;
@@ -9,7 +10,6 @@ use session::Step;
 use session::is_closed;
 use session::refuse;
 use wire::Address;
-use wire::Built;
 use wire::Refusal;
 ghost use mathlib.Core.Path.{_≡_};
 ghost use Rattle.wire.specs.Promise.{Lending};

@@ -6,8 +6,6 @@ use Rattle.session.proofs.is_closed.Reads as is-closed
 use Rattle.session.proofs.is_ask_due.Reads as is-ask-due
 use Rattle.session.proofs.off_chain.Reads as off-chain
 use Rattle.session.proofs.refuse.Reads as refuse
-use Rattle.session.proofs.is_placing.Reads as is-placing
-use Rattle.session.proofs.given_place.Reads as given-place
 
 pub look-unique : OneResult look.Post
 look-unique κs a r r′ s s′ p q = p .answer ∙ sym (q .answer)
@@ -23,9 +21,3 @@ off-chain-unique κs a r r′ s s′ p q = p ∙ sym q
 
 pub refuse-unique : OneResult refuse.Post
 refuse-unique κs a r r′ s s′ p q = p ∙ sym q
-
-pub is-placing-unique : OneResult is-placing.Post
-is-placing-unique κs a r r′ s s′ p q = p ∙ sym q
-
-pub given-place-unique : OneResult given-place.Post
-given-place-unique κs a r r′ s s′ p q = p ∙ sym q

@@ -10,9 +10,7 @@ use Rattle.wire.specs.declared.address.Address.{Address}
 use Rattle.wire.specs.declared.address.Address.the-variants as address
 use Rattle.wire.specs.declared.refusal.Refusal.{Refusal}
 use Rattle.wire.specs.declared.refusal.Refusal.the-variants.{NoNode}
-use Rattle.command.specs.declared.Place.{Place}
 use Rattle.command.specs.declared.Command.{Command}
-use Rattle.command.specs.declared.Command.the-variants.{SetAddress, DefineStatus, ReadStatus, SetPwm, SynchOutput, SetOutputs, SetSynchOutput, SetTimerMode, SynchInput, Nop, HardReset}
 use Rattle.node.specs.Setting.{place}
 use Rattle.entry.specs.declared.Entry.{Entry}
 use Rattle.entry.specs.Entry.{knows}
@@ -78,24 +76,6 @@ closedOf s = cond (validOf s) (not (s .started)) true
 -- the place of the walk's next node is in doubt: its Set Address is unconfirmed
 unfoldable pub askDue : Session → Bool
 askDue s = cond (ltb 30 (s .walk)) false (not (knows (entryOf s (s .walk + 1)) place))
-
--- Set Address: sent by "next" and by "regroup" alone
-abbrev pub isPlacing : Command → Bool
-isPlacing (SetAddress p) = true
-isPlacing (DefineStatus m) = false
-isPlacing (ReadStatus m) = false
-isPlacing (SetPwm w) = false
-isPlacing SynchOutput = false
-isPlacing (SetOutputs w) = false
-isPlacing (SetSynchOutput h) = false
-isPlacing (SetTimerMode m) = false
-isPlacing SynchInput = false
-isPlacing Nop = false
-isPlacing HardReset = false
-
--- "the next address of 1, 2, .. n and second byte 0xFF"
-abbrev pub givenPlace : ℕ → Place
-givenPlace k = record { address = record { 0 = k }; group = record { 0 = 0xFF }; leader = false }
 
 -- the node of number k
 abbrev pub nodeAt : ℕ → Address

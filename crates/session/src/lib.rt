@@ -2,15 +2,13 @@
 // Promised: a look at a node; which sessions count as closed.
 // Left to others: how one starts (start), sending (sending, walk, host), and closing an exchange (reports).
 use command::Command;
-use command::Place;
 use entry::Entry;
 use wire::Address;
-use wire::Group;
 use wire::Individual;
 use wire::Refusal;
 ghost use mathlib.Core.Path.{_≡_};
 ghost use Rattle.wire.specs.Promise.{Promise};
-ghost use Rattle.session.specs.Session.{refusedStep, offChain, strayOf, validOf, closedOf, askDue, isPlacing, givenPlace, lookNumber, lookOf};
+ghost use Rattle.session.specs.Session.{refusedStep, offChain, strayOf, validOf, closedOf, askDue, lookNumber, lookOf};
 
 // What waits for an answer: nothing, or a command that was sent to an address. The walk's Set Address has the node that it gives its number.
 pub enum Exchange {
@@ -132,34 +130,4 @@ pub fn is_ask_due(s: Session) -> bool
     }
     let e = s.entries[at];
     !e.known.place
-}
-
-// Set Address is sent by "next" and by "regroup" alone.
-pub fn is_placing(c: Command) -> bool
-    ensures { λ r. ⌜ r ≡ isPlacing c ⌝ }
-{
-    match c {
-        Command::SetAddress(_) => true,
-        Command::DefineStatus(_) => false,
-        Command::ReadStatus(_) => false,
-        Command::SetPwm(_) => false,
-        Command::SynchOutput => false,
-        Command::SetOutputs(_) => false,
-        Command::SetSynchOutput(_) => false,
-        Command::SetTimerMode(_) => false,
-        Command::SynchInput => false,
-        Command::Nop => false,
-        Command::HardReset => false,
-    }
-}
-
-// The place that the walk gives to node k.
-pub fn given_place(k: u8) -> Place
-    ensures { λ r. ⌜ r ≡ givenPlace k ⌝ }
-{
-    Place {
-        address: Individual(k),
-        group: Group(0xFF),
-        leader: false,
-    }
 }

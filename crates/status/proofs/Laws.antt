@@ -1,10 +1,10 @@
 -- A built status packet holds bytes, and a refused builder leaves the buffer as it stood.
 use Prim.Native.Nat.{ℕ, _<_}
 use mathlib.Core.List.{List, _∷_}
-use Rattle.wire.specs.Change.{AllBytes}
+use Rattle.buffer.specs.Change.{AllBytes}
 use Rattle.status.specs.Status.{statusPacket, statusBuilt}
-use Rattle.wire.proofs.Bytes.{with-sum-bytes}
-use Rattle.wire.proofs.Refusals.{Spares, place-spares}
+use Rattle.buffer.proofs.Bytes.{with-sum-bytes}
+use Rattle.buffer.proofs.Refusals.{Spares, place-spares}
 
 pub status-bytes : (b : ℕ) (d : List ℕ) → b < 256 → AllBytes d → AllBytes (statusPacket b d)
 status-bytes b d hb h = with-sum-bytes (b ∷ d) (hb, h)

@@ -8,15 +8,15 @@ use lib.Dec.{ltb}
 use lib.ListN.{length, getD, take, drop}
 use lib.Seq.{take-append-seam}
 use borrow.Author.Tests.{le-ltb, ltb-false}
-use Rattle.wire.specs.Sum.{sumOf, withSum, endsInSum}
+use Rattle.buffer.specs.Sum.{sumOf, withSum, endsInSum}
 use Rattle.status.specs.Status.{statusPacket, statusOf, itemsOf, T, cleared, judged}
-use Rattle.wire.specs.Change.{Altered}
+use Rattle.buffer.specs.Change.{Altered}
 use Rattle.wire.specs.declared.refusal.Refusal.{Refusal}
 use Rattle.wire.specs.declared.refusal.Refusal.the-variants.{Short, Long, Sum}
 use Rattle.status.specs.declared.Status.the-variants.{Whole, Refused}
 use Rattle.status.specs.declared.Answer.the-variants.{Silent}
 use Rattle.wire.proofs.Choice.{chose-first, chose-second}
-use Rattle.wire.proofs.Sums.{length-with-sum, with-sum-ends, ends-shape, changed-length, changed-breaks}
+use Rattle.buffer.proofs.Sums.{length-with-sum, with-sum-ends, ends-shape, changed-length, changed-breaks}
 
 pub status-length : (b : ℕ) (d : List ℕ) → length (statusPacket b d) ≡ 2 + length d
 status-length b d = omega (arith, length-with-sum (b ∷ d))

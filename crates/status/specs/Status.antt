@@ -6,10 +6,10 @@ use lib.ListN.{length, getD, take, drop}
 use lib.Dec.{ltb, eqb}
 use Rattle.wire.specs.Promise.{Outcome}
 use Rattle.wire.specs.Numbers.{done, numberOf}
-use Rattle.wire.specs.Sum.{withSum, endsInSum}
-use Rattle.wire.specs.Buffer.{place}
+use Rattle.buffer.specs.Sum.{withSum, endsInSum}
+use Rattle.buffer.specs.Buffer.{place}
 use Rattle.wire.specs.declared.refusal.Refusal.the-variants.{Short, Long, Sum}
-use Rattle.wire.specs.declared.buffer.Built.{Built}
+use Rattle.buffer.specs.declared.Built.{Built}
 use Rattle.status.specs.declared.Status.{Status}
 use Rattle.status.specs.declared.Status.the-variants.{Whole, Refused}
 use Rattle.status.specs.declared.Answer.{Answer}

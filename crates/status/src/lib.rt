@@ -1,11 +1,11 @@
 // Status packets: status byte; the items asked for; sum. And how the host takes what it received for a command.
 // Promised: a built packet reads back, an accepted one is the one built from its parts, a reply with one byte changed is never good.
 // Left to others: which items a mask asks for (reply), and what an answer makes of the record (entry).
-use wire::Built;
+use buffer::Built;
 use wire::Refusal;
 ghost use mathlib.Core.Path.{_≡_};
 ghost use Rattle.wire.specs.Promise.{Promise, Lending};
-ghost use Rattle.wire.specs.Buffer.{builtNumber};
+ghost use Rattle.buffer.specs.Buffer.{builtNumber};
 ghost use Rattle.status.specs.Status.{statusOf, statusNumber, itemsOf, statusBuilt, judged};
 
 // The total of all item counts.
@@ -31,7 +31,7 @@ pub fn read(s: &[u8], items: usize) -> Status
     if items < found {
         return Status::Refused(Refusal::Long);
     }
-    if wire::ends_in_sum(s) {
+    if buffer::ends_in_sum(s) {
         Status::Whole(s[0])
     } else {
         Status::Refused(Refusal::Sum)
@@ -60,9 +60,9 @@ pub fn build(status: u8, items: &[u8], out: &mut [u8]) -> Built
     if out.len() - 2 < n {
         return Built::Refused(Refusal::Room);
     }
-    let total = std::num::wrapping_add_u8(status, wire::sum(items));
+    let total = std::num::wrapping_add_u8(status, buffer::sum(items));
     out[0] = status;
-    wire::put(out, 1, items);
+    buffer::put(out, 1, items);
     out[1 + n] = total;
     Built::Bytes(2 + n)
 }
@@ -87,7 +87,7 @@ pub fn judge(s: &[u8]) -> Answer
     if T + 2 < s.len() {
         return Answer::Silent;
     }
-    if wire::ends_in_sum(s) {
+    if buffer::ends_in_sum(s) {
         if s[0] / 2 % 2 == 0 {
             Answer::Clear
         } else {

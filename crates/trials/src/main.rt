@@ -7,6 +7,7 @@ mod packets;
 mod parts;
 mod state;
 
+use buffer::Built;
 use hex::Parsed;
 use libc::STDIN_FILENO;
 use libc::STDOUT_FILENO;
@@ -14,7 +15,6 @@ use parts::Answer;
 use parts::malformed;
 use parts::numbered;
 use session::Session;
-use wire::Built;
 ghost use Prim.Native.Nat.{_≤_};
 ghost use mathlib.Core.Path.{_≡_};
 ghost use lib.ListN.{length};

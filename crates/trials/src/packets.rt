@@ -5,10 +5,10 @@ use crate::parts::is_lending;
 use crate::parts::malformed;
 use crate::parts::nothing;
 use crate::parts::numbered;
+use buffer::Built;
 use packet::Framed;
 use status::Status;
 use text::rest;
-use wire::Built;
 
 // The number of a packet that was built, or of the refusal.
 fn built_number(b: Built) -> u8 {

@@ -7,7 +7,8 @@ use Rattle.wire.specs.declared.refusal.Refusal.{Refusal}
 use Rattle.wire.specs.Numbers.{done}
 use Rattle.command.specs.declared.Command.the-variants.{SetAddress, Nop}
 use Rattle.session.specs.declared.Session.{Session}
-use Rattle.session.specs.Session.{nodeAt, givenPlace, stepNumber}
+use Rattle.placing.specs.Placing.{givenPlace}
+use Rattle.session.specs.Session.{nodeAt, stepNumber}
 use Rattle.sending.specs.declared.Check.the-variants.{Clear, Refuse}
 use Rattle.walk.specs.Walk.{nextCheck, askCheck, nextOf, askOf}
 use Rattle.sending.proofs.Sent.{Sends, transmitted-sends, by-clear, node-fits, refusing, Went, went}

@@ -8,7 +8,8 @@ use Rattle.wire.specs.declared.refusal.Refusal.the-variants.{NotDue}
 use Rattle.command.specs.declared.Command.the-variants.{SetAddress, Nop}
 use Rattle.session.specs.declared.Session.{Session}
 use Rattle.session.specs.declared.Step.{Step}
-use Rattle.session.specs.Session.{askDue, givenPlace, nodeAt}
+use Rattle.placing.specs.Placing.{givenPlace}
+use Rattle.session.specs.Session.{askDue, nodeAt}
 use Rattle.sending.specs.declared.Check.{Check}
 use Rattle.sending.specs.Sending.{refuseIf, readyCheck, transmitted, byCheck}
 

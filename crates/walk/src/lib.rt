@@ -2,12 +2,12 @@
 // Promised: the refusals in the paper's order, else "next" sends Set Address to 0x00, or "ask" a Nop to the new address; any number but 0 changes nothing.
 // Left to others: how a walk starts (start), what an answer makes of it (reports), how long to wait for one (the caller).
 use command::Command;
+use placing::given_place;
 use sending::Check;
 use sending::ready_check;
 use sending::transmit;
 use session::Session;
 use session::Step;
-use session::given_place;
 use session::is_ask_due;
 use session::refuse;
 use wire::Address;

@@ -1,9 +1,5 @@
 pub mod Tests
 pub mod Choice
 pub mod Addresses
-pub mod Sums
-pub mod Bytes
-pub mod Writing
-pub mod Refusals
 pub mod OneResult
 pub mod Unique

@@ -1,16 +1,12 @@
 -- A second result that meets a contract is equal to the first, for each public function.
-use mathlib.Core.Path.{_≡_, sym, _∙_}
-use denote.Ref.{now}
+use mathlib.Core.Path.{sym, _∙_}
 use Rattle.wire.proofs.OneResult.{OneResult}
-use Rattle.wire.proofs.buffer.put.Reads as put
 use Rattle.wire.proofs.refusal.Refusal.number.Reads as number
 use Rattle.wire.proofs.address.Individual.in_range.Reads as individual-in-range
 use Rattle.wire.proofs.address.Group.in_range.Reads as group-in-range
 use Rattle.wire.proofs.address.Address.of.Reads as address-of
 use Rattle.wire.proofs.address.Address.in_range.Reads as address-in-range
 use Rattle.wire.proofs.address.Address.byte.Reads as address-byte
-use Rattle.wire.proofs.checksum.sum.Reads as sum
-use Rattle.wire.proofs.checksum.ends_in_sum.Reads as ends-in-sum
 
 pub number-unique : OneResult number.Post
 number-unique κs a r r′ s s′ p q = p ∙ sym q
@@ -29,13 +25,3 @@ address-in-range-unique κs a r r′ s s′ p q = p ∙ sym q
 
 pub address-byte-unique : OneResult address-byte.Post
 address-byte-unique κs a r r′ s s′ p q = p ∙ sym q
-
-pub sum-unique : OneResult sum.Post
-sum-unique κs a r r′ s s′ p q = p ∙ sym q
-
-pub ends-in-sum-unique : OneResult ends-in-sum.Post
-ends-in-sum-unique κs a r r′ s s′ p q = p ∙ sym q
-
--- what the lent buffer holds
-pub put-unique : (κs : _) (a : _) (r r′ : _) (s s′ : _) → put.Post κs a r s → put.Post κs a r′ s′ → now (s .0) ≡ now (s′ .0)
-put-unique κs a r r′ s s′ p q = p ∙ sym q

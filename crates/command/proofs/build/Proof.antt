@@ -6,11 +6,11 @@ use mathlib.Core.List.{List}
 use mathlib.Core.Path.{_≡_, sym, _∙_}
 use Rattle.wire.specs.Promise.{Lending, lent}
 use Rattle.wire.specs.Address.{inRange, byteOf}
-use Rattle.wire.specs.Buffer.{builtNumber, place}
+use Rattle.buffer.specs.Buffer.{builtNumber, place}
 use Rattle.wire.specs.declared.address.Address.{Address}
 use Rattle.wire.specs.declared.refusal.Refusal.the-variants.{Range}
-use Rattle.wire.specs.declared.buffer.Built.{Built}
-use Rattle.wire.specs.declared.buffer.Built.the-variants.{Refused}
+use Rattle.buffer.specs.declared.Built.{Built}
+use Rattle.buffer.specs.declared.Built.the-variants.{Refused}
 use Rattle.command.specs.Build.{fitsOf, packetTo, buildFor, commandBuilt}
 use Rattle.command.specs.declared.Command.{Command}
 use Rattle.command.proofs.build.Statement.{statement}

@@ -8,12 +8,12 @@ use mathlib.Core.List.{List, _++_}
 use lib.ListN.{length, drop}
 use Rattle.wire.specs.Promise.{Lending, lent}
 use Rattle.packet.specs.Build.{packetOf, buildOf}
-use Rattle.wire.specs.Buffer.{builtNumber}
+use Rattle.buffer.specs.Buffer.{builtNumber}
 use Rattle.wire.specs.declared.refusal.Refusal.the-variants.{Room}
-use Rattle.wire.specs.declared.buffer.Built.the-variants.{Bytes, Refused}
+use Rattle.buffer.specs.declared.Built.the-variants.{Bytes, Refused}
 use Rattle.packet.proofs.Packets.{built-length}
 use Rattle.wire.proofs.Tests.{tests}
-use Rattle.wire.proofs.Writing.{no-room, has-room}
+use Rattle.buffer.proofs.Writing.{no-room, has-room}
 use Rattle.packet.proofs.build.Statement.{statement}
 use Rattle.packet.proofs.build.Tie as tie
 

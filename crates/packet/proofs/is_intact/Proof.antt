@@ -7,7 +7,7 @@ use mathlib.Core.Bool.{Bool, false}
 use mathlib.Core.List.{List, [], _∷_}
 use lib.ListN.{length, drop, take, length-drop}
 use lib.Seq.{take-all}
-use Rattle.wire.specs.Sum.{endsInSum}
+use Rattle.buffer.specs.Sum.{endsInSum}
 use Rattle.packet.specs.Packet.{intactOf}
 use Rattle.packet.proofs.is_intact.Statement.{statement}
 use Rattle.packet.proofs.is_intact.Tie as tie

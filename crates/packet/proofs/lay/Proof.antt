@@ -5,8 +5,8 @@ use Prim.Native.Nat.{_+_}
 use mathlib.Core.Path.{_≡_}
 use mathlib.Core.List.{[], _∷_}
 use lib.ListN.{length, length-set}
-use Rattle.wire.specs.Sum.{total, sumOf}
-use Rattle.wire.proofs.Writing.{laid}
+use Rattle.buffer.specs.Sum.{total, sumOf}
+use Rattle.buffer.proofs.Writing.{laid}
 use Rattle.packet.proofs.lay.Statement.{statement}
 use Rattle.packet.proofs.lay.Tie as tie
 

@@ -7,8 +7,8 @@ use mathlib.Core.Path.{_≡_, refl, sym}
 use lib.ListN.{length, take}
 use lib.Seq.{length-take-le}
 use Rattle.wire.specs.Promise.{Lending}
-use Rattle.wire.specs.Buffer.{builtNumber, place}
-use Rattle.wire.specs.declared.buffer.Built.{Built}
+use Rattle.buffer.specs.Buffer.{builtNumber, place}
+use Rattle.buffer.specs.declared.Built.{Built}
 use Rattle.status.specs.Status.{statusBuilt, T}
 use Rattle.node.specs.declared.state.Node.{Node}
 use Rattle.heard.specs.declared.Heard.{Heard}

@@ -6,13 +6,13 @@ use mathlib.Core.Path.{_≡_}
 use mathlib.Core.List.{List, [], _∷_}
 use lib.ListN.{length, length-set}
 use Rattle.wire.specs.Promise.{Lending}
-use Rattle.wire.specs.Sum.{total, sumOf}
-use Rattle.wire.specs.Buffer.{builtNumber}
+use Rattle.buffer.specs.Sum.{total, sumOf}
+use Rattle.buffer.specs.Buffer.{builtNumber}
 use Rattle.status.specs.Status.{statusPacket, statusBuilt}
 use Rattle.wire.specs.declared.refusal.Refusal.the-variants.{Room}
-use Rattle.wire.specs.declared.buffer.Built.the-variants.{Refused}
+use Rattle.buffer.specs.declared.Built.the-variants.{Refused}
 use Rattle.status.proofs.Replies.{status-length}
-use Rattle.wire.proofs.Writing.{laid, no-room, has-room}
+use Rattle.buffer.proofs.Writing.{laid, no-room, has-room}
 use Rattle.status.proofs.build.Statement.{statement}
 use Rattle.status.proofs.build.Tie as tie
 

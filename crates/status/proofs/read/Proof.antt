@@ -8,7 +8,7 @@ use mathlib.Core.Bool.{Bool, true, false}
 use mathlib.Core.List.{List}
 use lib.ListN.{length, getD}
 use Rattle.wire.specs.Promise.{Promise, promised}
-use Rattle.wire.specs.Sum.{endsInSum}
+use Rattle.buffer.specs.Sum.{endsInSum}
 use Rattle.status.specs.Status.{statusOf, statusNumber}
 use Rattle.wire.specs.declared.refusal.Refusal.the-variants.{Short, Long, Sum}
 use Rattle.status.specs.declared.Status.the-variants.{Whole, Refused}

@@ -10,9 +10,9 @@ use lib.Dec.{ltb}
 use lib.ListN.{length, take, getD, set, length-append, length-set}
 use lib.Seq.{take-suc, take-all, take-append-seam, getD-append-seam, take-set-lt, take-set-le, getD-set-same, getD-set-other, length-take-le, getD-take}
 use borrow.Author.Tests.{eq-eqb, ne-eqb, eqb-true, le-ltb, ltb-false}
-use Rattle.wire.specs.Sum.{total, sumOf, withSum, endsInSum}
-use Rattle.wire.specs.Change.{Changed}
+use Rattle.buffer.specs.Sum.{total, sumOf, withSum, endsInSum}
+use Rattle.buffer.specs.Change.{Changed}
 use Rattle.wire.proofs.Choice.{chose-second}
 
 total-append : (a b : List ℕ) → total (a ++ b) ≡ total a + total b
 unfolding total

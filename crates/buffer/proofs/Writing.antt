@@ -9,10 +9,10 @@ use lib.Dec.{ltb}
 use lib.ListN.{length, take, drop, set, length-append, length-drop}
 use lib.Seq.{paste, sets, sets-eq, length-sets, length-paste, take-length, drop-drop}
 use borrow.Author.Tests.{lt-ltb, le-ltb, ltb-false}
 use Rattle.wire.specs.Promise.{Lending, lent}
-use Rattle.wire.specs.Buffer.{putAt, written, refused, place, builtNumber}
+use Rattle.buffer.specs.Buffer.{putAt, written, refused, place, builtNumber}
 use Rattle.wire.specs.declared.refusal.Refusal.the-variants.{Room}
-use Rattle.wire.specs.declared.buffer.Built.the-variants.{Bytes, Refused}
+use Rattle.buffer.specs.declared.Built.the-variants.{Bytes, Refused}
 
 laid-tail : (d r : List ℕ) (m : ℕ) → length d < length r
     → set (take (length d) d ++ drop (length d) r) (length d) m ≡ (d ++ (m ∷ [])) ++ drop (suc (length d)) r

@@ -5,10 +5,10 @@ use mathlib.Core.List.{List, [], _∷_, _++_}
 use native.Mathlib.Omega.{arith}
 use lib.Dec.{ltb}
 use lib.ListN.{length, getD, take, drop}
-use Rattle.wire.specs.Sum.{sumOf, withSum}
-use Rattle.wire.specs.Buffer.{written, refused, place}
-use Rattle.wire.specs.Change.{AllBytes}
+use Rattle.buffer.specs.Sum.{sumOf, withSum}
+use Rattle.buffer.specs.Buffer.{written, refused, place}
+use Rattle.buffer.specs.Change.{AllBytes}
 use Rattle.wire.specs.declared.refusal.Refusal.the-variants.{Room}
 
 pub byte-at : (l : List ℕ) (i : ℕ) → AllBytes l → getD l i 0 < 256
 byte-at [] i h = omega arith

@@ -3,10 +3,10 @@ use borrow.Author.Needs.{needs}
 use borrow.Author.Tests.{le-ltb}
 use native.Mathlib.Omega.{arith}
 use lib.ListN.{length-take}
-use Rattle.wire.specs.Sum.{endsInSum}
+use Rattle.buffer.specs.Sum.{endsInSum}
 use Rattle.wire.proofs.Tests.{tests}
-use Rattle.wire.proofs.checksum.ends_in_sum.Statement.{statement}
-use Rattle.wire.proofs.checksum.ends_in_sum.Tie as tie
+use Rattle.buffer.proofs.ends_in_sum.Statement.{statement}
+use Rattle.buffer.proofs.ends_in_sum.Tie as tie
 
 returns : tie.Need-returns
 unfolding endsInSum

@@ -6,10 +6,10 @@ use mathlib.Core.Path.{_≡_}
 use borrow.Author.Needs.{needs}
 use lib.ListN.{length, take}
 use lib.Seq.{take-all}
-use Rattle.wire.specs.Sum.{total, sumOf}
-use Rattle.wire.proofs.Sums.{total-take}
-use Rattle.wire.proofs.checksum.sum.Statement.{statement}
-use Rattle.wire.proofs.checksum.sum.Tie as tie
+use Rattle.buffer.specs.Sum.{total, sumOf}
+use Rattle.buffer.proofs.Sums.{total-take}
+use Rattle.buffer.proofs.sum.Statement.{statement}
+use Rattle.buffer.proofs.sum.Tie as tie
 
 abbrev Inv-loop : tie.InvT-loop
 Inv-loop s r₀ i₀ r i = (i ≤ length s) × (r ≡ sumOf (take i s))

@@ -6,12 +6,12 @@ use Prim.Native.Nat.{ℕ}
 use native.Mathlib.Omega.{arith}
 use lib.Dec.{ltb}
 use lib.ListN.{length}
 use Rattle.wire.specs.Promise.{Outcome}
 use Rattle.wire.specs.Numbers.{done, numberOf}
-use Rattle.wire.specs.Buffer.{written, refused, place, builtNumber}
+use Rattle.buffer.specs.Buffer.{written, refused, place, builtNumber}
 use Rattle.wire.specs.declared.refusal.Refusal.{Refusal}
 use Rattle.wire.specs.declared.refusal.Refusal.the-variants.{Short, Header, Long, Sum, Room, Range, Busy, Idle, NotDue, NoNode, Led, Closed}
-use Rattle.wire.specs.declared.buffer.Built.{Built}
+use Rattle.buffer.specs.declared.Built.{Built}
 
 -- no refusal has the number of a call that is done
 pub not-done : (why : Refusal) → numberOf why ≡ done → ⊥

@@ -8,9 +8,9 @@ use native.Mathlib.Nat.{le-antisymm}
 use borrow.Author.Needs.{needs}
 use lib.ListN.{length, set, getD, length-set}
 use lib.Seq.{paste, paste-zero, paste-suc}
-use Rattle.wire.proofs.Writing.{put-fits, put-not}
-use Rattle.wire.proofs.buffer.put.Statement.{statement}
-use Rattle.wire.proofs.buffer.put.Tie as tie
+use Rattle.buffer.proofs.Writing.{put-fits, put-not}
+use Rattle.buffer.proofs.put.Statement.{statement}
+use Rattle.buffer.proofs.put.Tie as tie
 
 abbrev Inv-loop : tie.InvT-loop
 Inv-loop out₀ at src i₀ out i = (i ≤ length src) × ((at + length src ≤ length out₀) × ((out ≡ paste out₀ at src i) × (length out ≡ length out₀)))

@@ -1,0 +1,5 @@
+pub mod Sums
+pub mod Writing
+pub mod Refusals
+pub mod Bytes
+pub mod Unique

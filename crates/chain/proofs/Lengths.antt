@@ -7,7 +7,7 @@ use native.Mathlib.Omega.{arith}
 use lib.Dec.{eqb, ltb}
 use lib.ListN.{length, getD, take}
 use lib.Seq.{length-take-le, getD-take}
-use borrow.Author.Tests.{eq-eqb, lt-ltb, le-ltb}
+use borrow.Author.Tests.{lt-ltb, le-ltb}
 use Rattle.wire.specs.Promise.{Outcome}
 use Rattle.buffer.specs.Buffer.{place}
 use Rattle.wire.specs.declared.address.Address.{Address}
@@ -53,11 +53,6 @@ deliver-long ns p out h b =
     let b0 : getD (take 20 p) 0 0 ≡ getD p 0 0 = getD-take 20 p 0 0 (omega arith) in
     let f : frameOf (take 20 p) ≡ overlong (getD p 0 0) = frame-over (take 20 p) (omega arith) (omega arith) ∙ ap overlong b0 in
     rw (f, frame-over p h b, on-overlong (not (eqb (getD p 0 0) 0xAA)) (take 20 p) p ns out)
-
--- and with a header it is 3, always
-pub deliver-over : (ns : List Node) (p out : List ℕ) → valid ns ≡ true → 20 ≤ length p → getD p 2 0 < 256 → getD p 0 0 ≡ 0xAA → deliveredOn ns p out ≡ refused Long ns out
-unfolding deliveredOn
-deliver-over ns p out v h b e = rw (v, frame-over p h b, eq-eqb (getD p 0 0) 0xAA e)
 
 -- ---- fewer than 4 bytes are never replied to
 

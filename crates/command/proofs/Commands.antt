@@ -1,18 +1,16 @@
 -- Commands: a built packet reads back as the same command, an accepted packet is the one built from its parts, a refused builder leaves the buffer as it stood.
 use Prim.Native.Nat.{ℕ, _+_, _%_, _/_, _<_, _≤_}
-use mathlib.Core.Bool.{Bool, true, false, cond, _&&_}
+use mathlib.Core.Bool.{Bool, true, false, cond}
 use mathlib.Core.List.{List}
 use mathlib.Core.Path.{_≡_, refl}
 use native.Mathlib.Omega.{arith}
 use lib.ListN.{length, getD}
 use borrow.Author.Tests.{lt-ltb, le-ltb, leb-true}
-use Rattle.wire.specs.Promise.{Outcome}
 use Rattle.wire.specs.Address.{isIndividual, isGroup, inRange, byteOf}
-use Rattle.buffer.specs.Buffer.{refused, place}
+use Rattle.buffer.specs.Buffer.{place}
 use Rattle.buffer.specs.Change.{AllBytes}
 use Rattle.wire.specs.declared.address.Address.{Address}
 use Rattle.wire.specs.declared.refusal.Refusal.the-variants.{Range}
-use Rattle.buffer.specs.declared.Built.{Built}
 use Rattle.wire.proofs.Addresses.{address-back, address-in-range}
 use Rattle.wire.proofs.Choice.{both}
 use Rattle.buffer.proofs.Refusals.{Spares, place-spares, else-spares}
@@ -96,30 +94,7 @@ pub built-written : (to : Address) (c : Command) (out : List ℕ) → inRange to
 unfolding commandBuilt buildFor
 built-written to c out h f = rw (h, f)
 
--- 6, whatever the room
-off-range : (t u : Bool) (o r : Outcome Built (List ℕ)) → (t && u) ≡ false → cond t (cond u o r) r ≡ r
-off-range true true o r h = absurd (let z : _≡_ {A = ℕ} 0 1 = cc in omega arith)
-off-range true false o r h = refl
-off-range false u o r h = refl
-
-pub built-refused : (to : Address) (c : Command) (out : List ℕ) → (inRange to && fitsOf c) ≡ false → commandBuilt to c out ≡ refused Range out
-unfolding commandBuilt buildFor
-built-refused to c out h = off-range (inRange to) (fitsOf c) (place (packetFor to c) out) (refused Range out) h
-
 -- any number but 0 leaves the buffer as it stood
 pub command-spares : (to : Address) (c : Command) (out : List ℕ) → Spares out (commandBuilt to c out)
 unfolding commandBuilt buildFor
 command-spares to c out = else-spares (inRange to) Range out _ (else-spares (fitsOf c) Range out _ (place-spares (packetFor to c) out))
-
--- ---- the packet
-
-pub packet-length : (a : Address) (c : Command) → (4 ≤ length (packetFor a c)) × (length (packetFor a c) ≤ 8)
-packet-length a c =
-    let e = packets.built-length (byteOf a) (codeOf c) (bytesOf c) in
-    let z = sized c in
-    (omega arith, omega arith)
-
-pub packet-bytes : (a : Address) (c : Command) → byteOf a < 256 → AllBytes (bytesOf c) → AllBytes (packetFor a c)
-packet-bytes a c h d =
-    let z = sized c in
-    packet.packet-bytes (byteOf a) (codeOf c) (bytesOf c) h (omega arith) (omega arith) d

@@ -10,7 +10,6 @@ use Rattle.wire.specs.declared.address.Individual.{Individual}
 use Rattle.wire.specs.declared.address.Group.{Group}
 use Rattle.wire.specs.declared.address.Address.{Address}
 use Rattle.wire.specs.declared.address.Address.the-variants as address
-use Rattle.wire.specs.declared.refusal.Refusal.{Refusal}
 use Rattle.wire.specs.Numbers.{done}
 use Rattle.command.specs.declared.Command.{Command}
 use Rattle.command.specs.declared.Command.the-variants.{SetAddress, DefineStatus, ReadStatus, SetPwm, SynchOutput, SetOutputs, SetSynchOutput, SetTimerMode, SynchInput, Nop, HardReset}
@@ -19,9 +18,9 @@ use Rattle.session.specs.declared.Session.{Session}
 use Rattle.placing.specs.Placing.{isPlacing}
 use Rattle.session.specs.Session.{offChain, stepNumber}
 use Rattle.session.proofs.Sessions.{on-chain}
-use Rattle.sending.specs.declared.Check.the-variants.{Clear, Refuse}
+use Rattle.sending.specs.declared.Check.the-variants.{Clear}
 use Rattle.host.specs.Calls.{badGroup, orderCheck, regroupCheck, orderOf, regroupOf}
-use Rattle.sending.proofs.Sent.{Sends, transmitted-sends, by-clear, node-fits, refusing, Went, went}
+use Rattle.sending.proofs.Sent.{Sends, transmitted-sends, by-clear, node-fits, Went, went}
 use Rattle.host.proofs.Clear.{order-says, regroup-says}
 
 ordinary-fits : (c : Command) → isPlacing c ≡ false → fitsOf c ≡ true
@@ -55,15 +54,6 @@ regroup-sent s i g leader out h =
     let t = regroup-says s i g leader h in
     let f = node-fits (s .n) (i .0) (t .session .valid .few) (t .node .high) in
     by-clear (regroupCheck s i g leader) s _ _ _ out _ h (transmitted-sends s _ _ _ out f (rw (f, t .group)))
-
-module _ (s : Session) (out : List ℕ) (why : Refusal) where
-  pub order-refuses : (to : Address) (c : Command) → orderCheck s to c ≡ Refuse why → orderOf s to c out ≡ refusing s why out
-  unfolding orderOf
-  order-refuses to c h = rw h
-
-  pub regroup-refuses : (i : Individual) (g : Group) (leader : Bool) → regroupCheck s i g leader ≡ Refuse why → regroupOf s i g leader out ≡ refusing s why out
-  unfolding regroupOf
-  regroup-refuses i g leader h = rw h
 
 module _ (s : Session) (out : List ℕ) where
   pub order-went : (to : Address) (c : Command) → stepNumber (orderOf s to c out .answer) ≡ done → Went (orderCheck s to c) s to to c out (orderOf s to c out)

@@ -38,6 +38,3 @@ get-make f outputs = refl
 get-make f pwm = refl
 get-make f held = refl
 get-make f timer = refl
-
-pub make-get : (x : Settings) → make (get x) ≡ x
-make-get x = refl

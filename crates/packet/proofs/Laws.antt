@@ -1,18 +1,14 @@
--- A built packet and the data part of bytes hold bytes, and a refused builder leaves the buffer as it stood.
-use Prim.Native.Nat.{ℕ, _<_, _≤_}
-use mathlib.Core.List.{List, _∷_}
-use native.Mathlib.Omega.{arith}
+-- The data part of bytes holds bytes, and a refused builder leaves the buffer as it stood.
+use Prim.Native.Nat.{ℕ}
+use mathlib.Core.List.{List}
 use lib.Dec.{ltb}
 use lib.ListN.{length, drop}
 use Rattle.buffer.specs.Change.{AllBytes}
 use Rattle.wire.specs.declared.refusal.Refusal.the-variants.{Range}
 use Rattle.packet.specs.Packet.{countOf, dataOf}
-use Rattle.packet.specs.Build.{headOf, packetOf, buildOf}
-use Rattle.buffer.proofs.Bytes.{take-bytes, drop-bytes, with-sum-bytes}
+use Rattle.packet.specs.Build.{packetOf, buildOf}
+use Rattle.buffer.proofs.Bytes.{take-bytes, drop-bytes}
 use Rattle.buffer.proofs.Refusals.{Spares, place-spares, test-spares}
-
-pub packet-bytes : (a c : ℕ) (d : List ℕ) → a < 256 → c < 16 → length d ≤ 15 → AllBytes d → AllBytes (packetOf a c d)
-packet-bytes a c d ha hc hn h = (omega arith, with-sum-bytes (a ∷ headOf c d ∷ d) (ha, (omega arith, h)))
 
 pub data-bytes : (s : List ℕ) → AllBytes s → AllBytes (dataOf s)
 unfolding dataOf

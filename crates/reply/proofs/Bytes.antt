@@ -7,7 +7,6 @@ use native.Mathlib.Omega.{arith}
 use native.Mathlib.Nat.{add-zero, pow-suc, div-lt-iff-lt-mul}
 use lib.ListN.{length, set}
 use lib.Seq.{sets}
-use Rattle.buffer.specs.Change.{AllBytes}
 use Rattle.reply.specs.Items.{bytesOf, asked, Wrote}
 
 pub bytes-length : (n w : ℕ) → length (bytesOf n w) ≡ n
@@ -25,11 +24,6 @@ bytes-back zero w h = omega arith
 bytes-back (suc n) w h =
     let k : w / 256 < 256 ^ n = div-lt-iff-lt-mul {k = 256} {x = w} {y = 256 ^ n} (omega arith) .1 (rw pow-suc at h) in
     omega (arith, bytes-back n (w / 256) k)
-
--- each of them is a byte, whatever the value
-pub bytes-are : (n w : ℕ) → AllBytes (bytesOf n w)
-bytes-are zero w = tt
-bytes-are (suc n) w = (omega arith, bytes-are n (w / 256))
 
 -- an item that is asked for has the room that its count needs
 pub asked-room : (t : Bool) (n w at m : ℕ) → t ≡ true → at + length (asked t (bytesOf n w)) ≤ m → at + n ≤ m

@@ -10,7 +10,6 @@ use borrow.Author.Tests.{lt-ltb, le-ltb, ltb-true, ltb-false}
 use Rattle.wire.specs.Promise.{Outcome}
 use Rattle.wire.specs.Address.{isIndividual, inRange}
 use Rattle.wire.specs.declared.address.Address.{Address}
-use Rattle.wire.specs.declared.refusal.Refusal.{Refusal}
 use Rattle.wire.specs.declared.refusal.Refusal.the-variants.{Room}
 use Rattle.buffer.specs.Buffer.{place}
 use Rattle.wire.specs.Numbers.{done}
@@ -66,10 +65,6 @@ by-clear k s line to c out o p h = rw p h
 -- a node 1 to n has an individual address
 pub node-fits : (n k : ℕ) → n ≤ 31 → k ≤ n → isIndividual k ≡ true
 node-fits n k p q = lt-ltb k 0x80 (omega arith)
-
--- refused by its check: the number alone
-abbrev pub refusing : Session → Refusal → List ℕ → Outcome Step (List ℕ)
-refusing s why out = record { answer = refusedStep s why; left = out }
 
 -- a call with number 0: its check was clear, and its packet went out
 pub record Went (k : Check) (s : Session) (line to : Address) (c : Command) (out : List ℕ) (o : Outcome Step (List ℕ)) : Type 0 where

@@ -3,15 +3,14 @@ use Prim.Native.Nat.{ℕ, _+_}
 use mathlib.Core.List.{List}
 use mathlib.Core.Path.{_≡_, refl}
 use native.Mathlib.Omega.{arith}
-use Rattle.wire.specs.declared.refusal.Refusal.{Refusal}
 use Rattle.wire.specs.Numbers.{done}
 use Rattle.command.specs.declared.Command.the-variants.{SetAddress, Nop}
 use Rattle.session.specs.declared.Session.{Session}
 use Rattle.placing.specs.Placing.{givenPlace}
 use Rattle.session.specs.Session.{nodeAt, stepNumber}
-use Rattle.sending.specs.declared.Check.the-variants.{Clear, Refuse}
+use Rattle.sending.specs.declared.Check.the-variants.{Clear}
 use Rattle.walk.specs.Walk.{nextCheck, askCheck, nextOf, askOf}
-use Rattle.sending.proofs.Sent.{Sends, transmitted-sends, by-clear, node-fits, refusing, Went, went}
+use Rattle.sending.proofs.Sent.{Sends, transmitted-sends, by-clear, node-fits, Went, went}
 use Rattle.walk.proofs.Clear.{next-says, ask-says}
 
 pub next-sent : (s : Session) (out : List ℕ) → nextCheck s ≡ Clear
@@ -30,15 +29,6 @@ ask-sent s out h =
     let w = t .walking in
     let f = t .session .valid .few in
     by-clear (askCheck s) s _ _ _ out _ h (transmitted-sends s _ _ _ out (node-fits (s .n) (s .walk + 1) f (omega arith)) refl)
-
-module _ (s : Session) (out : List ℕ) (why : Refusal) where
-  pub next-refuses : nextCheck s ≡ Refuse why → nextOf s out ≡ refusing s why out
-  unfolding nextOf
-  next-refuses h = rw h
-
-  pub ask-refuses : askCheck s ≡ Refuse why → askOf s out ≡ refusing s why out
-  unfolding askOf
-  ask-refuses h = rw h
 
 module _ (s : Session) (out : List ℕ) where
   pub next-went : stepNumber (nextOf s out .answer) ≡ done

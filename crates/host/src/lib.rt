@@ -16,8 +16,9 @@ use wire::Group;
 use wire::Individual;
 use wire::Refusal;
 ghost use mathlib.Core.Path.{_≡_};
-ghost use Rattle.wire.specs.Promise.{Lending};
+ghost use Rattle.wire.specs.Promise.{Promise, Lending};
 ghost use Rattle.session.specs.Session.{stepNumber};
+ghost use Rattle.sending.specs.Sending.{checkNumber};
 ghost use Rattle.host.specs.Calls.{badGroup, clashOf, orderCheck, regroupCheck, orderOf, regroupOf};
 
 // 6: a group below 0x80.
@@ -32,7 +33,7 @@ fn is_bad_group(to: Address) -> bool
 
 // 12, 7, then 6, 10, 9.
 fn order_check(s: Session, to: Address, c: Command) -> Check
-    ensures { λ r. ⌜ r ≡ orderCheck s to c ⌝ }
+    ensures { λ r. ⌜ Promise checkNumber r (orderCheck s to c) ⌝ }
 {
     ready_check(s)
         .refuse_if(is_placing(c), Refusal::Range)
@@ -54,7 +55,7 @@ fn does_clash(s: Session, node: Individual, group: Group, leader: bool) -> bool
 
 // 12, 7, then 6, 10, 9, 11.
 fn regroup_check(s: Session, node: Individual, group: Group, leader: bool) -> Check
-    ensures { λ r. ⌜ r ≡ regroupCheck s node group leader ⌝ }
+    ensures { λ r. ⌜ Promise checkNumber r (regroupCheck s node group leader) ⌝ }
 {
     ready_check(s)
         .refuse_if(!group.in_range(), Refusal::Range)

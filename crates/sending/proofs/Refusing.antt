@@ -1,21 +1,22 @@
 -- Checks; a law for each exit of the code.
 use mathlib.Core.Bool.{Bool, true, false}
 use mathlib.Core.Path.{_≡_}
+use Rattle.wire.specs.Promise.{Promise, promised}
 use Rattle.wire.specs.declared.refusal.Refusal.{Refusal}
 use Rattle.session.specs.declared.Session.{Session}
 use Rattle.session.specs.Session.{closedOf}
 use Rattle.sending.specs.declared.Check.{Check}
 use Rattle.sending.specs.declared.Check.the-variants.{Clear, Refuse}
-use Rattle.sending.specs.Sending.{refuseIf, waits, waitingOf}
+use Rattle.sending.specs.Sending.{checkNumber, refuseIf, waits, waitingOf}
 
-pub refused-now : (k : Check) (test : Bool) (why : Refusal) → k ≡ Clear → test ≡ true → Refuse why ≡ refuseIf k test why
-refused-now k test why p q = rw (p, q)
+pub refused-now : (k : Check) (test : Bool) (why : Refusal) → k ≡ Clear → test ≡ true → Promise checkNumber (Refuse why) (refuseIf k test why)
+refused-now k test why p q = promised (rw (p, q))
 
-pub not-refused : (k : Check) (test : Bool) (why : Refusal) → k ≡ Clear → test ≡ false → Clear ≡ refuseIf k test why
-not-refused k test why p q = rw (p, q)
+pub not-refused : (k : Check) (test : Bool) (why : Refusal) → k ≡ Clear → test ≡ false → Promise checkNumber Clear (refuseIf k test why)
+not-refused k test why p q = promised (rw (p, q))
 
-pub refused-before : (k : Check) (test : Bool) (why first : Refusal) → k ≡ Refuse first → Refuse first ≡ refuseIf k test why
-refused-before k test why first p = rw p
+pub refused-before : (k : Check) (test : Bool) (why first : Refusal) → k ≡ Refuse first → Promise checkNumber (Refuse first) (refuseIf k test why)
+refused-before k test why first p = promised (rw p)
 
 module _ (s : Session) where
   pub closed-waits-not : (v : Bool) → v ≡ closedOf s → v ≡ true → false ≡ waitingOf s

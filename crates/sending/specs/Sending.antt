@@ -3,6 +3,7 @@ use Prim.Native.Nat.{ℕ}
 use mathlib.Core.Bool.{Bool, true, false, cond}
 use mathlib.Core.List.{List}
 use Rattle.wire.specs.Promise.{Outcome}
+use Rattle.wire.specs.Numbers.{done, numberOf}
 use Rattle.wire.specs.declared.address.Address.{Address}
 use Rattle.wire.specs.declared.refusal.Refusal.{Refusal}
 use Rattle.wire.specs.declared.refusal.Refusal.the-variants.{Busy, Closed}
@@ -20,6 +21,11 @@ use Rattle.session.specs.declared.Step.{Step}
 use Rattle.session.specs.Session.{refusedStep, closedOf}
 use Rattle.sending.specs.declared.Check.{Check}
 use Rattle.sending.specs.declared.Check.the-variants.{Clear, Refuse}
+
+-- the number of what the tests came to
+abbrev pub checkNumber : Check → ℕ
+checkNumber Clear = done
+checkNumber (Refuse why) = numberOf why
 
 -- refused already, or refused if the test holds
 abbrev pub refuseIf : Check → Bool → Refusal → Check

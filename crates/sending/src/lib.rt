@@ -12,9 +12,9 @@ use session::refuse;
 use wire::Address;
 use wire::Refusal;
 ghost use mathlib.Core.Path.{_≡_};
-ghost use Rattle.wire.specs.Promise.{Lending};
+ghost use Rattle.wire.specs.Promise.{Promise, Lending};
 ghost use Rattle.session.specs.Session.{stepNumber};
-ghost use Rattle.sending.specs.Sending.{refuseIf, waits, waitingOf, readyCheck, isReset, opened, transmitted};
+ghost use Rattle.sending.specs.Sending.{checkNumber, refuseIf, waits, waitingOf, readyCheck, isReset, opened, transmitted};
 
 // What the tests so far came to.
 pub enum Check {
@@ -25,7 +25,7 @@ pub enum Check {
 impl Check {
     // Refused already, or refused now if the test holds.
     pub fn refuse_if(self, test: bool, why: Refusal) -> Check
-        ensures { λ r. ⌜ r ≡ refuseIf self test why ⌝ }
+        ensures { λ r. ⌜ Promise checkNumber r (refuseIf self test why) ⌝ }
     {
         match self {
             Check::Refuse(first) => Check::Refuse(first),
@@ -61,7 +61,7 @@ fn is_waiting(s: Session) -> bool
 
 // 12 and 7, which every call that sends tests first.
 pub fn ready_check(s: Session) -> Check
-    ensures { λ r. ⌜ r ≡ readyCheck s ⌝ }
+    ensures { λ r. ⌜ Promise checkNumber r (readyCheck s) ⌝ }
 {
     Check::Clear
         .refuse_if(is_closed(s), Refusal::Closed)

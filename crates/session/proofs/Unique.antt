@@ -20,4 +20,4 @@ pub off-chain-unique : OneResult off-chain.Post
 off-chain-unique κs a r r′ s s′ p q = p ∙ sym q
 
 pub refuse-unique : OneResult refuse.Post
-refuse-unique κs a r r′ s s′ p q = p ∙ sym q
+refuse-unique κs a r r′ s s′ p q = p .answer ∙ sym (q .answer)

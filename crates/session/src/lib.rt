@@ -8,7 +8,7 @@ use wire::Individual;
 use wire::Refusal;
 ghost use mathlib.Core.Path.{_≡_};
 ghost use Rattle.wire.specs.Promise.{Promise};
-ghost use Rattle.session.specs.Session.{refusedStep, offChain, strayOf, validOf, closedOf, askDue, lookNumber, lookOf};
+ghost use Rattle.session.specs.Session.{stepNumber, refusedStep, offChain, strayOf, validOf, closedOf, askDue, lookNumber, lookOf};
 
 // What waits for an answer: nothing, or a command that was sent to an address. The walk's Set Address has the node that it gives its number.
 pub enum Exchange {
@@ -39,7 +39,7 @@ pub struct Step {
 
 // A refused call gives back the session as it was handed in.
 pub fn refuse(s: Session, why: Refusal) -> Step
-    ensures { λ r. ⌜ r ≡ refusedStep s why ⌝ }
+    ensures { λ r. ⌜ Promise stepNumber r (refusedStep s why) ⌝ }
 {
     Step {
         end: End::Refused(why),

@@ -14,13 +14,14 @@ use wire::Address;
 use wire::Individual;
 use wire::Refusal;
 ghost use mathlib.Core.Path.{_≡_};
-ghost use Rattle.wire.specs.Promise.{Lending};
+ghost use Rattle.wire.specs.Promise.{Promise, Lending};
 ghost use Rattle.session.specs.Session.{stepNumber};
+ghost use Rattle.sending.specs.Sending.{checkNumber};
 ghost use Rattle.walk.specs.Walk.{nextCheck, askCheck, nextOf, askOf};
 
 // 9 where the walk has ended, or "ask" is due instead.
 fn next_check(s: Session) -> Check
-    ensures { λ r. ⌜ r ≡ nextCheck s ⌝ }
+    ensures { λ r. ⌜ Promise checkNumber r (nextCheck s) ⌝ }
 {
     ready_check(s)
         .refuse_if(s.n <= s.walk, Refusal::NotDue)
@@ -29,7 +30,7 @@ fn next_check(s: Session) -> Check
 
 // 9 where the walk has ended, or nothing is unconfirmed.
 fn ask_check(s: Session) -> Check
-    ensures { λ r. ⌜ r ≡ askCheck s ⌝ }
+    ensures { λ r. ⌜ Promise checkNumber r (askCheck s) ⌝ }
 {
     ready_check(s)
         .refuse_if(s.n <= s.walk, Refusal::NotDue)

@@ -1,12 +1,13 @@
 -- The tests in their order.
 use borrow.Author.Needs.{needs}
+use Rattle.wire.specs.Promise.{promised}
 use Rattle.host.specs.Calls.{orderCheck}
 use Rattle.host.proofs.order_check.Statement.{statement}
 use Rattle.host.proofs.order_check.Tie as tie
 
 in-order : tie.Need-returns
 unfolding orderCheck
-in-order c = rw (c .refuse-if4 .ensures, c .before .before .refuse-if3 .ensures, c .before .before .before .off-chain .ensures, c .before .before .before .before .refuse-if2 .ensures, c .before .before .before .before .before .is-bad-group .ensures, c .before .before .before .before .before .before .refuse-if .ensures, c .before .before .before .before .before .before .before .is-placing .ensures, c .before .before .before .before .before .before .before .before .ready-check .ensures)
+in-order c = promised (rw (c .refuse-if4 .ensures .answer, c .before .before .refuse-if3 .ensures .answer, c .before .before .before .off-chain .ensures, c .before .before .before .before .refuse-if2 .ensures .answer, c .before .before .before .before .before .is-bad-group .ensures, c .before .before .before .before .before .before .refuse-if .ensures .answer, c .before .before .before .before .before .before .before .is-placing .ensures, c .before .before .before .before .before .before .before .before .ready-check .ensures .answer))
 
 pub order-check-spec : {M : Type 1} → statement M
 order-check-spec =

@@ -96,32 +96,22 @@ fn conclude(s: Session, to: Address, c: Command, answer: Answer) -> Session
     let entries = s.entries;
     match answer {
         Answer::Marked => idle_at(s, s.walk, entries),
-        Answer::Silent => idle_at(
-            s,
-            s.walk,
-            ledger::settle(entries, s.n, to, c, Answer::Silent),
-        ),
+        Answer::Silent => {
+            let doubted = ledger::settle(entries, s.n, to, c, Answer::Silent);
+            idle_at(s, s.walk, doubted)
+        }
         Answer::Clear => {
             if is_giving(s, to, c) {
-                return idle_at(
-                    s,
-                    s.walk + 1,
-                    ledger::settle(entries, s.n, to, c, Answer::Clear),
-                );
+                let given = ledger::settle(entries, s.n, to, c, Answer::Clear);
+                return idle_at(s, s.walk + 1, given);
             }
             if is_asking(s, to, c) {
-                let given = Command::SetAddress(given_place(s.walk + 1));
-                return idle_at(
-                    s,
-                    s.walk + 1,
-                    ledger::settle(entries, s.n, to, given, Answer::Clear),
-                );
+                let asked = Command::SetAddress(given_place(s.walk + 1));
+                let given = ledger::settle(entries, s.n, to, asked, Answer::Clear);
+                return idle_at(s, s.walk + 1, given);
             }
-            idle_at(
-                s,
-                s.walk,
-                ledger::settle(entries, s.n, to, c, Answer::Clear),
-            )
+            let noted = ledger::settle(entries, s.n, to, c, Answer::Clear);
+            idle_at(s, s.walk, noted)
         }
     }
 }

@@ -3,8 +3,9 @@ use Prim.Native.Nat.{ℕ, _+_}
 use mathlib.Core.Bool.{Bool, true, false}
 use mathlib.Core.List.{List, [], _∷_}
 use mathlib.Core.Option.{Option, none, some}
-use mathlib.Core.Path.{_≡_, refl}
-use lib.ListN.{replicate}
+use mathlib.Core.Path.{_≡_, refl, ap, _∙_}
+use native.Mathlib.Omega.{arith}
+use lib.ListN.{getD, replicate}
 use Rattle.buffer.specs.Sum.{total, endsInSum}
 use Rattle.buffer.specs.Buffer.{place}
 use Rattle.packet.specs.Packet.{dataOf, frameOf, intactOf}
@@ -22,7 +23,7 @@ use Rattle.node.specs.Node.{powerUp, nothing}
 use Rattle.reply.specs.Items.{itemBytes}
 use Rattle.reply.specs.Reply.{replyOf}
 use Rattle.chain.specs.One.{acts, replies, turned}
-use Rattle.chain.specs.Chain.{after, replierIn, reply, said}
+use Rattle.chain.specs.Chain.{blank, after, replierIn, reply, said}
 use Rattle.entry.specs.declared.Entry.{Entry}
 use Rattle.entry.specs.Entry.{entryUp}
 use Rattle.ledger.specs.Ledger.{ledgerUp, leastOf, eachFrom, settled}
@@ -42,6 +43,7 @@ use Rattle.line.specs.Line.{Line, quiet, going, Arrives, Returns, nodesA
 use Rattle.line.specs.Line as line
 use Rattle.line.specs.World.{World, called, Comes, start, power, call, deliver, report}
 use Rattle.line.specs.Courses.{Courses, unasked, asked, walked, lost, again}
+use Rattle.line.specs.Late.{Late}
 
 -- the 29 entries past the second, and bench values 0
 rest : List Entry
@@ -223,6 +225,23 @@ fourth : Comes (worldAt (pair 2 Idle (addressed 1) (entryWith (givenPlace 2) 5 (
 fourth =
     round third (calls.order (nodeAt 2) (SetOutputs 5)) tt _ _ (placed 1 0 ∷ placed 2 5 ∷ []) _ _ (sends (nodeAt 2) (SetOutputs 5)) set5 (some set5) (some good) Clear
     (set-outputs rest (entryWith (givenPlace 2) 0 (knownBut false true true)) _ _) line.whole (rw (says-5 5) line.whole) (takes-5 5) (good-5 rest) heard-good
+
+-- the first "next" is on its way
+sent : Comes (worldAt (pair 0 (Waiting (nodeAt 1) (SetAddress (givenPlace 1))) entryUp entryUp rest) (up ∷ up ∷ []) (going (gives 1) (given 1)) [])
+sent = rw (next-1 rest) at (call powers calls.next tt buffer)
+
+pub late : Late
+unfolding poweredOf ledgerUp
+late = record {
+  world = _;
+  comes = sent;
+  packet = given 1;
+  sent = refl;
+  bench = zeros ∷ zeros ∷ [];
+  told = refl;
+  known = refl;
+  differs = λ e. let z : _≡_ {A = ℕ} 0 1 = ap (λ (p : Place). p .address .0) (e ∙ ap (λ (ns : List Node). getD ns 0 blank .settings .place) takes-1) in omega arith;
+}
 
 pub courses : Courses
 courses = record {

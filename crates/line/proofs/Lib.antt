@@ -19,3 +19,4 @@ pub mod Course
 pub mod Calls
 pub mod Demand3
 pub mod Courses
+pub mod Missed

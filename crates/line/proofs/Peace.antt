@@ -20,24 +20,21 @@ use Rattle.line.proofs.Closing.{entryAt}
 use Rattle.line.proofs.Invariant.{at, Unplaced, Edge, Invariant}
 
 -- a node of its own address, or one at 0x00 that the walk has not come to
-Own : Session → List Node → ℕ → Type 0
+abbrev pub Own : Session → List Node → ℕ → Type 0
 Own h ns i = (at ns i .settings .place .address .0 ≡ suc i) ⊎ ((at ns i .settings .place .address .0 ≡ 0) × (at ns i .addressed ≡ false) × (h .walk ≤ i))
 
 module _ (h : Session) (ns : List Node) (inv : Invariant h ns) where
   unplaced : (i : ℕ) → h .walk ≤ i → Unplaced (at ns i .settings) (at ns i .addressed) → Own h ns i
-  unfolding Own
   unplaced i l u = inr (u .1, u .0, l)
 
   edge-own : (i : ℕ) → h .walk ≡ i → i < h .n → Own h ns i
-  unfolding Own
   edge-own i e l = subst (Own h ns) e (go (inv .edge (omega arith)))
     where
       go : Edge (entryAt h (h .walk)) (at ns (h .walk) .settings) (at ns (h .walk) .addressed) (h .walk + 1) → Own h ns (h .walk)
       go (inl u) = unplaced (h .walk) (omega arith) u
       go (inr p) = inl (ap (λ q. q .address .0) (p .1) ∙ omega arith)
 
-  own : (i : ℕ) → i < h .n → (b c : Bool) → ltb i (h .walk) ≡ b → eqb (h .walk) i ≡ c → Own h ns i
-  unfolding Own
+  pub own : (i : ℕ) → i < h .n → (b c : Bool) → ltb i (h .walk) ≡ b → eqb (h .walk) i ≡ c → Own h ns i
   own i l true c e f = inl (inv .front i (ltb-true i (h .walk) e) .1)
   own i l false true e f = edge-own i (eqb-true (h .walk) i f) l
   own i l false false e f =
@@ -56,7 +53,6 @@ module _ (h : Session) (ns : List Node) (inv : Invariant h ns) where
 
   only-address : (a i j : ℕ) → i < h .n → j < h .n → Own h ns i → Own h ns j → a ≡ at ns i .settings .place .address .0 → a ≡ at ns j .settings .place .address .0
       → hearsAt ns i ≡ true → hearsAt ns j ≡ true → (b c : Bool) → ltb i j ≡ b → ltb j i ≡ c → i ≡ j
-  unfolding Own
   only-address a i j l m (inl p) (inl q) e f x y b c g k = omega arith
   only-address a i j l m (inl p) (inr q) e f x y b c g k = absurd (omega (arith, q .0))
   only-address a i j l m (inr p) (inl q) e f x y b c g k = absurd (omega (arith, p .0))

@@ -42,12 +42,12 @@ pub record Kept (w : World) : Type 0 where
 abbrev pub Demand3 : Type 0
 Demand3 = (w : World) → Comes w → w .up ≡ true → w .host .exchange ≡ Idle → Kept w
 
--- at most one node really leads a group
+-- from a power-up to the next Hard Reset, also in mid-exchange, at most one node really leads a group
 abbrev pub OneLeader : Type 0
 OneLeader = (w : World) → Comes w → w .up ≡ true → (g : Group) (j k : ℕ) → 1 ≤ j → j ≤ w .host .n → 1 ≤ k → k ≤ w .host .n
     → answers (address.Group g) (nodeOf (w .nodes) j) ≡ true → answers (address.Group g) (nodeOf (w .nodes) k) ≡ true → j ≡ k
 
--- so no two nodes ever reply at once
+-- so no two nodes reply at once to a packet sent in that time, whatever becomes of it on its way
 abbrev pub NoCollision : Type 0
 NoCollision = (w : World) → Comes w → w .up ≡ true → (what : Sending) (p : List ℕ) → w .line ≡ going what p
     → (q : Option (List ℕ)) → Arrives p q → saidAfter q (w .nodes) ≡ clash → ⊥

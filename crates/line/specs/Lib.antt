@@ -4,3 +4,5 @@ pub mod Line
 pub mod World
 pub mod Demand3
 pub mod Courses
+pub mod Late
+pub mod Missed

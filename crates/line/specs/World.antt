@@ -35,7 +35,7 @@ started ns = record { host = freshOf; nodes = ns; line = quiet; past = []; up = 
 abbrev pub hosting : Session → World → World
 hosting s w = record { host = s; nodes = w .nodes; line = w .line; past = w .past; up = w .up }
 
--- all nodes in power-up state, each with the bench values that it has
+-- all nodes in power-up state, each with the bench values that it has; what was on the line reaches no node any more (Late says why this is asked)
 abbrev pub powered : List Bench → Session → World
 powered bs s = record { host = s; nodes = map powerUp bs; line = quiet; past = []; up = true }
 

@@ -1,0 +1,126 @@
+-- A Set Address that never arrived: "ask" alone is sent, nobody replies as the new node would, and all stays as it was.
+use Prim.Native.Nat.{ℕ, _+_, _-_, _<_}
+use mathlib.Core.Bool.{Bool, true, false, cond, _&&_, true≢false}
+use mathlib.Core.List.{List}
+use mathlib.Core.Logic.{inl, inr}
+use mathlib.Core.Option.{Option}
+use mathlib.Core.Path.{_≡_, refl, sym, ap, subst, _∙_}
+use native.Mathlib.Omega.{arith}
+use lib.Dec.{eqb, ltb}
+use lib.ListN.{take}
+use borrow.Author.Tests.{eqb-true}
+use Rattle.wire.proofs.Choice.{both}
+use Rattle.wire.specs.declared.address.Address.{Address}
+use Rattle.command.specs.declared.Command.{Command}
+use Rattle.command.specs.declared.Command.the-variants.{Nop}
+use Rattle.status.specs.declared.Answer.{Answer}
+use Rattle.status.specs.declared.Answer.the-variants.{Clear, Marked, Silent}
+use Rattle.node.specs.declared.state.Node.{Node}
+use Rattle.node.specs.Setting.{place}
+use Rattle.chain.specs.One.{answers}
+use Rattle.chain.specs.Chain.{hearsAt}
+use Rattle.entry.specs.Entry.{knows, nop}
+use Rattle.session.specs.declared.Exchange.the-variants.{Idle}
+use Rattle.session.specs.declared.Session.{Session}
+use Rattle.session.specs.declared.End.the-variants.{Sent}
+use Rattle.session.specs.Session.{nodeAt, entryOf, endNumber}
+use Rattle.sending.specs.Sending.{opened}
+use Rattle.sending.proofs.Sent.{opened-waits}
+use Rattle.walk.proofs.Clear.{next-says}
+use Rattle.walk.proofs.Sent.{next-went}
+use Rattle.host.proofs.Clear.{order-says, regroup-says}
+use Rattle.host.proofs.Sent.{order-went, regroup-went}
+use Rattle.reports.specs.Report.{concluded}
+use Rattle.line.specs.History.{Sending, asks}
+use Rattle.line.specs.Call.{Call, calledOf}
+use Rattle.line.specs.Call as calls
+use Rattle.line.specs.Line.{reportedOf, heardIn}
+use Rattle.line.specs.Missed.{OnlyPowerUp}
+use Rattle.line.proofs.Due.{Due, next, ask, order, regroup, accepted}
+use Rattle.line.proofs.Closing.{waitingAt, entryAt, due-opens, reported-concludes}
+use Rattle.line.proofs.Returning.{marked-returns, quiet-returns}
+use Rattle.line.proofs.Invariant.{at, acts, Edge, Invariant, Answered, Exchanged}
+use Rattle.line.proofs.Peace.{Own, own, no-clash}
+use Rattle.line.proofs.Delivery.{exchanged}
+use Rattle.line.proofs.Course.{when-idle, holds}
+
+same : (t b : Bool) → cond t b b ≡ b
+same true b = refl
+same false b = refl
+
+module _ (h : Session) (ns : List Node) (inv : Invariant h ns) (l : h .walk < h .n) (u : at ns (h .walk) .addressed ≡ false) where
+  -- the node that the walk is at isn't at its new address
+  elsewhere : at ns (h .walk) .settings .place .address .0 ≡ h .walk + 1 → ⊥
+  elsewhere e = go (inv .edge l)
+    where
+      go : Edge (entryAt h (h .walk)) (at ns (h .walk) .settings) (at ns (h .walk) .addressed) (h .walk + 1) → ⊥
+      go (inl p) = omega (arith, p .1)
+      go (inr p) = true≢false (sym (p .2) ∙ u)
+
+  -- so nobody replies to "ask" as that node would
+  nobody : {whole : ℕ → Bool} → Answered (nodeAt (h .walk + 1)) ns whole → ⊥
+  nobody a = go (own h ns inv i b (ltb i (h .walk)) (eqb (h .walk) i) refl refl)
+    where
+      i : ℕ
+      i = a .index
+
+      b : i < h .n
+      b = omega (arith, a .inside, inv .long)
+
+      e : h .walk + 1 ≡ at ns i .settings .place .address .0
+      e = eqb-true (h .walk + 1) _ (both (hearsAt ns i) (answers (nodeAt (h .walk + 1)) (at ns i)) (a .replies) .1)
+
+      go : Own h ns i → ⊥
+      go (inl p) = let f : i ≡ h .walk = omega (arith, e) in elsewhere (subst (λ (j : ℕ). at ns j .settings .place .address .0 ≡ h .walk + 1) f (sym e))
+      go (inr p) = omega (arith, e, p .0)
+
+  pub stays-out : {ms : List Node} {a : Answer} → Exchanged (nodeAt (h .walk + 1)) Nop ns ms a → (a ≡ Clear → ⊥) × (at ms (h .walk) .addressed ≡ false)
+  stays-out x = ((λ e. nobody (x .clear e)), x .addressed (h .walk) (omega (arith, inv .long)) ∙ same (x .whole (h .walk) && acts (nodeAt (h .walk + 1)) ns (h .walk)) (at ns (h .walk) .addressed) ∙ u)
+
+-- an "ask" that isn't confirmed leaves the session as it was
+unconfirmed : (s : Session) → s .exchange ≡ Idle → (a : Answer) → (a ≡ Clear → ⊥) → concluded (waitingAt s (nodeAt (s .walk + 1)) Nop) (nodeAt (s .walk + 1)) Nop a ≡ s
+unconfirmed s e Clear n = absurd (n refl)
+unconfirmed s e Marked n = rw (opened-waits s (nodeAt (s .walk + 1)) Nop refl) at (marked-returns s (nodeAt (s .walk + 1)) Nop e refl)
+unconfirmed s e Silent n = rw (opened-waits s (nodeAt (s .walk + 1)) Nop refl) at (quiet-returns nop s (nodeAt (s .walk + 1)) e)
+
+-- what "ask" sends, and what the report of whatever came leaves
+asked : (s t : Session) (ns ms : List Node) (p : List ℕ) → Invariant s ns → s .exchange ≡ Idle → at ns (s .walk) .addressed ≡ false
+    → {line to : Address} {c : Command} → Due s (calls.whatOf calls.ask p) line to c → t ≡ opened s to c → (r : Option (List ℕ)) → Exchanged line c ns ms (heardIn r)
+    → (reportedOf t r .session ≡ s) × (at ms (s .walk) .addressed ≡ false)
+asked s t ns ms p inv idle u d f r x = go d refl f x
+  where
+    go : {what : Sending} {line to : Address} {c : Command} → Due s what line to c → what ≡ calls.whatOf calls.ask p → t ≡ opened s to c → Exchanged line c ns ms (heardIn r)
+        → (reportedOf t r .session ≡ s) × (at ms (s .walk) .addressed ≡ false)
+    go (ask l k) e f x =
+        let o = stays-out s ns inv l u x in
+        let d : Due s (asks (s .walk + 1)) (nodeAt (s .walk + 1)) (nodeAt (s .walk + 1)) Nop = ask l k in
+        let g : t ≡ waitingAt s (nodeAt (s .walk + 1)) Nop = f ∙ due-opens d in
+        (rw g (reported-concludes d (inv .few) (inv .walked) (inv .full) (inv .begun) r ∙ unconfirmed s idle (heardIn r) (o .0)), o .1)
+    go (next l k) e f x = absurd (let z : _≡_ {A = ℕ} 0 1 = cc e in omega arith)
+    go (order w o n) e f x = absurd (let z : _≡_ {A = ℕ} 0 1 = cc e in omega arith)
+    go (regroup w o n) e f x = absurd (let z : _≡_ {A = ℕ} 0 1 = cc e in omega arith)
+
+-- no other call sends
+alone : (s : Session) → s .walk < s .n → knows (entryOf s (s .walk + 1)) place ≡ false → (c : Call) (out : List ℕ) (n : ℕ)
+    → calledOf c s out .answer .end ≡ Sent n → c ≡ calls.ask
+alone s l d calls.next out n e = absurd (true≢false (sym (next-says s (next-went s out (ap endNumber e) .clear) .placed) ∙ d))
+alone s l d calls.ask out n e = refl
+alone s l d (calls.order to c) out n e = absurd (let k = order-says s to c (order-went s out to c (ap endNumber e) .clear) .ended in omega arith)
+alone s l d (calls.regroup i g leader) out n e = absurd (let k = regroup-says s i g leader (regroup-went s out i g leader (ap endNumber e) .clear) .ended in omega arith)
+
+index : (k : ℕ) → k + 1 - 1 ≡ k
+index k = omega arith
+
+pub only-power-up : OnlyPowerUp
+only-power-up w comes up idle m =
+    let s = when-idle (w .host) (w .nodes) (w .past) (w .line) (holds comes up) idle in
+    let i = s .inv in
+    let u : at (w .nodes) (w .host .walk) .addressed ≡ false = rw (index (w .host .walk)) at (m .unreached) in
+    record {
+      alone = alone (w .host) (m .walking) (m .unconfirmed);
+      same = λ out n e q r arrives returns.
+          let a = accepted calls.ask tt refl (w .host) out n e in
+          let x = exchanged (a .line) (a .command) (w .nodes) (a .goes .range) (a .goes .fits) (a .typed) (no-clash (w .host) (w .nodes) i)
+          (rw (a .goes .packet) at arrives) returns in
+          rw (index (w .host .walk)) (asked (w .host) _ (w .nodes) _ (take n (calledOf calls.ask (w .host) out .left)) i idle u (a .due) (a .goes .after) r x);
+    }

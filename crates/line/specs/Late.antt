@@ -1,0 +1,31 @@
+-- Why a packet that is on its way at a power-up may reach no node after it: a setting that the host calls known would not be what the node holds.
+use Prim.Native.Nat.{ℕ}
+use mathlib.Core.Bool.{true}
+use mathlib.Core.List.{List, map}
+use mathlib.Core.Option.{some}
+use mathlib.Core.Path.{_≡_}
+use lib.ListN.{length}
+use Rattle.node.specs.declared.state.Bench.{Bench}
+use Rattle.node.specs.Setting.{place, get}
+use Rattle.node.specs.Node.{powerUp}
+use Rattle.entry.specs.Entry.{knows, shows}
+use Rattle.session.specs.declared.End.the-variants.{Done}
+use Rattle.session.specs.Session.{entryOf}
+use Rattle.start.specs.Start.{poweredOf}
+use Rattle.line.specs.History.{gives}
+use Rattle.line.specs.Line.{going, nodesAfter}
+use Rattle.line.specs.World.{World, Comes}
+use Rattle.line.specs.Demand3.{nodeOf}
+
+-- the first "next" is on its way when the host is told of a power-up
+pub record Late : Type 0 where
+  pub world : World
+  pub comes : Comes world
+  pub packet : List ℕ
+  pub sent : world .line ≡ going (gives 1) packet
+  pub bench : List Bench
+  pub told : poweredOf (world .host) (length bench) .end ≡ Done
+  -- the place of node 1 is known; were the packet to arrive now, the node would hold another
+  pub known : knows (entryOf (poweredOf (world .host) (length bench) .session) 1) place ≡ true
+  pub differs : shows (entryOf (poweredOf (world .host) (length bench) .session) 1) place
+      ≡ get (nodeOf (nodesAfter (some packet) (map powerUp bench)) 1 .settings) place → ⊥

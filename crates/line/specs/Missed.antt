@@ -1,0 +1,32 @@
+-- Document 01, "The host session": "Where a Set Address never arrived, only a new power-up helps".
+use Prim.Native.Nat.{ℕ, _+_, _<_}
+use mathlib.Core.Bool.{true, false}
+use mathlib.Core.List.{List}
+use mathlib.Core.Option.{Option}
+use mathlib.Core.Path.{_≡_}
+use lib.ListN.{take}
+use Rattle.node.specs.Setting.{place}
+use Rattle.entry.specs.Entry.{knows}
+use Rattle.session.specs.declared.Exchange.the-variants.{Idle}
+use Rattle.session.specs.declared.End.the-variants.{Sent}
+use Rattle.session.specs.Session.{entryOf}
+use Rattle.line.specs.Call.{Call, ask, calledOf}
+use Rattle.line.specs.Line.{Arrives, Returns, nodesAfter, saidAfter, reportedOf}
+use Rattle.line.specs.World.{World, Comes}
+use Rattle.line.specs.Demand3.{nodeOf}
+
+-- the walk's Set Address is unconfirmed, and its node has not taken the address
+pub record Missed (w : World) : Type 0 where
+  pub walking : w .host .walk < w .host .n
+  pub unconfirmed : knows (entryOf (w .host) (w .host .walk + 1)) place ≡ false
+  pub unreached : nodeOf (w .nodes) (w .host .walk + 1) .addressed ≡ false
+
+-- no call but "ask" sends; and whatever becomes of an "ask" and of the reply to it, session and node are afterwards as they were
+pub record Stuck (w : World) : Type 0 where
+  pub alone : (c : Call) (out : List ℕ) (n : ℕ) → calledOf c (w .host) out .answer .end ≡ Sent n → c ≡ ask
+  pub same : (out : List ℕ) (n : ℕ) → calledOf ask (w .host) out .answer .end ≡ Sent n → (q r : Option (List ℕ))
+      → Arrives (take n (calledOf ask (w .host) out .left)) q → Returns (saidAfter q (w .nodes)) r
+      → (reportedOf (calledOf ask (w .host) out .answer .session) r .session ≡ w .host) × (nodeOf (nodesAfter q (w .nodes)) (w .host .walk + 1) .addressed ≡ false)
+
+abbrev pub OnlyPowerUp : Type 0
+OnlyPowerUp = (w : World) → Comes w → w .up ≡ true → w .host .exchange ≡ Idle → Missed w → Stuck w

@@ -1,11 +1,19 @@
 -- A second result that meets a contract is equal to the first, for each public function.
 use mathlib.Core.Path.{sym, _∙_}
 use Rattle.wire.proofs.OneResult.{OneResult}
+use Rattle.session.proofs.End.number.Reads as end-number
+use Rattle.session.proofs.Seen.number.Reads as seen-number
 use Rattle.session.proofs.look.Reads as look
 use Rattle.session.proofs.is_closed.Reads as is-closed
 use Rattle.session.proofs.is_ask_due.Reads as is-ask-due
 use Rattle.session.proofs.off_chain.Reads as off-chain
 use Rattle.session.proofs.refuse.Reads as refuse
+
+pub end-number-unique : OneResult end-number.Post
+end-number-unique κs a r r′ s s′ p q = p ∙ sym q
+
+pub seen-number-unique : OneResult seen-number.Post
+seen-number-unique κs a r r′ s s′ p q = p ∙ sym q
 
 pub look-unique : OneResult look.Post
 look-unique κs a r r′ s s′ p q = p .answer ∙ sym (q .answer)

@@ -8,7 +8,7 @@ use wire::Individual;
 use wire::Refusal;
 ghost use mathlib.Core.Path.{_≡_};
 ghost use Rattle.wire.specs.Promise.{Promise};
-ghost use Rattle.session.specs.Session.{stepNumber, refusedStep, offChain, strayOf, validOf, closedOf, askDue, lookNumber, lookOf};
+ghost use Rattle.session.specs.Session.{endNumber, stepNumber, refusedStep, offChain, strayOf, validOf, closedOf, askDue, lookNumber, lookOf};
 
 // What waits for an answer: nothing, or a command that was sent to an address. The walk's Set Address has the node that it gives its number.
 pub enum Exchange {
@@ -29,6 +29,19 @@ pub enum End {
     Done,
     Sent(usize),
     Refused(Refusal),
+}
+
+impl End {
+    // The paper's number.
+    pub fn number(self) -> u8
+        ensures { λ r. ⌜ r ≡ endNumber self ⌝ }
+    {
+        match self {
+            End::Done => wire::DONE,
+            End::Sent(_) => wire::DONE,
+            End::Refused(why) => why.number(),
+        }
+    }
 }
 
 // The session after a call; of a refused one, the session as it was handed in.
@@ -90,6 +103,18 @@ fn is_valid(s: Session) -> bool
 pub enum Seen {
     Found(Entry),
     Refused(Refusal),
+}
+
+impl Seen {
+    // The paper's number.
+    pub fn number(self) -> u8
+        ensures { λ r. ⌜ r ≡ lookNumber self ⌝ }
+    {
+        match self {
+            Seen::Found(_) => wire::DONE,
+            Seen::Refused(why) => why.number(),
+        }
+    }
 }
 
 // The entry of a node 1 to n, of any session: also a closed one shows its last known values.

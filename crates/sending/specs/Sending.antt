@@ -72,7 +72,7 @@ abbrev pub stepBy : Session → Session → Built → Step
 stepBy s t (built.Bytes n) = record { end = Sent n; session = t }
 stepBy s t (built.Refused why) = refusedStep s why
 
--- the packet is built, 5 where it has no room, and the exchange opened
+-- the packet is built, or refused as the builder refuses it, and the exchange opened
 unfoldable pub transmitted : Session → Address → Address → Command → List ℕ → Outcome Step (List ℕ)
 transmitted s line to c out =
     record { answer = stepBy s (opened s to c) (commandBuilt line c out .answer); left = commandBuilt line c out .left }

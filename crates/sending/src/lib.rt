@@ -1,5 +1,5 @@
 // What every call that sends does: first it tests the session, last it builds its packet.
-// Promised: 12, then 7; the first refusal wins; the packet at the start of the lent buffer and its exchange opened, or 5.
+// Promised: 12, then 7; the first refusal wins; the packet at the start of the lent buffer and its exchange opened, or the builder's refusal and nothing else.
 // Left to others: which command goes where, with the refusals of its own (walk, host); the bytes on the line (the caller).
 use buffer::Built;
 use command::Command;
@@ -110,7 +110,7 @@ fn open_exchange(s: Session, to: Address, c: Command) -> Session
     }
 }
 
-// Sends a command to the address `line`, for the node or group `to`; 5 where the packet has no room.
+// Sends a command to the address `line`, for the node or group `to`; 6 and 5 as building gives them. The session is tested by the caller.
 pub fn transmit(s: Session, line: Address, to: Address, c: Command, out: &mut [u8]) -> Step
     ensures { λ r. ⌜ Lending stepNumber r (now (out .exit)) (transmitted s line to c (now (out .entry))) ⌝ }
 {

@@ -38,7 +38,7 @@ strayOf n (Waiting to c) = offChain n to
 unfoldable pub validOf : Session → Bool
 validOf s = leb (s .n) 31 && leb (s .walk) (s .n) && not (strayOf (s .n) (s .exchange))
 
--- a session as it can come about: it is valid, and its record has its 31 entries
+-- a session within its bounds, with 31 entries: every session that comes about by the calls is such a one
 pub record Sound (s : Session) : Type 0 where
   pub valid : validOf s ≡ true
   pub whole : length (s .entries) ≡ 31

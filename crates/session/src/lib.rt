@@ -85,7 +85,7 @@ fn is_stray(n: u8, x: Exchange) -> bool
     }
 }
 
-// A session handed in that is not so counts as closed with no exchange open.
+// Within its bounds; a session handed in that is not counts as closed with no exchange open.
 fn is_valid(s: Session) -> bool
     ensures { λ r. ⌜ r ≡ validOf s ⌝ }
 {
@@ -135,7 +135,7 @@ pub fn look(s: Session, node: Individual) -> Seen
     Seen::Found(s.entries[at])
 }
 
-// Not started, or not a session that could have come about.
+// Not started, or handed in past its bounds.
 pub fn is_closed(s: Session) -> bool
     ensures { λ r. ⌜ r ≡ closedOf s ⌝ }
 {

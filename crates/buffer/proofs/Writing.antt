@@ -1,4 +1,4 @@
--- A packet laid out by stores: what `packet::build` and `status::build` leave in the buffer.
+-- A packet laid out by stores, and what placing it leaves in the buffer: `packet::build`, `status::build`.
 use Prim.Native.Nat.{ℕ, suc, _+_, _≤_, _<_}
 use mathlib.Core.Bool.{Bool, true, false, cond}
 use mathlib.Core.Path.{_≡_, refl, sym, ap, _∙_}
@@ -7,12 +7,15 @@ use native.Mathlib.Omega.{arith}
 use native.Mathlib.Nat.{le-of-suc-le-suc, not-suc-le-zero, add-zero, zero-add, add-suc, suc-add}
 use lib.Dec.{ltb}
 use lib.ListN.{length, take, drop, set, length-append, length-drop}
-use lib.Seq.{paste, sets, sets-eq, length-sets, length-paste, take-length, drop-drop}
+use lib.Seq.{paste, sets, sets-eq, length-sets, length-paste, take-length, take-at, drop-drop}
 use borrow.Author.Tests.{lt-ltb, le-ltb, ltb-false}
-use Rattle.wire.specs.Promise.{Lending, lent}
+use Rattle.wire.specs.Promise.{Outcome, Lending, lent}
 use Rattle.buffer.specs.Buffer.{putAt, written, refused, place, builtNumber}
+use Rattle.wire.specs.declared.refusal.Refusal.{Refusal}
 use Rattle.wire.specs.declared.refusal.Refusal.the-variants.{Room}
+use Rattle.buffer.specs.declared.Built.{Built}
 use Rattle.buffer.specs.declared.Built.the-variants.{Bytes, Refused}
+use Rattle.wire.proofs.Choice.{chose-second}
 
 laid-tail : (d r : List ℕ) (m : ℕ) → length d < length r
     → set (take (length d) d ++ drop (length d) r) (length d) m ≡ (d ++ (m ∷ [])) ++ drop (suc (length d)) r
@@ -60,6 +63,29 @@ no-room p out h = lent (rw (lt-ltb (length out) (length p) h))
 pub has-room : (p out : List ℕ) (n : ℕ) (o : List ℕ) → length p ≡ n → n ≤ length out → o ≡ p ++ drop n out → Lending builtNumber (Bytes n) o (place p out)
 unfolding place
 has-room p out n o e h f = lent (rw (le-ltb (length out) (length p) (omega arith), e, f))
+
+-- a packet that has room is written
+pub place-written : (p out : List ℕ) → length p ≤ length out → place p out ≡ written p out
+unfolding place
+place-written p out h = rw (le-ltb (length out) (length p) h)
+
+-- a builder answered n bytes, number 0, and left this
+abbrev pub wrote : ℕ → List ℕ → Outcome Built (List ℕ)
+wrote n left = record { answer = Bytes n; left = left }
+
+pub wrote-not : (why : Refusal) (out left : List ℕ) (n : ℕ) → refused why out ≡ wrote n left → ⊥
+wrote-not why out left n e =
+    let f : Refused why ≡ Bytes n = ap (λ (o : Outcome Built (List ℕ)). o .answer) e in
+    let z : _≡_ {A = ℕ} 0 1 = cc in
+    omega arith
+
+-- then the first n bytes are the packet
+pub place-wrote : (p out left : List ℕ) (n : ℕ) → place p out ≡ wrote n left → take n left ≡ p
+unfolding place
+place-wrote p out left n e =
+    let w = chose-second (ltb (length out) (length p)) e (wrote-not Room out left n) .1 in
+    let b : Bytes (length p) ≡ Bytes n = ap (λ (o : Outcome Built (List ℕ)). o .answer) w in
+    rw (← (ap (λ (o : Outcome Built (List ℕ)). o .left) w)) (take-at p (drop (length p) out) n (cc))
 
 placed-long : (t : Bool) (p out : List ℕ) → ltb (length out) (length p) ≡ t → length (cond t (refused Room out) (written p out) .left) ≡ length out
 placed-long true p out e = refl

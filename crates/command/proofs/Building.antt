@@ -1,10 +1,10 @@
 -- A command's packet is built by the raw builder: its 6 can't occur, since a number is a nibble and no command has more than four data bytes.
 use Prim.Native.Nat.{ℕ, _-_, _%_, _/_, _≤_}
-use mathlib.Core.List.{List, [], _∷_, _++_}
-use mathlib.Core.Path.{_≡_, refl, sym, ap}
+use mathlib.Core.List.{List}
+use mathlib.Core.Path.{_≡_, sym}
 use native.Mathlib.Omega.{arith}
 use lib.ListN.{length, take, replicate, length-append}
-use lib.Seq.{length-take-le}
+use lib.Seq.{length-take-le, take-append-seam}
 use borrow.Author.Tests.{le-ltb}
 use Rattle.wire.specs.Promise.{Lending}
 use Rattle.buffer.specs.Buffer.{builtNumber, place}
@@ -21,10 +21,6 @@ number c = let z = sized c in omega arith
 count : (c : Command) → headOf c / 16 ≡ length (bytesOf c)
 count c = let z = sized c in omega arith
 
-front : (d e : List ℕ) → take (length d) (d ++ e) ≡ d
-front [] e = refl
-front (x ∷ d) e = ap (λ (l : List ℕ). x ∷ l) (front d e)
-
 module _ (c : Command) (h : ℕ) (d : List ℕ) (eh : h ≡ headOf c) (ed : d ≡ filled (bytesOf c)) where
   -- the data bytes are there, in front
   pub within : h / 16 ≤ length d
@@ -37,7 +33,7 @@ module _ (c : Command) (h : ℕ) (d : List ℕ) (eh : h ≡ headOf c) (ed : d �
   counted = sym (length-take-le (h / 16) d within)
 
   in-front : take (h / 16) d ≡ bytesOf c
-  in-front = rw (eh, ed, count c) (front (bytesOf c) _)
+  in-front = rw (eh, ed, count c) (take-append-seam (bytesOf c) _)
 
   -- the number and data bytes of a command were handed to the raw builder
   pub handed : (a : ℕ) (out o : List ℕ) (r : Built)

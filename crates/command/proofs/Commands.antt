@@ -1,18 +1,19 @@
--- Commands: a built packet reads back as the same command, an accepted packet is the one built from its parts, a refused builder leaves the buffer as it stood.
+-- Commands: what the builder writes reads back as the same command, an accepted packet is what it writes from its parts, a refused builder leaves the buffer as it stood.
 use Prim.Native.Nat.{ℕ, _+_, _%_, _/_, _<_, _≤_}
 use mathlib.Core.Bool.{Bool, true, false, cond}
 use mathlib.Core.List.{List}
-use mathlib.Core.Path.{_≡_, refl}
+use mathlib.Core.Path.{_≡_, refl, _∙_}
 use native.Mathlib.Omega.{arith}
-use lib.ListN.{length, getD}
+use lib.ListN.{length, getD, take}
 use borrow.Author.Tests.{lt-ltb, le-ltb, leb-true}
 use Rattle.wire.specs.Address.{isIndividual, isGroup, inRange, byteOf}
-use Rattle.buffer.specs.Buffer.{place}
+use Rattle.buffer.specs.Buffer.{written, place}
 use Rattle.buffer.specs.Change.{AllBytes}
 use Rattle.wire.specs.declared.address.Address.{Address}
 use Rattle.wire.specs.declared.refusal.Refusal.the-variants.{Range}
 use Rattle.wire.proofs.Addresses.{address-back, address-in-range}
-use Rattle.wire.proofs.Choice.{both}
+use Rattle.wire.proofs.Choice.{chose-first, both}
+use Rattle.buffer.proofs.Writing.{place-written, wrote, wrote-not, place-wrote}
 use Rattle.buffer.proofs.Refusals.{Spares, place-spares, else-spares}
 use Rattle.packet.specs.Packet.{dataOf}
 use Rattle.packet.proofs.Packets as packets
@@ -93,6 +94,20 @@ reads-in-range s a c r =
 pub built-written : (to : Address) (c : Command) (out : List ℕ) → inRange to ≡ true → fitsOf c ≡ true → commandBuilt to c out ≡ place (packetFor to c) out
 unfolding commandBuilt buildFor
 built-written to c out h f = rw (h, f)
+
+-- what the builder writes, n bytes, reads back as the same command
+pub written-reads : (to : Address) (c : Command) (out left : List ℕ) (n : ℕ) → Typed c → commandBuilt to c out ≡ wrote n left → ReadsAs (take n left) to c
+unfolding commandBuilt buildFor
+written-reads to c out left n t e =
+    let h = chose-first (inRange to) e (wrote-not Range out left n) in
+    let f = chose-first (fitsOf c) (h .1) (wrote-not Range out left n) in
+    rw (place-wrote (packetFor to c) out left n (f .1)) (built-reads to c (h .0) (f .0) t)
+
+-- an accepted packet is, where it has room, the one that the builder writes from its address and command
+pub reads-written : (s : List ℕ) (a : Address) (c : Command) (out : List ℕ) → AllBytes s → ReadsAs s a c → length s ≤ length out → commandBuilt a c out ≡ written s out
+reads-written s a c out b r h =
+    let f = reads-in-range s a c r in
+    built-written a c out (f .0) (f .1) ∙ rw (← (reads-built s a c b r)) (place-written s out h)
 
 -- any number but 0 leaves the buffer as it stood
 pub command-spares : (to : Address) (c : Command) (out : List ℕ) → Spares out (commandBuilt to c out)

@@ -1,5 +1,5 @@
--- Command packets: built ones read back as their parts, an accepted one is the one built from its parts, a damaged one keeps its frame and has a wrong sum.
-use Prim.Native.Nat.{ℕ, zero, suc, _+_, _-_, _/_, _%_, _<_}
+-- Command packets: what the builder writes reads back as its parts, an accepted one is what it writes from its parts, a damaged one keeps its frame and has a wrong sum.
+use Prim.Native.Nat.{ℕ, zero, suc, _+_, _-_, _/_, _%_, _<_, _≤_}
 use mathlib.Core.Path.{_≡_, refl, sym, ap, _∙_}
 use mathlib.Core.Bool.{true, false, not}
 use mathlib.Core.List.{List, [], _∷_}
@@ -11,15 +11,18 @@ use borrow.Author.Tests.{eqb-true, eq-eqb, le-ltb, ltb-false, not-false}
 use Rattle.buffer.specs.Sum.{withSum}
 use Rattle.wire.specs.Address.{addressOf, byteOf}
 use Rattle.packet.specs.Packet.{commandOf, countOf, partsOf, dataOf, frameOf, intactOf, checked, readOf}
-use Rattle.packet.specs.Build.{headOf, packetOf}
-use Rattle.buffer.specs.Change.{Changed, Damaged}
+use Rattle.packet.specs.Build.{headOf, packetOf, buildOf}
+use Rattle.buffer.specs.Buffer.{written}
+use Rattle.buffer.specs.Change.{AllBytes, Changed, Damaged}
 use Rattle.wire.specs.declared.address.Address.{Address}
 use Rattle.wire.specs.declared.refusal.Refusal.{Refusal}
-use Rattle.wire.specs.declared.refusal.Refusal.the-variants.{Short, Header, Long, Sum}
+use Rattle.wire.specs.declared.refusal.Refusal.the-variants.{Short, Header, Long, Sum, Range}
 use Rattle.packet.specs.declared.Framed.{Framed}
 use Rattle.packet.specs.declared.Framed.the-variants.{Whole, Refused}
 use Rattle.wire.proofs.Choice.{chose-first, chose-second}
 use Rattle.wire.proofs.Addresses.{byte-address}
+use Rattle.buffer.proofs.Bytes.{byte-at}
+use Rattle.buffer.proofs.Writing.{place-written, wrote, wrote-not, place-wrote}
 use Rattle.buffer.proofs.Sums.{length-with-sum, with-sum-ends, ends-shape, changed-length, changed-breaks}
 
 -- a refusal is no packet
@@ -110,6 +113,21 @@ module _ (a c : ℕ) (d : List ℕ) (small : c < 16) where
   unfolding dataOf
   built-data = rw built-count (take-append-seam d _)
 
+-- the builder answered n bytes: they read back as the parts that it was given
+module _ (a c : ℕ) (d out left : List ℕ) (n : ℕ) (e : buildOf a c d out ≡ wrote n left) where
+  placed : (c < 16) × (take n left ≡ packetOf a c d)
+  unfolding buildOf
+  placed =
+      let t = chose-second (ltb 15 (length d)) e (wrote-not Range out left n) in
+      let u = chose-second (ltb 15 c) (t .1) (wrote-not Range out left n) in
+      (omega (arith, ltb-false 15 c (u .0)), place-wrote (packetOf a c d) out left n (u .1))
+
+  pub written-reads : readOf (take n left) ≡ Whole (addressOf a) c (length d)
+  written-reads = rw (placed .1) (built-reads a c d (placed .0))
+
+  pub written-data : dataOf (take n left) ≡ d
+  written-data = rw (placed .1) (built-data a c d (placed .0))
+
 -- ---- accepted packets
 
 two : (n : ℕ) → 2 + n ≡ suc (suc n)
@@ -144,6 +162,16 @@ unfolding dataOf
 data-length s a c n e =
     let f = framing s a c n e in
     length-take-le (countOf s) (drop 3 s) (omega (arith, length-drop 3 s, f .size, f .count)) ∙ f .count
+
+-- an accepted packet is, where it has room, the one that the builder writes from its parts
+pub accepted-written : (s : List ℕ) (a : Address) (c n : ℕ) (out : List ℕ) → AllBytes s → readOf s ≡ Whole a c n → length s ≤ length out
+    → buildOf (byteOf a) c (dataOf s) out ≡ written s out
+unfolding buildOf
+accepted-written s a c n out b e h =
+    let t = read-says s a c n e .0 in
+    let f = framing s a c n t in
+    let few : length (dataOf s) ≤ 15 = omega (arith, data-length s a c n t, f .count, byte-at s 2 b) in
+    rw (le-ltb 15 (length (dataOf s)) few, le-ltb 15 c (omega (arith, f .command)), ← (accepted-built s a c n e)) (place-written s out h)
 
 -- ---- damaged packets
 

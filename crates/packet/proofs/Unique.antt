@@ -2,6 +2,7 @@
 use mathlib.Core.Path.{_≡_, sym, _∙_}
 use denote.Ref.{now}
 use Rattle.wire.proofs.OneResult.{OneResult}
+use Rattle.wire.proofs.Parts.{OnePart, one-part}
 use Rattle.packet.proofs.frame.Reads as frame
 use Rattle.packet.proofs.is_intact.Reads as is-intact
 use Rattle.packet.proofs.read.Reads as read
@@ -17,8 +18,8 @@ is-intact-unique κs a r r′ s s′ p q = p ∙ sym q
 pub read-unique : OneResult read.Post
 read-unique κs a r r′ s s′ p q = p .answer ∙ sym (q .answer)
 
-pub data-part-unique : (κs : _) (a : _) (r r′ : _) (s s′ : _) → data-part.Post κs a r s → data-part.Post κs a r′ s′ → now r ≡ now r′
-data-part-unique κs a r r′ s s′ p q = p ∙ sym q
+pub data-part-unique : OnePart data-part.Post
+data-part-unique κs a r r′ s s′ p q = one-part p q
 
 -- the result, and what the lent buffer holds
 pub build-unique : (κs : _) (a : _) (r r′ : _) (s s′ : _) → build.Post κs a r s → build.Post κs a r′ s′

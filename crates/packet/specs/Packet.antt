@@ -22,9 +22,13 @@ countOf s = getD s 2 0 / 16
 abbrev pub partsOf : List ℕ → Framed
 partsOf s = Whole (addressOf (getD s 1 0)) (commandOf s) (countOf s)
 
+-- "its fourth byte", counted from 0
+abbrev pub dataFrom : ℕ
+dataFrom = 3
+
 -- "the data bytes as the part of the input that starts at its fourth byte"
 unfoldable pub dataOf : List ℕ → List ℕ
-dataOf s = take (countOf s) (drop 3 s)
+dataOf s = take (countOf s) (drop dataFrom s)
 
 -- "empty, 1; first byte not 0xAA, 2; fewer than 4 bytes or fewer than 4 + count, 1; more, 3"
 unfoldable pub frameOf : List ℕ → Framed

@@ -9,7 +9,8 @@ ghost use mathlib.Core.List.{_++_};
 ghost use lib.ListN.{length, drop};
 ghost use Prim.Native.Nat.{_+_, _≤_};
 ghost use Rattle.wire.specs.Promise.{Promise, Lending};
-ghost use Rattle.packet.specs.Packet.{frameOf, framedNumber, intactOf, readOf, dataOf};
+ghost use Rattle.wire.specs.Part.{Part};
+ghost use Rattle.packet.specs.Packet.{frameOf, framedNumber, intactOf, readOf, dataFrom, dataOf};
 ghost use Rattle.buffer.specs.Buffer.{builtNumber};
 ghost use Rattle.packet.specs.Build.{packetWith, buildOf};
 
@@ -90,10 +91,10 @@ pub fn read(s: &[u8]) -> Framed
 
 // The data bytes of a packet: the part of the input that starts at its fourth byte.
 pub fn data_part(s: &[u8]) -> &[u8]
-    ensures { λ r. ⌜ now r ≡ dataOf (now (s .entry)) ⌝ }
+    ensures { λ r. ⌜ Part (s .entry) dataFrom (dataOf (now (s .entry))) r ⌝ }
 {
     if s.len() < 3 {
-        return &s[..0];
+        return &s[s.len()..];
     }
     let end = 3 + (s[2] / 16) as usize;
     if s.len() < end {

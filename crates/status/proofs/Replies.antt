@@ -1,4 +1,4 @@
--- Status packets: built ones read back, accepted ones are built from their parts, and a changed one is never good.
+-- Status packets: what the builder writes reads back, an accepted one is what it writes from its parts, and a changed one is never good.
 use Prim.Native.Nat.{ℕ, suc, _+_, _-_, _≤_}
 use mathlib.Core.Path.{_≡_, refl, ap, _∙_}
 use mathlib.Core.Bool.{Bool, true, false, cond}
@@ -9,13 +9,15 @@ use lib.ListN.{length, getD, take, drop}
 use lib.Seq.{take-append-seam}
 use borrow.Author.Tests.{le-ltb, ltb-false}
 use Rattle.buffer.specs.Sum.{sumOf, withSum, endsInSum}
-use Rattle.status.specs.Status.{statusPacket, statusOf, itemsOf, T, cleared, judged}
+use Rattle.status.specs.Status.{statusPacket, statusBuilt, statusOf, itemsOf, T, cleared, judged}
+use Rattle.buffer.specs.Buffer.{written}
 use Rattle.buffer.specs.Change.{Altered}
 use Rattle.wire.specs.declared.refusal.Refusal.{Refusal}
 use Rattle.wire.specs.declared.refusal.Refusal.the-variants.{Short, Long, Sum}
 use Rattle.status.specs.declared.Status.the-variants.{Whole, Refused}
 use Rattle.status.specs.declared.Answer.the-variants.{Silent}
 use Rattle.wire.proofs.Choice.{chose-first, chose-second}
+use Rattle.buffer.proofs.Writing.{place-written, wrote, place-wrote}
 use Rattle.buffer.proofs.Sums.{length-with-sum, with-sum-ends, ends-shape, changed-length, changed-breaks}
 
 pub status-length : (b : ℕ) (d : List ℕ) → length (statusPacket b d) ≡ 2 + length d
@@ -38,6 +40,18 @@ unfolding itemsOf
 built-items b d =
     let k : length (statusPacket b d) - 2 ≡ length d = omega (arith, status-length b d) in
     rw k (take-append-seam d (sumOf (b ∷ d) ∷ []))
+
+-- the builder answered n bytes: they read back as the status byte and the items that it was given
+module _ (b : ℕ) (d out left : List ℕ) (n : ℕ) (e : statusBuilt b d out ≡ wrote n left) where
+  placed : take n left ≡ statusPacket b d
+  unfolding statusBuilt
+  placed = place-wrote (statusPacket b d) out left n e
+
+  pub written-reads : statusOf (take n left) (length d) ≡ Whole b
+  written-reads = rw placed (built-reads b d)
+
+  pub written-items : itemsOf (take n left) ≡ d
+  written-items = rw placed (built-items b d)
 
 refused-not : (why : Refusal) (b : ℕ) → Refused why ≡ Whole b → ⊥
 refused-not why b e = let z : _≡_ {A = ℕ} 0 1 = cc in omega arith
@@ -68,6 +82,11 @@ accepted-built s k b e =
     let m : length s - 1 ≡ suc k = omega (arith, a .size) in
     let q : take (length s - 1) s ≡ b ∷ take (length s - 2) (drop 1 s) = rw (m, n) (first-then s k (a .size) ∙ cc (a .first)) in
     ends-shape s (a .ends) ∙ ap (λ (l : List ℕ). withSum l) q
+
+-- and, where it has room, the one that the builder writes from them
+pub accepted-written : (s : List ℕ) (k b : ℕ) (out : List ℕ) → statusOf s k ≡ Whole b → length s ≤ length out → statusBuilt b (itemsOf s) out ≡ written s out
+unfolding statusBuilt
+accepted-written s k b out e h = rw (← (accepted-built s k b e)) (place-written s out h)
 
 -- one byte changed: wrong sum
 pub altered-reads : (s t : List ℕ) (k b : ℕ) → statusOf s k ≡ Whole b → Altered s t → statusOf t k ≡ Refused Sum

@@ -2,6 +2,7 @@
 use mathlib.Core.Path.{_≡_, sym, _∙_}
 use denote.Ref.{now}
 use Rattle.wire.proofs.OneResult.{OneResult}
+use Rattle.wire.proofs.Parts.{OnePart, one-part}
 use Rattle.status.proofs.read.Reads as read
 use Rattle.status.proofs.items_part.Reads as items-part
 use Rattle.status.proofs.build.Reads as build
@@ -10,8 +11,8 @@ use Rattle.status.proofs.judge.Reads as judge
 pub read-unique : OneResult read.Post
 read-unique κs a r r′ s s′ p q = p .answer ∙ sym (q .answer)
 
-pub items-part-unique : (κs : _) (a : _) (r r′ : _) (s s′ : _) → items-part.Post κs a r s → items-part.Post κs a r′ s′ → now r ≡ now r′
-items-part-unique κs a r r′ s s′ p q = p ∙ sym q
+pub items-part-unique : OnePart items-part.Post
+items-part-unique κs a r r′ s s′ p q = one-part p q
 
 -- the result, and what the lent buffer holds
 pub build-unique : (κs : _) (a : _) (r r′ : _) (s s′ : _) → build.Post κs a r s → build.Post κs a r′ s′

@@ -31,9 +31,13 @@ statusOf s k =
     (cond (endsInSum s) (Whole (getD s 0 0))
     (Refused Sum)))
 
+-- the items start behind the status byte, which is byte 0
+abbrev pub itemsFrom : ℕ
+itemsFrom = 1
+
 -- the items: all between status byte and sum
 unfoldable pub itemsOf : List ℕ → List ℕ
-itemsOf s = take (length s - 2) (drop 1 s)
+itemsOf s = take (length s - 2) (drop itemsFrom s)
 
 -- the number of what reading finds
 abbrev pub statusNumber : Status → ℕ

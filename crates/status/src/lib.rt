@@ -5,8 +5,9 @@ use buffer::Built;
 use wire::Refusal;
 ghost use mathlib.Core.Path.{_≡_};
 ghost use Rattle.wire.specs.Promise.{Promise, Lending};
+ghost use Rattle.wire.specs.Part.{Part};
 ghost use Rattle.buffer.specs.Buffer.{builtNumber};
-ghost use Rattle.status.specs.Status.{statusOf, statusNumber, itemsOf, statusBuilt, judged};
+ghost use Rattle.status.specs.Status.{statusOf, statusNumber, itemsFrom, itemsOf, statusBuilt, judged};
 
 // The total of all item counts.
 pub const T: usize = 17;
@@ -40,10 +41,10 @@ pub fn read(s: &[u8], items: usize) -> Status
 
 // The item bytes of a status packet: all between its status byte and its sum.
 pub fn items_part(s: &[u8]) -> &[u8]
-    ensures { λ r. ⌜ now r ≡ itemsOf (now (s .entry)) ⌝ }
+    ensures { λ r. ⌜ Part (s .entry) itemsFrom (itemsOf (now (s .entry))) r ⌝ }
 {
     if s.len() < 2 {
-        return &s[..0];
+        return &s[s.len()..];
     }
     let end = s.len() - 1;
     &s[1..end]

@@ -8,7 +8,7 @@ use native.Mathlib.Numerals.{add-one}
 use native.Mathlib.Nat.{not-suc-le-zero}
 use lib.Dec.{eqb}
 use lib.ListN.{length, take, drop, getD, drop-of-length-le, length-drop}
-use lib.Seq.{drop-cons, take-all, drop-length, take-nil}
+use lib.Seq.{drop-cons, take-all}
 use borrow.Author.Tests.{eq-eqb, ne-eqb}
 use Rattle.text.specs.Lines.{newline, lineOf, linesOf, grown}
 
@@ -20,8 +20,8 @@ first-all s n h = sym (take-all n s (omega arith))
 pub rest-within : (s : List ℕ) (at : ℕ) → take (length s - at) (drop at s) ≡ drop at s
 rest-within s at = take-all (length s - at) (drop at s) (omega (arith, length-drop at s))
 
-pub rest-past : (s : List ℕ) (at : ℕ) → length s < at → take (length s - length s) (drop (length s) s) ≡ drop at s
-rest-past s at h = let k : length s ≤ at = omega arith in rw (drop-length s, drop-of-length-le s k) (take-nil (length s - length s))
+pub rest-past : (s : List ℕ) (at : ℕ) → length s < at → [] ≡ drop at s
+rest-past s at h = sym (drop-of-length-le s {i = at} (omega arith))
 
 -- ---- the search for a newline: i bytes have none, and m is how many the line has
 

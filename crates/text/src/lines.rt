@@ -1,6 +1,7 @@
 // Parts of a text: its first bytes, the rest, its first line.
 ghost use mathlib.Core.Path.{_≡_};
 ghost use lib.ListN.{length, take, drop};
+ghost use Rattle.wire.specs.Part.{Part};
 ghost use Rattle.text.specs.Lines.{lineOf};
 
 // A newline ends each line; the last may lack it.
@@ -8,7 +9,7 @@ pub const NEWLINE: u8 = 10;
 
 // The first n bytes of s; all of them where it has fewer.
 pub fn first(s: &[u8], n: usize) -> &[u8]
-    ensures { λ r. ⌜ now r ≡ take n (now (s .entry)) ⌝ }
+    ensures { λ r. ⌜ Part (s .entry) 0 (take n (now (s .entry))) r ⌝ }
 {
     if n <= s.len() {
         return &s[..n];
@@ -18,7 +19,7 @@ pub fn first(s: &[u8], n: usize) -> &[u8]
 
 // What is left of s from `at` on; nothing where that is past its end.
 pub fn rest(s: &[u8], at: usize) -> &[u8]
-    ensures { λ r. ⌜ now r ≡ drop at (now (s .entry)) ⌝ }
+    ensures { λ r. ⌜ Part (s .entry) at (drop at (now (s .entry))) r ⌝ }
 {
     if at <= s.len() {
         return &s[at..];
@@ -43,7 +44,7 @@ fn line_length(s: &[u8]) -> usize
 
 // The first line of s, without its newline. The next one starts one byte behind its end.
 pub fn first_line(s: &[u8]) -> &[u8]
-    ensures { λ r. ⌜ now r ≡ lineOf (now (s .entry)) ⌝ }
+    ensures { λ r. ⌜ Part (s .entry) 0 (lineOf (now (s .entry))) r ⌝ }
 {
     let n = line_length(s);
     first(s, n)

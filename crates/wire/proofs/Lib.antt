@@ -2,4 +2,5 @@ pub mod Tests
 pub mod Choice
 pub mod Addresses
 pub mod OneResult
+pub mod Parts
 pub mod Unique

@@ -1,3 +1,4 @@
 pub mod Promise
 pub mod Numbers
 pub mod Address
+pub mod Part

@@ -1,5 +1,5 @@
 -- The invariant: so many bytes of `src` stand in `out` from `at` on, where all of them have room.
-use Prim.Native.Nat.{ℕ, _+_, _≤_, _-_}
+use Prim.Native.Nat.{ℕ, _+_, _≤_, _<_, _-_}
 use mathlib.Core.Path.{_≡_, sym, ap, _∙_}
 use mathlib.Core.List.{List}
 use native.Mathlib.Omega.{arith}
@@ -8,6 +8,7 @@ use native.Mathlib.Nat.{le-antisymm}
 use borrow.Author.Needs.{needs}
 use lib.ListN.{length, set, getD, length-set}
 use lib.Seq.{paste, paste-zero, paste-suc}
+use Rattle.buffer.specs.Buffer.{putAt}
 use Rattle.buffer.proofs.Writing.{put-fits, put-not}
 use Rattle.buffer.proofs.put.Statement.{statement}
 use Rattle.buffer.proofs.put.Tie as tie
@@ -18,32 +19,12 @@ Inv-loop out₀ at src i₀ out i = (i ≤ length src) × ((at + length src ≤ 
 abbrev μ-loop : tie.MeasureT-loop
 μ-loop out₀ at src i₀ out i = length src - i
 
-loop-holds : tie.Need-loop-holds Inv-loop μ-loop
-loop-holds c =
-    let a = c .before .before .args in
-    (search needs, (omega arith, (paste-zero (a .out .now) (a .at) (a .src .now), search needs)))
+module _ (out src o : List ℕ) (at i : ℕ) (fits : at + length src ≤ length out) (e : o ≡ paste out at src i) where
+  more : i < length src → set o (at + i) (getD src i 0) ≡ paste out at src (i + 1)
+  more h = rw (e, add-one) (paste-suc out at src i 0 (omega arith) (omega arith))
 
-loop-again : tie.Need-loop-again Inv-loop μ-loop
-loop-again c =
-    let l = c .before .before .loop in
-    let a = c .before .before .before .before .before .args in (
-      omega arith,
-      (
-        l .inv .1 .0,
-        (
-          ap (λ (o : List ℕ). set o (a .at + l .i) (getD (a .src .now) (l .i) 0)) (l .inv .1 .1 .0)
-              ∙ paste-suc (a .out .now) (a .at) (a .src .now) (l .i) 0 (omega arith) (omega arith)
-              ∙ ap (paste (a .out .now) (a .at) (a .src .now)) (sym (add-one (l .i))),
-          simp length-set (l .inv .1 .1 .1),
-        ),
-      ),
-    )
-
-returns-3 : tie.Need-returns-3 Inv-loop μ-loop
-returns-3 c =
-    let a = c .before .before .before .before .args in
-    let l = c .before .loop .inv in
-    l .1 .1 .0 ∙ ap (paste (a .out .now) (a .at) (a .src .now)) (le-antisymm (l .0) (c .loop-test .left)) ∙ sym (put-fits (a .out .now) (a .at) (a .src .now) (l .1 .0))
+  all : i ≤ length src → length src ≤ i → o ≡ putAt out at src
+  all h k = e ∙ ap (paste out at src) (le-antisymm h k) ∙ sym (put-fits out at src fits)
 
 pub put-spec : {M : Type 1} → statement M
 put-spec =
@@ -54,12 +35,12 @@ put-spec =
     (λ c. put-not _ _ _ (omega arith))
     (λ c. search needs)
     (λ c. put-not _ _ _ (omega arith))
-    loop-holds
+    (λ c. (search needs, (omega arith, (search paste-zero, search needs))))
     (λ c. omega arith)
     (λ c. omega arith)
     (λ c. omega arith)
     (λ c. omega arith)
     (λ c. omega arith)
-    loop-again
+    (λ c. (omega arith, (search needs, (search more, simp length-set (search needs)))))
     (λ c. c .before .loop .inv .1 .1 .1)
-    returns-3)
+    (λ c. search all))

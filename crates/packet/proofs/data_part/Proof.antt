@@ -1,4 +1,4 @@
--- The part that is cut off is `count` bytes from the fourth on, or as many as there are.
+-- The part that is cut off is `count` bytes from the fourth on, or as many as there are; without a fourth byte it is none, at the end.
 use borrow.Author.Needs.{needs}
 use native.Mathlib.Omega.{arith}
 use native.Mathlib.Nat.{add-sub-cancel-left}
@@ -7,6 +7,7 @@ use mathlib.Core.Path.{_≡_, sym, ap, _∙_}
 use mathlib.Core.List.{List, []}
 use lib.ListN.{length, take, drop, length-drop, drop-of-length-le}
 use lib.Seq.{take-all, take-nil}
+use Rattle.wire.proofs.Parts.{none-left}
 use Rattle.packet.specs.Packet.{countOf, dataOf}
 use Rattle.packet.proofs.data_part.Statement.{statement}
 use Rattle.packet.proofs.data_part.Tie as tie
@@ -28,15 +29,17 @@ data-part-spec =
     tie.close
     (tie.spec
     (λ c. search needs)
-    (λ c. search none)
+    (λ c. search needs)
+    (λ c. search needs)
+    (λ c. search (none-left, none, needs))
     (λ c. search needs)
     (λ c. omega (arith, c .shared-slice-known .given 2))
     (λ c. omega (arith, c .shared-slice-known .given 2))
     (λ c. search needs)
     (λ c. search needs)
     (λ c. search needs)
-    (λ c. search cut)
+    (λ c. search (cut, needs))
     (λ c. search needs)
     (λ c. search needs)
     (λ c. search needs)
-    (λ c. search whole))
+    (λ c. search (whole, needs)))

@@ -1,23 +1,27 @@
 -- Header, address and command byte by stores, the data by a copy, the sum behind them.
 use borrow.Author.Needs.{needs}
 use native.Mathlib.Omega.{arith}
-use Prim.Native.Nat.{_+_}
+use Prim.Native.Nat.{ℕ, _+_, _%_, _≤_}
 use mathlib.Core.Path.{_≡_}
-use mathlib.Core.List.{[], _∷_}
-use lib.ListN.{length, length-set}
+use mathlib.Core.List.{List, [], _∷_, _++_}
+use lib.ListN.{length, drop, set, length-set}
+use lib.Seq.{sets}
 use Rattle.buffer.specs.Sum.{total, sumOf}
+use Rattle.buffer.specs.Buffer.{putAt}
 use Rattle.buffer.proofs.Writing.{laid}
+use Rattle.packet.specs.Build.{packetWith}
 use Rattle.packet.proofs.lay.Statement.{statement}
 use Rattle.packet.proofs.lay.Tie as tie
 
-returns : tie.Need-returns
+laid-out : (a h t u m : ℕ) (d out o : List ℕ) → t ≡ (a + h) % 256 → u ≡ sumOf d → m ≡ (t + u) % 256 → 4 + length d ≤ length out
+    → o ≡ putAt (sets out 0 (0xAA ∷ a ∷ h ∷ [])) 3 d → set o (3 + length d) m ≡ packetWith a h d ++ drop (4 + length d) out
 unfolding total
-returns c =
-    let p = c .before .before .put in
-    let q = c .before .before .before .before in
-    let a = q .before .before .before .before .before .args in
-    let m : q .wrapping-add-u82 .result ≡ sumOf (a .address ∷ a .head ∷ a .bytes .now) = omega arith in
-    rw m (laid (0xAA ∷ a .address ∷ a .head ∷ []) (a .bytes .now) (a .out .now) _ _ (4 + length (a .bytes .now)) (p .ensures) (omega arith) (omega arith))
+laid-out a h t u m d out o et eu em fits e =
+    let s : m ≡ sumOf (a ∷ h ∷ d) = omega arith in
+    rw s (laid (0xAA ∷ a ∷ h ∷ []) d out o _ (4 + length d) e (omega arith) fits)
+
+returns : tie.Need-returns
+returns c = search laid-out
 
 pub lay-spec : {M : Type 1} → statement M
 lay-spec =

@@ -1,10 +1,11 @@
--- All but the first byte and the last.
+-- All but the first byte and the last; without a second byte it is none, at the end.
 use borrow.Author.Needs.{needs}
 use native.Mathlib.Omega.{arith}
 use Prim.Native.Nat.{ℕ, _-_, _<_}
 use mathlib.Core.Path.{_≡_}
 use mathlib.Core.List.{List, []}
 use lib.ListN.{length, take, drop}
+use Rattle.wire.proofs.Parts.{none-left}
 use Rattle.status.specs.Status.{itemsOf}
 use Rattle.status.proofs.items_part.Statement.{statement}
 use Rattle.status.proofs.items_part.Tie as tie
@@ -22,9 +23,11 @@ items-part-spec =
     tie.close
     (tie.spec
     (λ c. search needs)
-    (λ c. search none)
+    (λ c. search needs)
+    (λ c. search needs)
+    (λ c. search (none-left, none, needs))
     (λ c. search needs)
     (λ c. search needs)
     (λ c. search needs)
     (λ c. search needs)
-    (λ c. search between))
+    (λ c. search (between, needs)))

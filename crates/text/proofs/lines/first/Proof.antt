@@ -13,4 +13,4 @@ first-spec =
     (tie.spec
     (λ c. sym (length-take-le _ _ (omega arith)))
     (λ c. search needs)
-    (λ c. search first-all))
+    (λ c. search (first-all, needs)))

@@ -1,5 +1,6 @@
 -- The part as the slice has it, or nothing.
 use borrow.Author.Needs.{needs}
+use Rattle.wire.proofs.Parts.{none-left}
 use Rattle.text.proofs.Parts.{rest-within, rest-past}
 use Rattle.text.proofs.lines.rest.Statement.{statement}
 use Rattle.text.proofs.lines.rest.Tie as tie
@@ -11,8 +12,8 @@ rest-spec =
     (λ c. search needs)
     (λ c. search needs)
     (λ c. search needs)
-    (λ c. search rest-within)
+    (λ c. search (rest-within, needs))
     (λ c. search needs)
     (λ c. search needs)
     (λ c. search needs)
-    (λ c. search rest-past))
+    (λ c. search (none-left, rest-past, needs)))

@@ -7,7 +7,7 @@ use crate::cases_trials;
 use crate::hex;
 use crate::make_bench;
 use crate::make_trials::Story;
-use crate::manuals::PRINTED;
+use crate::manuals::{DOCUMENTS, PRINTED};
 use crate::prng::Prng;
 use crate::rules::Rules;
 
@@ -55,7 +55,7 @@ pub fn damaged(parts: &str) -> String {
 
 /// The printed packets of each manual, one case per manual.
 pub fn manual_cases(prefix: &str) -> Vec<Case> {
-    ["000", "001", "004"]
+    DOCUMENTS
         .into_iter()
         .map(|document| {
             let lines = PRINTED

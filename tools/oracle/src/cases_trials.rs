@@ -4,6 +4,7 @@ mod chain;
 mod host;
 
 use crate::cases::{manual_cases, Case};
+use crate::manuals::PRINTED_STATUS;
 
 /// The cases in order.
 pub fn cases() -> Vec<Case> {
@@ -113,13 +114,13 @@ fn packet_cases() -> Vec<Case> {
     ]
 }
 
-/// The manuals' status examples, then every mask bit and every refusal.
+/// The manuals' status packets, then every mask bit and every refusal.
 fn status_packets() -> Vec<String> {
-    let mut lines = own(&[
-        "12 00 09 09",
-        "12 10 09 00 28 00 00 31",
-        "12 00 00 00",
-        "12 10 00 01 23 05 10 39",
+    let mut lines: Vec<String> = PRINTED_STATUS
+        .iter()
+        .map(|packet| format!("12 {:02X} {}", packet.mask, packet.bytes))
+        .collect();
+    lines.extend(own(&[
         "12 00",
         "12 FF",
         "12 00 00",
@@ -133,7 +134,7 @@ fn status_packets() -> Vec<String> {
         "12 FF FF 01 02 03 04 05 06 07 08 09 0A 0B 0C 0D 0E 0F 10 11 98",
         "12 FF FF 01 02 03 04 05 06 07 08 09 0A 0B 0C 0D 0E 0F 10 11 99",
         "12 FF FF 01 02 03 04 05 06 07 08 09 0A 0B 0C 0D 0E 0F 10 87",
-    ]);
+    ]));
     for bit in 0..8 {
         let mask = 1u8 << bit;
         lines.push(format!("12 {mask:02X} 00 01 01"));

@@ -1,9 +1,11 @@
-//! Every command packet printed with its header in the source documents 000,
-//! 001 and 004, with the place where it is printed.
+//! Every packet printed whole in the source documents, with the place where it
+//! is printed. 003 prints none: its lines `HEX 1 05`, as those of 000 and 001,
+//! are input of an interpreter, which adds header and sum.
 
 use crate::hex;
 use crate::packet;
 use crate::rules::Rules;
+use crate::status;
 
 /// A packet as printed.
 pub struct Printed {
@@ -37,7 +39,11 @@ const fn misprint(
     }
 }
 
-/// The packets in the order of the documents. Four are wrong in print.
+/// The documents that print packets.
+pub const DOCUMENTS: [&str; 4] = ["000", "001", "002", "004"];
+
+/// The command packets in the order of the documents. A packet that is broken
+/// over two lines of a table is joined.
 #[rustfmt::skip]
 pub const PRINTED: &[Printed] = &[
     printed("000", "Structure of Read Status command", "AA 01 13 01 15"),
@@ -112,6 +118,51 @@ pub const PRINTED: &[Printed] = &[
     printed("001", "Managing Two LS-773 Nodes, #15", "AA 01 13 10 24"),
     printed("001", "Managing Two LS-773 Nodes, #16", "AA 02 18 03 1D"),
     printed("001", "Managing Two LS-773 Nodes, #17", "AA 02 13 10 25"),
+    printed("002", "Structure of Read Status command", "AA 01 13 01 15"),
+    printed("002", "Commands, Examples: Reset position", "AA 01 00 01"),
+    printed("002", "Commands, Examples: Define status", "AA 05 12 05 1C"),
+    misprint("002", "Commands, Examples: Set address", "AA 01 21 07 FF 21", "the sum is 28, not 21 (001 prints the same packet rightly)"),
+    printed("002", "Commands, Examples: Load trajectory", "AA 01 54 91 00 28 00 00 0E"),
+    printed("002", "Commands, Examples: Set gain", "AA 01 E6 64 00 00 04 00 00 00 00 FF 00 00 08 01 00 57"),
+    printed("002", "Set Address command format", "AA 00 21 01 FF 21"),
+    printed("002", "Sequential addressing, step 1", "AA FF 0F 0E"),
+    printed("002", "Sequential addressing, step 2", "AA 00 21 01 FF 21"),
+    printed("002", "Sequential addressing, step 3", "AA 00 21 02 FF 22"),
+    printed("002", "Sequential addressing, step 4", "AA 00 21 03 FF 23"),
+    printed("002", "Managing Two Servo Drives, #1", "AA FF 0F 0E"),
+    printed("002", "Managing Two Servo Drives, #2", "AA 00 21 01 FF 21"),
+    printed("002", "Managing Two Servo Drives, #3", "AA 00 21 02 FF 22"),
+    printed("002", "Managing Two Servo Drives, #4", "AA 01 E6 64 00 00 04 00 00 00 00 FF 00 00 08 01 00 57"),
+    printed("002", "Managing Two Servo Drives, #5", "AA 02 E6 64 00 00 04 00 00 00 00 FF 00 00 08 01 00 58"),
+    printed("002", "Managing Two Servo Drives, #6", "AA 01 E4 9F 00 00 00 00 00 00 00 00 01 00 00 00 00 85"),
+    printed("002", "Managing Two Servo Drives, #7", "AA 02 E4 9F 00 00 00 00 00 00 00 00 01 00 00 00 00 86"),
+    printed("002", "Managing Two Servo Drives, #8", "AA 01 17 05 1D"),
+    printed("002", "Managing Two Servo Drives, #9", "AA 02 17 05 1E"),
+    printed("002", "Managing Two Servo Drives, #10", "AA 01 E4 9F 00 00 00 00 00 80 01 00 64 00 00 00 00 69"),
+    printed("002", "Managing Two Servo Drives, #11", "AA 02 E4 9F 00 00 00 00 00 80 01 00 64 00 00 00 00 6A"),
+    printed("002", "Managing Two Servo Drives, #12", "AA 01 54 11 00 28 00 00 8E"),
+    printed("002", "Managing Two Servo Drives, #13", "AA 01 05 06"),
+    printed("002", "Managing Two Servo Drives, #14", "AA 01 13 05 19"),
+    printed("002", "Managing Two Servo Drives, #15", "AA 02 13 05 1A"),
+    printed("002", "Managing Two Servo Drives, #16", "AA 01 54 11 20 4E 00 00 D4"),
+    printed("002", "Managing Two Servo Drives, #17", "AA 02 54 11 E0 B1 FF FF F6"),
+    printed("002", "Managing Two Servo Drives, #18", "AA FF 05 04"),
+    printed("002", "Procedure Initialize, line 1", "AA FF 0F 0E"),
+    printed("002", "Procedure Initialize, line 2", "AA 00 21 01 FF 21"),
+    printed("002", "Procedure Initialize, line 3", "AA 00 21 02 FF 22"),
+    printed("002", "Procedure Initialize, line 4", "AA 01 13 20 34"),
+    printed("002", "Procedure Initialize, line 5", "AA 01 13 FF 13"),
+    printed("002", "Procedure Initialize, line 6", "AA 01 E6 64 00 00 04 00 00 00 00 FF 00 00 08 01 00 57"),
+    printed("002", "Procedure Initialize, line 7", "AA 01 E4 9F 00 00 00 00 00 00 00 00 01 00 00 00 00 85"),
+    printed("002", "Procedure Initialize, line 8", "AA 01 17 05 1D"),
+    printed("002", "Procedure FindHomePosition, line 1", "AA 01 E6 C8 00 20 03 46 00 28 00 FF 00 40 1F 01 00 9F"),
+    printed("002", "Procedure FindHomePosition, line 2", "AA 01 17 09 21"),
+    printed("002", "Procedure FindHomePosition, line 3", "AA 01 94 36 25 06 01 00 22 00 00 00 19"),
+    printed("002", "Procedure FindHomePosition, line 4", "AA 01 19 12 2C"),
+    printed("002", "Procedure FindHomePosition, line 5", "AA 01 05 06"),
+    printed("002", "Procedure FindHomePosition, line 6", "AA 01 19 18 32"),
+    printed("002", "Procedure FindHomePosition, line 7", "AA 01 94 77 25 06 01 00 58 01 00 00 91"),
+    printed("002", "Procedure FindHomePosition, line 8", "AA 01 05 06"),
     printed("004", "Managing Two LS-138 Drives, #1", "AA FF 0F 0E"),
     printed("004", "Managing Two LS-138 Drives, #2", "AA 00 21 01 FF 21"),
     printed("004", "Managing Two LS-138 Drives, #3", "AA 00 21 02 FF 22"),
@@ -143,25 +194,75 @@ pub const PRINTED: &[Printed] = &[
     printed("004", "Missing motor detecting example, step 6", "AA 01 13 08 1C"),
 ];
 
+/// A status packet as printed. The manuals say how many bytes were asked for
+/// and not which, so the mask is one of the LS-773's that asks for so many:
+/// reading goes by their number alone.
+pub struct PrintedStatus {
+    pub document: &'static str,
+    pub section: &'static str,
+    pub mask: u8,
+    pub bytes: &'static str,
+}
+
+const fn status(
+    document: &'static str,
+    section: &'static str,
+    mask: u8,
+    bytes: &'static str,
+) -> PrintedStatus {
+    PrintedStatus {
+        document,
+        section,
+        mask,
+        bytes,
+    }
+}
+
+/// The status packets in the order of the documents. All of them read.
+#[rustfmt::skip]
+pub const PRINTED_STATUS: &[PrintedStatus] = &[
+    status("000", "Status Data, Examples: no bytes asked for", 0x00, "09 09"),
+    status("000", "Status Data, Examples: four bytes asked for", 0x10, "09 00 28 00 00 31"),
+    status("001", "Status Data, Examples: no bytes asked for", 0x00, "00 00"),
+    status("001", "Status Data, Examples: four bytes asked for", 0x10, "00 01 23 05 10 39"),
+    status("002", "Status Data, Examples: no bytes asked for", 0x00, "09 09"),
+    status("002", "Status Data, Examples: four bytes asked for", 0x10, "09 00 28 00 00 31"),
+];
+
+fn bytes_of(text: &str) -> Vec<u8> {
+    hex::parse(Rules::RIGHT, text.as_bytes()).expect("the list is in hexadecimal")
+}
+
+/// Bytes as they are listed.
+fn shown(bytes: &[u8]) -> String {
+    if bytes.is_empty() {
+        return "none".to_string();
+    }
+    hex::format(bytes)
+}
+
 /// What reading a printed packet gives: its parts, or the number.
-fn reading(bytes: &str) -> String {
-    let bytes = hex::parse(Rules::RIGHT, bytes.as_bytes()).expect("the list is in hexadecimal");
-    match packet::read(Rules::RIGHT, &bytes) {
+pub fn reading(bytes: &str) -> String {
+    match packet::read(Rules::RIGHT, &bytes_of(bytes)) {
         Ok(packet) => format!(
             "address {:02X}, command {:X}, data {}",
             packet.address,
             packet.command(),
-            if packet.data.is_empty() {
-                "none".to_string()
-            } else {
-                hex::format(packet.data)
-            }
+            shown(packet.data)
         ),
         Err(refusal) => refusal.number().to_string(),
     }
 }
 
-/// The list, one packet to a line.
+/// What reading a printed status packet gives.
+fn status_reading(printed: &PrintedStatus) -> String {
+    match status::read(Rules::RIGHT, printed.mask, &bytes_of(printed.bytes)) {
+        Ok((status, items)) => format!("status {status:02X}, items {}", shown(items)),
+        Err(refusal) => refusal.number().to_string(),
+    }
+}
+
+/// The lists, one packet to a line.
 pub fn list() -> String {
     let mut text = String::new();
     for packet in PRINTED {
@@ -176,6 +277,15 @@ pub fn list() -> String {
             text += &format!(" | WRONG IN PRINT: {wrong}");
         }
         text.push('\n');
+    }
+    for packet in PRINTED_STATUS {
+        text += &format!(
+            "{} | {} | {} | {}\n",
+            packet.document,
+            packet.section,
+            packet.bytes,
+            status_reading(packet)
+        );
     }
     text
 }

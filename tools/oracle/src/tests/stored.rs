@@ -4,12 +4,10 @@ use crate::cases::{self, MOST_STORED};
 use crate::cases_bench::further_inputs;
 use crate::command::COMMAND_BYTES;
 use crate::coverage::Coverage;
-use crate::hex::{self, MOST_INPUT};
+use crate::hex::MOST_INPUT;
 use crate::layout::NODE_BYTES;
-use crate::manuals::{self, PRINTED};
+use crate::manuals::{self, DOCUMENTS, PRINTED, PRINTED_STATUS};
 use crate::node::{BenchValues, Node};
-use crate::packet;
-use crate::rules::Rules;
 use crate::{layout, make_bench, make_trials};
 
 #[test]
@@ -74,8 +72,8 @@ fn made_inputs_are_stable() {
     let expected = [
         0xAE94_4990_69F4_38FE,
         0xFE08_241C_7849_446D,
-        0xEA39_A866_6FD5_A199,
-        0x7C7A_9345_CA0B_A302,
+        0xFBDD_5CCB_C99E_36CA,
+        0xC113_030A_4D4D_E425,
     ];
     assert_eq!(sums, expected, "{sums:#018X?}");
 }
@@ -87,18 +85,61 @@ fn fingerprint(bytes: &[u8]) -> u64 {
     })
 }
 
-/// Four packets are wrong in print, and they are the marked ones.
+/// The packets that are wrong in print: where, and what reading gives.
+const MISPRINTS: [(&str, &str, &str); 5] = [
+    ("000", "Commands, Examples: Set address", "4"),
+    ("000", "Managing Two Servo-Drives, #10", "3"),
+    ("000", "Managing Two Servo-Drives, #11", "3"),
+    ("002", "Commands, Examples: Set address", "4"),
+    ("004", "Missing motor detecting example, step 3", "4"),
+];
+
+/// Five packets are wrong in print, and all others read.
 #[test]
-fn the_manuals_misprint_four_packets() {
-    let mut misprints = 0;
-    for printed in PRINTED {
-        let bytes = hex::parse(Rules::RIGHT, printed.bytes.as_bytes()).expect("hexadecimal");
-        let reads = packet::read(Rules::RIGHT, &bytes).is_ok();
-        assert_eq!(reads, printed.wrong.is_none(), "{}", printed.section);
-        misprints += usize::from(!reads);
-    }
-    assert_eq!(misprints, 4);
-    assert_eq!(manuals::list().matches("WRONG IN PRINT").count(), 4);
+fn the_manuals_misprint_five_packets() {
+    let wrong = PRINTED.iter().filter(|printed| printed.wrong.is_some());
+    let found: Vec<_> = wrong
+        .map(|printed| {
+            (
+                printed.document,
+                printed.section,
+                manuals::reading(printed.bytes),
+            )
+        })
+        .collect();
+    assert_eq!(
+        found,
+        MISPRINTS.map(|(document, place, number)| (document, place, number.to_string()))
+    );
+    let readings = PRINTED
+        .iter()
+        .map(|printed| manuals::reading(printed.bytes));
+    let read = readings.filter(|reading| reading.starts_with("address"));
+    assert_eq!(read.count() + MISPRINTS.len(), PRINTED.len());
+}
+
+/// Every packet that the manuals print is in the list, and in a stored case.
+#[test]
+fn the_manuals_packets_are_counted() {
+    let count = |document| {
+        PRINTED
+            .iter()
+            .filter(|one| one.document == document)
+            .count()
+    };
+    assert_eq!(DOCUMENTS.map(count), [45, 27, 45, 29]);
+    let cases = cases::manual_cases("");
+    let lines: usize = cases.iter().map(|case| case.lines.len()).sum();
+    assert_eq!(lines, PRINTED.len());
+}
+
+/// Each status packet that the manuals print reads under its mask.
+#[test]
+fn the_manuals_status_packets_read() {
+    let list = manuals::list();
+    let read = list.lines().filter(|line| line.contains(" | status "));
+    assert_eq!(read.count(), PRINTED_STATUS.len());
+    assert_eq!(PRINTED_STATUS.len(), 6);
 }
 
 #[test]

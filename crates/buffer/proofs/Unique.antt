@@ -2,9 +2,13 @@
 use mathlib.Core.Path.{_≡_, sym, _∙_}
 use denote.Ref.{now}
 use Rattle.wire.proofs.OneResult.{OneResult}
+use Rattle.buffer.proofs.Built.number.Reads as built-number
 use Rattle.buffer.proofs.put.Reads as put
 use Rattle.buffer.proofs.sum.Reads as sum
 use Rattle.buffer.proofs.ends_in_sum.Reads as ends-in-sum
+
+pub built-number-unique : OneResult built-number.Post
+built-number-unique κs a r r′ s s′ p q = p ∙ sym q
 
 pub sum-unique : OneResult sum.Post
 sum-unique κs a r r′ s s′ p q = p ∙ sym q

@@ -4,7 +4,7 @@
 use wire::Refusal;
 ghost use mathlib.Core.Path.{_≡_};
 ghost use Rattle.buffer.specs.Sum.{sumOf, endsInSum};
-ghost use Rattle.buffer.specs.Buffer.{putAt};
+ghost use Rattle.buffer.specs.Buffer.{builtNumber, putAt};
 
 // The 8-bit sum of bytes, wrapping past 255.
 pub fn sum(s: &[u8]) -> u8
@@ -35,6 +35,18 @@ pub fn ends_in_sum(s: &[u8]) -> bool
 pub enum Built {
     Bytes(usize),
     Refused(Refusal),
+}
+
+impl Built {
+    // The paper's number.
+    pub fn number(self) -> u8
+        ensures { λ r. ⌜ r ≡ builtNumber self ⌝ }
+    {
+        match self {
+            Built::Bytes(_) => wire::DONE,
+            Built::Refused(why) => why.number(),
+        }
+    }
 }
 
 // Copies `src` into `out` from `at` on, if all of it has room there.

@@ -3,11 +3,15 @@ use mathlib.Core.Path.{_≡_, sym, _∙_}
 use denote.Ref.{now}
 use Rattle.wire.proofs.OneResult.{OneResult}
 use Rattle.wire.proofs.Parts.{OnePart, one-part}
+use Rattle.packet.proofs.Framed.number.Reads as framed-number
 use Rattle.packet.proofs.frame.Reads as frame
 use Rattle.packet.proofs.is_intact.Reads as is-intact
 use Rattle.packet.proofs.read.Reads as read
 use Rattle.packet.proofs.data_part.Reads as data-part
 use Rattle.packet.proofs.build.Reads as build
+
+pub framed-number-unique : OneResult framed-number.Post
+framed-number-unique κs a r r′ s s′ p q = p ∙ sym q
 
 pub frame-unique : OneResult frame.Post
 frame-unique κs a r r′ s s′ p q = p .answer ∙ sym (q .answer)

@@ -27,6 +27,22 @@ pub enum Framed {
     Refused(Refusal),
 }
 
+impl Framed {
+    // The paper's number.
+    pub fn number(self) -> u8
+        ensures { λ r. ⌜ r ≡ framedNumber self ⌝ }
+    {
+        match self {
+            Framed::Whole {
+                address: _,
+                command: _,
+                count: _,
+            } => wire::DONE,
+            Framed::Refused(why) => why.number(),
+        }
+    }
+}
+
 // One whole command packet, whatever its sum: the chain takes a wrong sum too.
 pub fn frame(s: &[u8]) -> Framed
     ensures { λ r. ⌜ Promise framedNumber r (frameOf (now (s .entry))) ⌝ }

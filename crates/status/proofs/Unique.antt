@@ -3,10 +3,14 @@ use mathlib.Core.Path.{_≡_, sym, _∙_}
 use denote.Ref.{now}
 use Rattle.wire.proofs.OneResult.{OneResult}
 use Rattle.wire.proofs.Parts.{OnePart, one-part}
+use Rattle.status.proofs.Status.number.Reads as status-number
 use Rattle.status.proofs.read.Reads as read
 use Rattle.status.proofs.items_part.Reads as items-part
 use Rattle.status.proofs.build.Reads as build
 use Rattle.status.proofs.judge.Reads as judge
+
+pub status-number-unique : OneResult status-number.Post
+status-number-unique κs a r r′ s s′ p q = p ∙ sym q
 
 pub read-unique : OneResult read.Post
 read-unique κs a r r′ s s′ p q = p .answer ∙ sym (q .answer)

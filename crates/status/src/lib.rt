@@ -18,6 +18,18 @@ pub enum Status {
     Refused(Refusal),
 }
 
+impl Status {
+    // The paper's number.
+    pub fn number(self) -> u8
+        ensures { λ r. ⌜ r ≡ statusNumber self ⌝ }
+    {
+        match self {
+            Status::Whole(_) => wire::DONE,
+            Status::Refused(why) => why.number(),
+        }
+    }
+}
+
 // One whole status packet with so many item bytes.
 pub fn read(s: &[u8], items: usize) -> Status
     ensures { λ r. ⌜ Promise statusNumber r (statusOf (now (s .entry)) items) ⌝ }

@@ -8,21 +8,11 @@ use crate::state::is_state;
 use crate::state::read_order;
 use crate::state::target;
 use placing::is_placing;
-use session::End;
 use session::Session;
 use session::Step;
 use text::rest;
 use wire::Group;
 use wire::Individual;
-
-// The number of a call's end.
-pub(crate) fn end_number(end: End) -> u8 {
-    match end {
-        End::Done => wire::DONE,
-        End::Sent(_) => wire::DONE,
-        End::Refused(why) => why.number(),
-    }
-}
 
 // `kind target command-byte data..`: Set Address is not among the ten commands.
 fn is_order(s: &[u8]) -> bool {

@@ -78,7 +78,7 @@ fn answer(s: Session, kind: u8, args: &[u8], lent: &mut [u8]) -> Answer {
 fn try_call(s: Session, kind: u8, args: &[u8], lent: &mut [u8]) -> Session {
     let step = calls::call(s, kind, args, lent);
     let how = step.end;
-    show(numbered(calls::end_number(how), lent));
+    show(numbered(how.number(), lent));
     step.session
 }
 

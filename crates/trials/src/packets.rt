@@ -5,18 +5,9 @@ use crate::parts::is_lending;
 use crate::parts::malformed;
 use crate::parts::nothing;
 use crate::parts::numbered;
-use buffer::Built;
 use packet::Framed;
 use status::Status;
 use text::rest;
-
-// The number of a packet that was built, or of the refusal.
-fn built_number(b: Built) -> u8 {
-    match b {
-        Built::Bytes(_) => wire::DONE,
-        Built::Refused(why) => why.number(),
-    }
-}
 
 // `room address command data..`: `NN buffer`.
 pub(crate) fn build(args: &[u8], lent: &mut [u8]) -> Answer {
@@ -24,18 +15,23 @@ pub(crate) fn build(args: &[u8], lent: &mut [u8]) -> Answer {
         return malformed();
     }
     let built = packet::build(byte(args, 1), byte(args, 2), rest(args, 3), lent);
-    numbered(built_number(built), lent)
+    numbered(built.number(), lent)
 }
 
 // `bytes..`: `00 address command data..`, else `NN`.
 pub(crate) fn read(args: &[u8]) -> Answer {
-    match packet::read(args) {
+    let found = packet::read(args);
+    let answer = nothing().put(found.number());
+    match found {
         Framed::Whole {
             address,
             command,
             count: _,
-        } => numbered(wire::DONE, &[address.byte(), command]).put_all(packet::data_part(args)),
-        Framed::Refused(why) => nothing().put(why.number()),
+        } => answer
+            .put(address.byte())
+            .put(command)
+            .put_all(packet::data_part(args)),
+        Framed::Refused(_) => answer,
     }
 }
 
@@ -45,8 +41,10 @@ pub(crate) fn read_status(args: &[u8]) -> Answer {
         return malformed();
     }
     let bytes = rest(args, 1);
-    match mask::read(bytes, byte(args, 0)) {
-        Status::Whole(first) => numbered(wire::DONE, &[first]).put_all(status::items_part(bytes)),
-        Status::Refused(why) => nothing().put(why.number()),
+    let found = mask::read(bytes, byte(args, 0));
+    let answer = nothing().put(found.number());
+    match found {
+        Status::Whole(first) => answer.put(first).put_all(status::items_part(bytes)),
+        Status::Refused(_) => answer,
     }
 }

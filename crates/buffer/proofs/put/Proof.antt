@@ -26,6 +26,9 @@ module _ (out src o : List ℕ) (at i : ℕ) (fits : at + length src ≤ length 
   all : i ≤ length src → length src ≤ i → o ≡ putAt out at src
   all h k = e ∙ ap (paste out at src) (le-antisymm h k) ∙ sym (put-fits out at src fits)
 
+returns-3 : tie.Need-returns-3 Inv-loop μ-loop
+returns-3 c = search all
+
 pub put-spec : {M : Type 1} → statement M
 put-spec =
     tie.close
@@ -43,4 +46,4 @@ put-spec =
     (λ c. omega arith)
     (λ c. (omega arith, (search needs, (search more, simp length-set (search needs)))))
     (λ c. c .before .loop .inv .1 .1 .1)
-    (λ c. search all))
+    returns-3)

@@ -62,14 +62,14 @@ pub told-glance : (c d : Incoming) (s r : Seen) (n : Node) → c ≡ d → r ≡
 told-glance c d s r n e p = p ∙ sym (ap (λ (x : Incoming). glanceOf x s n) e)
 
 -- ---- the plan
-module _ (h : Heard) (s : ℕ) (ok : Bool) (e : ok ≡ isAnswered h) where
-  pub replier-found : (r : Replier) → r ≡ replierOf (members s) → ok ≡ true → r ≡ replierTo h s
+module _ (h : Heard) (s n : ℕ) (ok : Bool) (e : ok ≡ isAnswered h) where
+  pub replier-found : (r : Replier) → r ≡ replierOf (members n s) → ok ≡ true → r ≡ replierTo h s n
   unfolding replierTo
   replier-found r p y = rw (sym e ∙ y) p
 
-  pub replier-none : ok ≡ false → None ≡ replierTo h s
+  pub replier-none : ok ≡ false → None ≡ replierTo h s n
   unfolding replierTo
-  replier-none n = rw (sym e ∙ n)
+  replier-none f = rw (sym e ∙ f)
 
 module _ (c : Incoming) (s : Seen) (n : ℕ) where
   pub plan-empty : n < 1 → Refuse Range ≡ planOf c s n
@@ -86,11 +86,11 @@ module _ (c : Incoming) (s : Seen) (n : ℕ) where
       unfolding planOf
       plan-unsound e = rw (le-leb 1 n least, le-leb n 31 most, e)
 
-      pub plan-sound : (d : Incoming) (p : Plan) → c ≡ d → p ≡ planBy d s → s .sound ≡ true → p ≡ planOf c s n
+      pub plan-sound : (d : Incoming) (p : Plan) → c ≡ d → p ≡ planBy d s n → s .sound ≡ true → p ≡ planOf c s n
       unfolding planOf
       plan-sound d p q g e =
           let valid : (leb 1 n && leb n 31 && s .sound) ≡ true = rw (le-leb 1 n least, le-leb n 31 most) e in
-          g ∙ ap (λ (x : Incoming). planBy x s) (sym q) ∙ ap (λ (b : Bool). cond b (planBy c s) (Refuse Range)) (sym valid)
+          g ∙ ap (λ (x : Incoming). planBy x s n) (sym q) ∙ ap (λ (b : Bool). cond b (planBy c s n) (Refuse Range)) (sym valid)
 
 pub told-speaker : (p q : Plan) (i : ℕ) → p ≡ q → i ≡ speakerOf q → i ≡ speakerOf p
 told-speaker p q i e h = h ∙ sym (ap (λ (x : Plan). speakerOf x) e)

@@ -41,11 +41,8 @@ module _ (p : List ℕ) (f : Framed) (e : Promise framedNumber f (frameOf p)) wh
   came-unread why q = rw (← (e .answer), q)
 
 -- ---- one node more
-pub still-sound : (b x : Bool) (n : Node) → x ≡ sound n → b ≡ true → x ≡ soundWith b n
-still-sound b x n e y = rw y e
-
-pub no-more-sound : (b : Bool) (n : Node) → b ≡ false → false ≡ soundWith b n
-no-more-sound b n y = rw y
+pub still-sound : (b x : Bool) (n : Node) → x ≡ sound n → (b && x) ≡ soundWith b n
+still-sound b x n e = rw e
 
 pub glanced-for : (to : Address) (s r : Seen) (n : Node) (w a b : ℕ) (x y z : Bool) → x ≡ acts to (s .near) n → y ≡ replies to (s .near) n → z ≡ soundWith (s .sound) n
     → w ≡ (s .weight + s .weight) % 2 ^ 32 → a ≡ joined (s .acting) (s .weight) x → b ≡ joined (s .replying) (s .weight) y

@@ -81,10 +81,7 @@ pub(crate) fn start() -> Seen
 fn is_still_sound(sound: bool, n: Node) -> bool
     ensures { λ r. ⌜ r ≡ soundWith sound n ⌝ }
 {
-    if sound {
-        return is_sound(n);
-    }
-    false
+    sound & is_sound(n)
 }
 
 // One node more, of a packet for `to`.

@@ -12,12 +12,13 @@ use Rattle.node.specs.declared.state.Node.{Node}
 use Rattle.heard.specs.declared.Heard.{Heard}
 use Rattle.reply.specs.Reply.{replyOf}
 use Rattle.chain.specs.declared.sets.Replier.{Replier}
+use Rattle.chain.specs.declared.sets.Replier.the-variants.{None, Several}
 use Rattle.chain.specs.declared.survey.Plan.{Plan}
 use Rattle.chain.specs.declared.survey.Plan.the-variants.{Refuse}
 use Rattle.chain.specs.declared.survey.Survey.{Survey}
 use Rattle.chain.specs.declared.decision.Decided.{Decided}
-use Rattle.chain.specs.declared.decision.Delivery.the-variants.{Replied}
-use Rattle.chain.specs.Decision.{refusal, decidedOne, decidedBy, decidedPlan, decidedOf, reachOf}
+use Rattle.chain.specs.declared.decision.Delivery.the-variants.{Silent, Replied, Collision}
+use Rattle.chain.specs.Decision.{refusal, decided, decidedOne, decidedBy, decidedPlan, decidedOf, reachOf}
 
 pub reach-over : (n : ℕ) → 32 < n → 32 ≡ reachOf n
 reach-over n h = rw (lt-ltb 32 n h)
@@ -27,13 +28,21 @@ reach-under n h = rw (le-ltb 32 n h)
 
 -- one node replies
 module _ (n : Node) (acting : ℕ) (h : Heard) (out left : List ℕ) (b : Built) (p : Lending builtNumber b left (place (replyOf h n) out)) where
-  pub one-sent : (k : ℕ) → b ≡ built.Bytes k → record { answer = record { answer = Replied k; acting = acting; heard = h }; left = left } ≡ decidedOne n acting h out
+  pub one-sent : (k : ℕ) (d : Decided) → b ≡ built.Bytes k → d ≡ decided (Replied k) acting h → record { answer = d; left = left } ≡ decidedOne n acting h out
   unfolding decidedOne
-  one-sent k e = rw (← (p .answer), e, p .leaves)
+  one-sent k d e f = rw (← (p .answer), e, f, p .leaves)
 
   pub one-short : (why : Refusal) (d : Decided) → b ≡ built.Refused why → d ≡ refusal why → record { answer = d; left = left } ≡ decidedOne n acting h out
   unfolding decidedOne
   one-short why d e f = rw (← (p .answer), e, f, p .leaves)
+
+-- nobody replies, or several
+module _ (r : Replier) (n : Node) (acting : ℕ) (h : Heard) (out : List ℕ) (d : Decided) where
+  pub told-none : r ≡ None → d ≡ decided Silent acting h → record { answer = d; left = out } ≡ decidedBy r n acting h out
+  told-none e f = rw (e, f)
+
+  pub told-several : r ≡ Several → d ≡ decided Collision acting h → record { answer = d; left = out } ≡ decidedBy r n acting h out
+  told-several e f = rw (e, f)
 
 -- by who replies, and by the plan
 pub told-by : (r q : Replier) (n : Node) (acting : ℕ) (h : Heard) (out : List ℕ) (o : Outcome Decided (List ℕ)) → r ≡ q → o ≡ decidedBy q n acting h out → o ≡ decidedBy r n acting h out

@@ -4,7 +4,7 @@ use mathlib.Core.Bool.{Bool, true, false, cond, _&&_}
 use mathlib.Core.List.{List, [], _∷_}
 use mathlib.Core.Path.{_≡_, refl, sym, ap, _∙_}
 use native.Mathlib.Omega.{arith}
-use native.Mathlib.Nat.{pow-suc, not-suc-le-zero, le-of-suc-le-suc}
+use native.Mathlib.Nat.{pow-suc}
 use lib.Pow.{pow-mono}
 use lib.ListN.{length}
 use Rattle.wire.specs.declared.address.Address.{Address}
@@ -19,7 +19,6 @@ use Rattle.chain.specs.Chain.{turnedFrom, repliersFrom, allSound}
 use Rattle.chain.specs.Sets.{joined, membersFrom}
 use Rattle.chain.specs.Survey.{start, glanceFor, glancePast, glancesOf}
 use Rattle.chain.specs.Decision.{visited}
-use Rattle.chain.proofs.Members.{none-from}
 
 -- what f says of each node and its `near`
 abbrev pub flags : (Bool → Node → Bool) → Bool → List Node → List Bool
@@ -124,14 +123,13 @@ member-step : (k i : ℕ) (b : Bool) (x : ℕ) (rest : List ℕ) → x % 2 ≡ c
 member-step k i true x rest e f = rw (e, f)
 member-step k i false x rest e f = rw (e, f)
 
-pub repliers-are : (to : Address) (k i : ℕ) (near : Bool) (ns : List Node) → length ns ≤ k → membersFrom k i (setOf (flags (replies to) near ns)) ≡ repliersFrom to i near ns
-repliers-are to k i near [] h = none-from k i
-repliers-are to zero i near (n ∷ ns) h = absurd (not-suc-le-zero h)
-repliers-are to (suc k) i near (n ∷ ns) h =
+pub repliers-are : (to : Address) (i : ℕ) (near : Bool) (ns : List Node) → membersFrom (length ns) i (setOf (flags (replies to) near ns)) ≡ repliersFrom to i near ns
+repliers-are to i near [] = refl
+repliers-are to i near (n ∷ ns) =
     let b = replies to near n in
     let bs = flags (replies to) (n .addressed) ns in
-    member-step k i b (setOf (b ∷ bs)) (repliersFrom to (suc i) (n .addressed) ns) (low b bs)
-    (ap (λ (x : ℕ). membersFrom k (suc i) x) (high b bs) ∙ repliers-are to k (suc i) (n .addressed) ns (le-of-suc-le-suc h))
+    member-step (length ns) i b (setOf (b ∷ bs)) (repliersFrom to (suc i) (n .addressed) ns) (low b bs)
+    (ap (λ (x : ℕ). membersFrom (length ns) (suc i) x) (high b bs) ∙ repliers-are to (suc i) (n .addressed) ns)
 
 visit-step : (h : Heard) (b : Bool) (x : ℕ) (n : Node) (ns rest : List Node) → x % 2 ≡ cond b 1 0 → visited h (x / 2) ns ≡ rest → visited h x (n ∷ ns) ≡ cond b (taken h n) n ∷ rest
 visit-step h true x n ns rest e f = rw (e, f)

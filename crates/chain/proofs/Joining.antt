@@ -35,7 +35,6 @@ use Rattle.chain.specs.declared.decision.Decided.{Decided}
 use Rattle.chain.specs.declared.decision.Delivery.{Delivery}
 use Rattle.chain.specs.One.{acts, replies, heardAs}
 use Rattle.chain.specs.Chain.{after, replierOf, replierIn, Said, silence, said, saidBy, blank, allSound}
-use Rattle.chain.specs.Sets.{members}
 use Rattle.chain.specs.Survey.{incomingBy, incomingOf, start, glancesOf, replierTo, planBy, planOf, speakerIn, speakerOf, nobody, surveyOf}
 use Rattle.chain.specs.Decision.{decidedBuilt, decidedOne, decidedBy, decidedPlan, decidedOf, visited}
 use Rattle.chain.specs.Delivery.{Lent, valid, onBuilt, onSaid, deliveredTo, onFrame, deliveredOn, refused, deliveryNumber}
@@ -86,9 +85,9 @@ chosen-below false r n f i e = absurd (none-one i e)
 abbrev planned : Heard → List Node → List ℕ → Replier → ℕ → Outcome Delivery Lent
 planned h ns out r acting = came (decidedBy r (getD ns (speakerIn r) nobody) acting h out) ns
 
-replier-is : (to : Address) (h : Heard) (ns : List Node) → length ns ≤ 31 → replierTo h (setOf (flags (replies to) true ns)) ≡ cond (isAnswered h) (replierIn to ns) None
-unfolding replierTo members replierIn
-replier-is to h ns b = ap (λ (l : List ℕ). cond (isAnswered h) (replierOf l) None) (repliers-are to 32 0 true ns (omega (arith, b)))
+replier-is : (to : Address) (h : Heard) (ns : List Node) → replierTo h (setOf (flags (replies to) true ns)) (length ns) ≡ cond (isAnswered h) (replierIn to ns) None
+unfolding replierTo replierIn
+replier-is to h ns = ap (λ (l : List ℕ). cond (isAnswered h) (replierOf l) None) (repliers-are to 0 true ns)
 
 said-is : (to : Address) (h : Heard) (ns : List Node) (out : List ℕ) → onSaid (saidBy h ns (cond (isAnswered h) (replierIn to ns) None)) to h ns out ≡ deliveredTo to h ns out
 unfolding said deliveredTo
@@ -100,17 +99,17 @@ actors-after to h ns = actors-turn to h true ns
 
 -- a packet that was read, to a valid table
 read-plan : (to : Address) (h : Heard) (ns : List Node) (out : List ℕ) → length ns ≤ 31
-    → planned h ns out (replierTo h (glancesOf (Whole to h) start ns .replying)) (glancesOf (Whole to h) start ns .acting) ≡ deliveredTo to h ns out
+    → planned h ns out (replierTo h (glancesOf (Whole to h) start ns .replying) (length ns)) (glancesOf (Whole to h) start ns .acting) ≡ deliveredTo to h ns out
 read-plan to h ns out b =
-    ap (λ (a : ℕ). planned h ns out (replierTo h (glancesOf (Whole to h) start ns .replying)) a) (seen-acting to h ns b)
-    ∙ ap (λ (r : Replier). planned h ns out r (setOf (flags (acts to) true ns))) (ap (λ (x : ℕ). replierTo h x) (seen-replying to h ns b) ∙ replier-is to h ns b)
+    ap (λ (a : ℕ). planned h ns out (replierTo h (glancesOf (Whole to h) start ns .replying) (length ns)) a) (seen-acting to h ns b)
+    ∙ ap (λ (r : Replier). planned h ns out r (setOf (flags (acts to) true ns))) (ap (λ (x : ℕ). replierTo h x (length ns)) (seen-replying to h ns b) ∙ replier-is to h ns)
     ∙ by-replier to h ns out (setOf (flags (acts to) true ns)) (actors-after to h ns) (cond (isAnswered h) (replierIn to ns) None)
     (chosen-below (isAnswered h) (replierIn to ns) (length ns) (replier-below to ns))
     ∙ said-is to h ns out
 
 -- by the frame
 framed-plan : (f : Framed) (p : List ℕ) (ns : List Node) (out : List ℕ) → length ns ≤ 31
-    → came (decidedPlan (planBy (incomingBy f p) (glancesOf (incomingBy f p) start ns)) (getD ns (speakerOf (planBy (incomingBy f p) (glancesOf (incomingBy f p) start ns))) nobody) out) ns
+    → came (decidedPlan (planBy (incomingBy f p) (glancesOf (incomingBy f p) start ns) (length ns)) (getD ns (speakerOf (planBy (incomingBy f p) (glancesOf (incomingBy f p) start ns) (length ns))) nobody) out) ns
     ≡ onFrame f p ns out
 framed-plan (framed.Whole to k n) p ns out b = read-plan to (heardAs k p) ns out b
 framed-plan (framed.Refused why) p ns out b = refused-all why nobody ns out
@@ -126,7 +125,7 @@ unfolding incomingOf planOf surveyOf deliveredOn valid
 delivers ns p out =
     let c = incomingBy (frameOf p) p in
     rw (seen-sound c start ns)
-    (tabled-plan c (leb 1 (length ns) && leb (length ns) 31 && allSound ns) (planBy c (glancesOf c start ns)) ns out (onFrame (frameOf p) p ns out)
+    (tabled-plan c (leb 1 (length ns) && leb (length ns) 31 && allSound ns) (planBy c (glancesOf c start ns) (length ns)) ns out (onFrame (frameOf p) p ns out)
     (λ v. framed-plan (frameOf p) p ns out (leb-true (length ns) 31 (both (leb 1 (length ns)) _ (both _ (allSound ns) v .0) .1))))
 
 pub joined : (ns : List Node) (p out : List ℕ) (c : Incoming) (s : Survey) (d : Decided) (left : List ℕ) (zs : List Node)

@@ -1,5 +1,6 @@
 pub mod Ones
 pub mod Members
+pub mod Searching
 pub mod Visiting
 pub mod Shared
 pub mod Surveying

@@ -41,11 +41,8 @@ module _ (p : List ℕ) (f : Framed) (e : Promise framedNumber f (frameOf p)) wh
   came-unread why q = rw (← (e .answer), q)
 
 -- ---- one node more
-pub still-sound : (b x : Bool) (n : Node) → x ≡ sound n → b ≡ true → x ≡ soundWith b n
-still-sound b x n e y = rw y e
-
-pub no-more-sound : (b : Bool) (n : Node) → b ≡ false → false ≡ soundWith b n
-no-more-sound b n y = rw y
+pub still-sound : (b x : Bool) (n : Node) → x ≡ sound n → (b && x) ≡ soundWith b n
+still-sound b x n e = rw e
 
 pub glanced-for : (to : Address) (s r : Seen) (n : Node) (w a b : ℕ) (x y z : Bool) → x ≡ acts to (s .near) n → y ≡ replies to (s .near) n → z ≡ soundWith (s .sound) n
     → w ≡ (s .weight + s .weight) % 2 ^ 32 → a ≡ joined (s .acting) (s .weight) x → b ≡ joined (s .replying) (s .weight) y
@@ -62,14 +59,14 @@ pub told-glance : (c d : Incoming) (s r : Seen) (n : Node) → c ≡ d → r ≡
 told-glance c d s r n e p = p ∙ sym (ap (λ (x : Incoming). glanceOf x s n) e)
 
 -- ---- the plan
-module _ (h : Heard) (s : ℕ) (ok : Bool) (e : ok ≡ isAnswered h) where
-  pub replier-found : (r : Replier) → r ≡ replierOf (members s) → ok ≡ true → r ≡ replierTo h s
+module _ (h : Heard) (s n : ℕ) (ok : Bool) (e : ok ≡ isAnswered h) where
+  pub replier-found : (r : Replier) → r ≡ replierOf (members n s) → ok ≡ true → r ≡ replierTo h s n
   unfolding replierTo
   replier-found r p y = rw (sym e ∙ y) p
 
-  pub replier-none : ok ≡ false → None ≡ replierTo h s
+  pub replier-none : ok ≡ false → None ≡ replierTo h s n
   unfolding replierTo
-  replier-none n = rw (sym e ∙ n)
+  replier-none f = rw (sym e ∙ f)
 
 module _ (c : Incoming) (s : Seen) (n : ℕ) where
   pub plan-empty : n < 1 → Refuse Range ≡ planOf c s n
@@ -86,11 +83,11 @@ module _ (c : Incoming) (s : Seen) (n : ℕ) where
       unfolding planOf
       plan-unsound e = rw (le-leb 1 n least, le-leb n 31 most, e)
 
-      pub plan-sound : (d : Incoming) (p : Plan) → c ≡ d → p ≡ planBy d s → s .sound ≡ true → p ≡ planOf c s n
+      pub plan-sound : (d : Incoming) (p : Plan) → c ≡ d → p ≡ planBy d s n → s .sound ≡ true → p ≡ planOf c s n
       unfolding planOf
       plan-sound d p q g e =
           let valid : (leb 1 n && leb n 31 && s .sound) ≡ true = rw (le-leb 1 n least, le-leb n 31 most) e in
-          g ∙ ap (λ (x : Incoming). planBy x s) (sym q) ∙ ap (λ (b : Bool). cond b (planBy c s) (Refuse Range)) (sym valid)
+          g ∙ ap (λ (x : Incoming). planBy x s n) (sym q) ∙ ap (λ (b : Bool). cond b (planBy c s n) (Refuse Range)) (sym valid)
 
 pub told-speaker : (p q : Plan) (i : ℕ) → p ≡ q → i ≡ speakerOf q → i ≡ speakerOf p
 told-speaker p q i e h = h ∙ sym (ap (λ (x : Plan). speakerOf x) e)

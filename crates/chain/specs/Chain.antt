@@ -27,6 +27,7 @@ repliersFrom to i near [] = []
 repliersFrom to i near (n ∷ ns) =
     cond (replies to near n) (i ∷ repliersFrom to (suc i) (n .addressed) ns) (repliersFrom to (suc i) (n .addressed) ns)
 
+-- "the chain is searched in order and left at the second replier"
 abbrev pub replierOf : List ℕ → Replier
 replierOf [] = None
 replierOf (i ∷ []) = One i

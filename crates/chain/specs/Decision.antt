@@ -26,6 +26,7 @@ use Rattle.chain.specs.declared.decision.Delivery.the-variants.{Silent, 
 abbrev pub refusal : Refusal → Decided
 refusal why = record { answer = Refused why; acting = 0; heard = Other }
 
+-- no refusal: those that are to act do
 abbrev pub decided : Delivery → ℕ → Heard → Decided
 decided answer acting h = record { answer = answer; acting = acting; heard = h }
 

@@ -17,10 +17,11 @@ firstOf s = trailingZeros 32 s
 abbrev pub withoutFirst : ℕ → ℕ
 withoutFirst s = s - 2 ^ firstOf s
 
--- the indices of the set's nodes, in order: of k digits, the lowest of which is index i
+-- of k nodes, the first of which has index i and the set's lowest digit, the indices of those in the set, in order
 abbrev pub membersFrom : ℕ → ℕ → ℕ → List ℕ
 membersFrom zero i s = []
 membersFrom (suc k) i s = cond (eqb (s % 2) 1) (i ∷ membersFrom k (suc i) (s / 2)) (membersFrom k (suc i) (s / 2))
 
-unfoldable pub members : ℕ → List ℕ
-members s = membersFrom 32 0 s
+-- of the nodes 0 to n
+abbrev pub members : ℕ → ℕ → List ℕ
+members n s = membersFrom n 0 s

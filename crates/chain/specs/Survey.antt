@@ -63,20 +63,21 @@ abbrev pub glancesOf : Incoming → Seen → List Node → Seen
 glancesOf c s [] = s
 glancesOf c s (n ∷ ns) = glancesOf c (glanceOf c s n) ns
 
--- who replies, if the packet is answered at all, and who acts
-unfoldable pub replierTo : Heard → ℕ → Replier
-replierTo h s = cond (isAnswered h) (replierOf (members s)) None
+-- who replies, if the packet is answered at all: the nodes 0 to n are searched for those in the set s
+unfoldable pub replierTo : Heard → ℕ → ℕ → Replier
+replierTo h s n = cond (isAnswered h) (replierOf (members n s)) None
 
-abbrev pub planFor : Heard → Seen → Plan
-planFor h s = Deliver (replierTo h (s .replying)) (s .acting) h
+-- and who acts
+abbrev pub planFor : Heard → Seen → ℕ → Plan
+planFor h s n = Deliver (replierTo h (s .replying) n) (s .acting) h
 
-abbrev pub planBy : Incoming → Seen → Plan
-planBy (Whole to h) s = planFor h s
-planBy (Unread why) s = Refuse why
+abbrev pub planBy : Incoming → Seen → ℕ → Plan
+planBy (Whole to h) s n = planFor h s n
+planBy (Unread why) s n = Refuse why
 
 -- "For the chain 6 comes first"
 unfoldable pub planOf : Incoming → Seen → ℕ → Plan
-planOf c s n = cond (leb 1 n && leb n 31 && s .sound) (planBy c s) (Refuse Range)
+planOf c s n = cond (leb 1 n && leb n 31 && s .sound) (planBy c s n) (Refuse Range)
 
 -- the index of the one that replies
 abbrev pub speakerIn : Replier → ℕ

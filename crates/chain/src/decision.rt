@@ -8,7 +8,7 @@ use node::Node;
 use wire::Refusal;
 ghost use mathlib.Core.Path.{_≡_};
 ghost use Rattle.node.specs.Node.{taken};
-ghost use Rattle.chain.specs.Decision.{refusal, decidedOne, decidedBy, decidedOf, reachOf};
+ghost use Rattle.chain.specs.Decision.{refusal, decided, decidedOne, decidedBy, decidedOf, reachOf};
 
 // What a packet to the chain comes to: nobody replied; one node did, with so many bytes; several did at once; or the refusal.
 pub enum Delivery {
@@ -36,16 +36,23 @@ fn refuse(why: Refusal) -> Decided
     }
 }
 
+// No refusal: those that are to act do.
+fn accept(answer: Delivery, acting: u32, heard: Heard) -> Decided
+    ensures { λ r. ⌜ r ≡ decided answer acting heard ⌝ }
+{
+    Decided {
+        answer,
+        acting,
+        heard,
+    }
+}
+
 // One node replies: 5 where its reply has no room, before any node acts.
 fn decide_one(speaker: Node, acting: u32, heard: Heard, reply: &mut [u8]) -> Decided
     ensures { λ r. ⌜ record { answer = r; left = now (reply .exit) } ≡ decidedOne speaker acting heard (now (reply .entry)) ⌝ }
 {
     match reply::reply(speaker, heard, reply) {
-        Built::Bytes(n) => Decided {
-            answer: Delivery::Replied(n),
-            acting,
-            heard,
-        },
+        Built::Bytes(n) => accept(Delivery::Replied(n), acting, heard),
         Built::Refused(why) => refuse(why),
     }
 }
@@ -61,17 +68,9 @@ fn decide_by(
     ensures { λ r. ⌜ record { answer = r; left = now (reply .exit) } ≡ decidedBy replier speaker acting heard (now (reply .entry)) ⌝ }
 {
     match replier {
-        Replier::None => Decided {
-            answer: Delivery::Silent,
-            acting,
-            heard,
-        },
+        Replier::None => accept(Delivery::Silent, acting, heard),
         Replier::One(_) => decide_one(speaker, acting, heard, reply),
-        Replier::Several => Decided {
-            answer: Delivery::Collision,
-            acting,
-            heard,
-        },
+        Replier::Several => accept(Delivery::Collision, acting, heard),
     }
 }
 

@@ -1,4 +1,4 @@
-// One node of the chain and a packet: what the whole table is made of.
+// One node of the chain and a packet: what the whole table is made of. Tests are joined by & and |, so that a look at a node does not branch.
 use node::Node;
 use wire::Address;
 ghost use mathlib.Core.Path.{_≡_};
@@ -8,10 +8,7 @@ ghost use Rattle.chain.specs.One.{hears, meant, answers, acts, replies, 
 pub(crate) fn does_hear(n: Node, near: bool) -> bool
     ensures { λ r. ⌜ r ≡ hears near n ⌝ }
 {
-    if near {
-        return true;
-    }
-    n.addressed
+    near | n.addressed
 }
 
 // The address is the node's individual one, or its group.
@@ -30,12 +27,7 @@ pub(crate) fn is_answering(n: Node, to: Address) -> bool
 {
     match to {
         Address::Individual(i) => i.0 == n.settings.place.address.0,
-        Address::Group(g) => {
-            if n.settings.place.leader {
-                return g.0 == n.settings.place.group.0;
-            }
-            false
-        }
+        Address::Group(g) => n.settings.place.leader & (g.0 == n.settings.place.group.0),
     }
 }
 
@@ -45,28 +37,19 @@ pub(crate) fn is_sound(n: Node) -> bool
 {
     let address = n.settings.place.address;
     let group = n.settings.place.group;
-    if address.in_range() {
-        return group.in_range();
-    }
-    false
+    address.in_range() & group.in_range()
 }
 
 // Whether the node acts on a packet.
 pub(crate) fn does_act(n: Node, near: bool, to: Address) -> bool
     ensures { λ r. ⌜ r ≡ acts to near n ⌝ }
 {
-    if does_hear(n, near) {
-        return is_meant(n, to);
-    }
-    false
+    does_hear(n, near) & is_meant(n, to)
 }
 
 // Whether the node replies to a packet that is answered.
 pub(crate) fn does_reply(n: Node, near: bool, to: Address) -> bool
     ensures { λ r. ⌜ r ≡ replies to near n ⌝ }
 {
-    if does_hear(n, near) {
-        return is_answering(n, to);
-    }
-    false
+    does_hear(n, near) & is_answering(n, to)
 }

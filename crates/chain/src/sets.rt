@@ -38,24 +38,32 @@ pub(crate) fn without_first(set: u32) -> u32
     set - (1u32 << u32::trailing_zeros(set))
 }
 
-// The set is searched in order, and left at its second node.
-pub(crate) fn search(set: u32) -> Replier
-    ensures { λ r. ⌜ r ≡ replierOf (members set) ⌝ }
+// The chain is searched in order, node 0 to n, and left at the second replier; at the first, where nobody behind it replies.
+// Whether node i replies was seen before: it is bit i of `replying`.
+pub(crate) fn search(replying: u32, n: usize) -> Replier
+    ensures { λ r. ⌜ r ≡ replierOf (members n replying) ⌝ }
 {
-    let mut rest = set;
+    let mut rest = replying;
     let mut found = Replier::None;
+    let mut i: usize = 0;
     loop {
-        if rest == 0 {
+        if n <= i {
             break found;
         }
-        match found {
-            Replier::None => {
-                found = Replier::One(first(rest));
+        if rest % 2 == 1 {
+            match found {
+                Replier::None => {
+                    found = Replier::One(i);
+                }
+                _ => {
+                    break Replier::Several;
+                }
             }
-            _ => {
-                break Replier::Several;
+            if rest == 1 {
+                break found;
             }
         }
-        rest = without_first(rest);
+        rest = rest / 2;
+        i += 1;
     }
 }

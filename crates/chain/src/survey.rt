@@ -81,21 +81,20 @@ pub(crate) fn start() -> Seen
 fn is_still_sound(sound: bool, n: Node) -> bool
     ensures { λ r. ⌜ r ≡ soundWith sound n ⌝ }
 {
-    if sound {
-        return is_sound(n);
-    }
-    false
+    sound & is_sound(n)
 }
 
 // One node more, of a packet for `to`.
 fn glance_for(seen: Seen, n: Node, to: Address) -> Seen
     ensures { λ r. ⌜ r ≡ glanceFor to seen n ⌝ }
 {
+    let acts = does_act(n, seen.near, to);
+    let replies = does_reply(n, seen.near, to);
     Seen {
         near: n.addressed,
         weight: std::num::wrapping_add_u32(seen.weight, seen.weight),
-        acting: join(seen.acting, seen.weight, does_act(n, seen.near, to)),
-        replying: join(seen.replying, seen.weight, does_reply(n, seen.near, to)),
+        acting: join(seen.acting, seen.weight, acts),
+        replying: join(seen.replying, seen.weight, replies),
         sound: is_still_sound(seen.sound, n),
     }
 }
@@ -119,22 +118,22 @@ pub(crate) fn glance(seen: Seen, n: Node, incoming: Incoming) -> Seen
     }
 }
 
-// Who replies to a packet, of those that it calls.
-fn replier_to(heard: Heard, replying: u32) -> Replier
-    ensures { λ r. ⌜ r ≡ replierTo heard replying ⌝ }
+// Who replies to a packet, of n nodes and those of them that it calls.
+fn replier_to(heard: Heard, replying: u32, n: usize) -> Replier
+    ensures { λ r. ⌜ r ≡ replierTo heard replying n ⌝ }
 {
     if heard.is_answered() {
-        return search(replying);
+        return search(replying, n);
     }
     Replier::None
 }
 
-// A packet that says `heard`, to a table that can be used.
-fn plan_for(heard: Heard, seen: Seen) -> Plan
-    ensures { λ r. ⌜ r ≡ planFor heard seen ⌝ }
+// A packet that says `heard`, to a table of n nodes that can be used.
+fn plan_for(heard: Heard, seen: Seen, n: usize) -> Plan
+    ensures { λ r. ⌜ r ≡ planFor heard seen n ⌝ }
 {
     Plan::Deliver {
-        replier: replier_to(heard, seen.replying),
+        replier: replier_to(heard, seen.replying, n),
         acting: seen.acting,
         heard,
     }
@@ -152,7 +151,7 @@ pub(crate) fn plan_of(incoming: Incoming, seen: Seen, n: usize) -> Plan
     }
     if seen.sound {
         return match incoming {
-            Incoming::Whole { to: _, heard } => plan_for(heard, seen),
+            Incoming::Whole { to: _, heard } => plan_for(heard, seen, n),
             Incoming::Unread(why) => Plan::Refuse(why),
         };
     }

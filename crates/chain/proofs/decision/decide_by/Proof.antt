@@ -1,6 +1,6 @@
 -- Who replies decides.
 use borrow.Author.Needs.{needs}
-use Rattle.chain.proofs.Deciding.{told-by}
+use Rattle.chain.proofs.Deciding.{told-none, told-by, told-several}
 use Rattle.chain.proofs.decision.decide_by.Statement.{statement}
 use Rattle.chain.proofs.decision.decide_by.Tie as tie
 
@@ -9,10 +9,12 @@ decide-by-spec =
     tie.close
     (tie.spec
     (λ c. search needs)
+    (λ c κs. search needs)
     (λ c. search needs)
     (λ c κs. search needs)
     (λ c. search needs)
-    (λ c. search told-by)
+    (λ c κs. search needs)
+    (λ c. search told-none)
     (λ c. search needs)
     (λ c. search told-by)
-    (λ c. search told-by))
+    (λ c. search told-several))

@@ -1,8 +1,8 @@
--- By the kind of address; a group by its leader flag, and then by its byte.
+-- By the kind of address.
 use borrow.Author.Needs.{needs}
-use Rattle.chain.proofs.Ones.{told-answers, group-led, group-unled}
+use Rattle.chain.proofs.Ones.{told-answers}
 use Rattle.chain.proofs.one.is_answering.Statement.{statement}
 use Rattle.chain.proofs.one.is_answering.Tie as tie
 
 pub is-answering-spec : {M : Type 1} → statement M
-is-answering-spec = tie.close (tie.spec (λ c. search needs) (λ c. search needs) (λ c. search (told-answers, group-led)) (λ c. search (told-answers, group-led)) (λ c. search group-unled))
+is-answering-spec = tie.close (tie.spec (λ c. search needs) (λ c. search needs) (λ c. search told-answers) (λ c. search told-answers))

@@ -1,16 +1,16 @@
--- The invariant: what was found, then what is left of the set, is who replies.
-use Prim.Native.Nat.{_<_, _^_}
-use mathlib.Core.Path.{refl}
+-- The invariant: what was found, then the repliers from node i on, is who replies.
+use Prim.Native.Nat.{_-_}
+use mathlib.Core.Logic.{⊎-elim}
 use borrow.Author.Needs.{needs}
-use Rattle.chain.proofs.Members.{Going, search-end, search-first, search-second, without-less, without-fits, not-none}
+use Rattle.chain.proofs.Searching.{Going, search-start, search-end, search-past, search-first, search-last, search-second, not-none}
 use Rattle.chain.proofs.sets.search.Statement.{statement}
 use Rattle.chain.proofs.sets.search.Tie as tie
 
 abbrev Inv-loop : tie.InvT-loop
-Inv-loop set rest₀ found₀ rest found = (rest < 2 ^ 32) × Going set rest found
+Inv-loop replying n rest₀ found₀ i₀ rest found i = Going replying n rest i found
 
 abbrev μ-loop : tie.MeasureT-loop
-μ-loop set rest₀ found₀ rest found = rest
+μ-loop replying n rest₀ found₀ i₀ rest found i = n - i
 
 pub search-spec : {M : Type 1} → statement M
 search-spec =
@@ -18,11 +18,11 @@ search-spec =
     (tie.spec
     Inv-loop
     μ-loop
-    (λ c. (search needs, refl))
+    (λ c. search search-start)
     (λ c. search needs)
-    (λ c κs. search needs)
-    (λ c κs. search needs)
-    (λ c. search without-less)
-    (λ c. (search without-fits, search search-first))
+    (λ c. search needs)
+    (λ c. search needs)
+    (λ c. ⊎-elim (λ w. search search-first) (λ w. search search-past) (c .if2 .came))
     (λ c. search search-end)
-    (λ c. search (search-second, not-none)))
+    (λ c. search (search-second, not-none))
+    (λ c. search search-last))

@@ -8,6 +8,7 @@ use node::Node;
 use wire::Refusal;
 ghost use mathlib.Core.Path.{_≡_};
 ghost use Rattle.node.specs.Node.{taken};
+ghost use Rattle.chain.specs.Delivery.{deliveryNumber};
 ghost use Rattle.chain.specs.Decision.{refusal, decided, decidedOne, decidedBy, decidedOf, reachOf};
 
 // What a packet to the chain comes to: nobody replied; one node did, with so many bytes; several did at once; or the refusal.
@@ -16,6 +17,20 @@ pub enum Delivery {
     Replied(usize),
     Collision,
     Refused(Refusal),
+}
+
+impl Delivery {
+    // The paper's number.
+    pub fn number(self) -> u8
+        ensures { λ r. ⌜ r ≡ deliveryNumber self ⌝ }
+    {
+        match self {
+            Delivery::Silent => wire::DONE,
+            Delivery::Replied(_) => wire::DONE,
+            Delivery::Collision => wire::COLLISION,
+            Delivery::Refused(why) => why.number(),
+        }
+    }
 }
 
 // The answer, who acts, and on what.

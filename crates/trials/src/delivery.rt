@@ -45,16 +45,6 @@ fn put_nodes(a: Answer, nodes: [Node; 33], count: usize) -> Answer
     all
 }
 
-// The number of a delivery.
-fn number(d: Delivery) -> u8 {
-    match d {
-        Delivery::Silent => wire::DONE,
-        Delivery::Replied(_) => wire::DONE,
-        Delivery::Collision => wire::COLLISION,
-        Delivery::Refused(why) => why.number(),
-    }
-}
-
 // The length of the reply: 0 for none, a collision or a refusal.
 fn reply_length(d: Delivery) -> u8 {
     match d {
@@ -73,7 +63,7 @@ fn put_delivered(d: Delivered, lent: &[u8], count: usize) -> Answer
     let table = d.table;
     let nodes = table.nodes;
     let a = nothing()
-        .put(number(answer))
+        .put(answer.number())
         .put(reply_length(answer))
         .put_all(lent);
     put_nodes(a, nodes, count)

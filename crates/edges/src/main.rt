@@ -128,7 +128,7 @@ fn read(from: u8, count: u8) {
     );
 }
 
-// A look at a node, from a session of n nodes.
+// A look at a node, from a session of n nodes; it is lent nothing.
 fn look(n: u8, node: u8) {
     let answer = match session::look(session(n, 0), Individual(node)) {
         Seen::Found(_) => Built::Bytes(0),

@@ -1,6 +1,6 @@
 // Command packets: 0xAA; address; command byte; 0 to 15 data bytes; sum.
 // Promised: a built packet reads back as its parts, an accepted one is the one built from its parts.
-// Left to others: which command a nibble with its data is (command), and that a wrong sum is answered (node).
+// Left to others: which command a nibble with its data is (command), and that a wrong sum is answered (heard).
 use buffer::Built;
 use wire::Address;
 use wire::Refusal;

@@ -28,6 +28,26 @@ pub fn parse(rules: Rules, line: &[u8]) -> Option<Vec<u8>> {
         .collect()
 }
 
+/// Reads a line into a lent buffer "as far as it has room", and answers how
+/// many bytes the line has. A malformed line leaves the buffer as it stood.
+pub fn read_into(rules: Rules, line: &[u8], buffer: &mut [u8]) -> Option<usize> {
+    if rules.slips(Mistake::BrokenLineFills) {
+        let words = line.split(|byte| *byte == b' ');
+        let whole = words.map_while(|word| parse(rules, word)).flatten();
+        buffer
+            .iter_mut()
+            .zip(whole)
+            .for_each(|(to, byte)| *to = byte);
+    }
+    let bytes = parse(rules, line)?;
+    let kept = bytes.len().min(buffer.len());
+    buffer[..kept].copy_from_slice(&bytes[..kept]);
+    Some(match rules.slips(Mistake::RoomCounted) {
+        true => kept,
+        false => bytes.len(),
+    })
+}
+
 fn digit(rules: Rules, character: u8) -> Option<u8> {
     match character {
         b'0'..=b'9' => Some(character - b'0'),

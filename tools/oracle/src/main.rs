@@ -8,6 +8,7 @@ mod chain;
 mod command;
 mod coverage;
 mod demand3;
+mod edges;
 mod hex;
 mod history;
 mod layout;
@@ -36,6 +37,7 @@ use rules::Rules;
 const USAGE: &str = "\
 oracle bench                    a bench input in, what the bench must print out
 oracle trials                   a trials input in, what trials must print out
+oracle edges                    what edges must print out
 oracle make-bench SEED LINES    a seeded bench input
 oracle make-trials SEED LINES   a seeded trials input
 oracle cases-bench [NAME]       the stored bench input, or a further one
@@ -80,6 +82,7 @@ fn run(words: &[&str]) -> Option<Output> {
     let bytes = match words {
         ["bench"] => bench::run(Rules::RIGHT, &input()).into_bytes(),
         ["trials"] => trials::run(Rules::RIGHT, &input()).into_bytes(),
+        ["edges"] => edges::run(Rules::RIGHT).into_bytes(),
         ["make-bench", seed, lines] => make_bench::make(seed.parse().ok()?, lines.parse().ok()?),
         ["make-trials", seed, lines] => make_trials::make(seed.parse().ok()?, lines.parse().ok()?),
         ["cases-bench"] => cases::bench(),

@@ -120,6 +120,14 @@ mistakes! {
     EmptyLineSkipped: "an empty line is no packet",
     LastLineNeedsNewline: "a last line without newline is dropped",
     BadLineStops: "a malformed line ends the run",
+    // Calls that only the program `edges` makes.
+    SetAddressOrdered: "a Set Address is taken among a ready session's commands",
+    AnyAddressBuilt: "a command is built to an address that is not of its kind's range",
+    AnyPlaceBuilt: "a Set Address is built with a place that is not of its range",
+    RoomCounted: "reading a line answers how many of its bytes had room",
+    BrokenLineFills: "a malformed line fills the buffer up to where it breaks",
+    LookPastRecord: "a look past node 31 shows the last entry",
+    LookAsksClosed: "a look at a session that counts as closed gives 12",
 }
 
 /// The rules in force: the right ones, or in tests the right ones but one.

@@ -36,6 +36,11 @@ impl Target {
     pub fn is_group(self) -> bool {
         matches!(self, Target::Group(_))
     }
+
+    /// "Addresses 0x00 to 0x7F are individual, 0x80 to 0xFF are groups."
+    pub fn is_in_range(self) -> bool {
+        self.is_group() == (self.address() >= 0x80)
+    }
 }
 
 /// "The open exchange holds the command that waits."
@@ -117,7 +122,8 @@ impl Session {
         self.send(node, Target::Node(node), Command::Nop, buffer)
     }
 
-    /// One of the ten commands of a ready session, to a node or a group.
+    /// One of the ten commands of a ready session, to a node or a group. Set
+    /// Address is not among them: 6.
     pub fn command(
         &mut self,
         target: Target,
@@ -126,6 +132,12 @@ impl Session {
     ) -> Result<usize, Refusal> {
         self.slip_into_range_check(target)?;
         self.require_idle()?;
+        if let (Target::Node(node), true) = (target, self.rules.slips(Mistake::NodeBeforeRange)) {
+            self.require_node(node)?;
+        }
+        let ordered = !matches!(command, Command::SetAddress(_))
+            || self.rules.slips(Mistake::SetAddressOrdered);
+        require(ordered, Refusal::OffRange)?;
         match target {
             Target::Group(group) => require(group >= 0x80, Refusal::OffRange)?,
             Target::Node(node) => self.require_node(node)?,
@@ -169,6 +181,18 @@ impl Session {
             leader: leader && !self.rules.slips(Mistake::LeaderWishSentAsMember),
         };
         self.send(node, Target::Node(node), Command::SetAddress(place), buffer)
+    }
+
+    /// What the record has of a node 1 to n, whether the session counts as
+    /// closed or not. There are entries for 31 nodes, whatever n is.
+    pub fn look(&self, node: u8) -> Result<&Entry, Refusal> {
+        if self.rules.slips(Mistake::LookAsksClosed) {
+            require(self.is_open(), Refusal::SessionClosed)?;
+        }
+        self.require_node(node)?;
+        let past = self.rules.slips(Mistake::LookPastRecord) && node > MOST_NODES;
+        let index = usize::from(if past { MOST_NODES } else { node }) - 1;
+        self.entries.get(index).ok_or(Refusal::NoSuchNode)
     }
 
     /// Closes the exchange with the bytes received. "Reporting gives only 8."

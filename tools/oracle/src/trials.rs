@@ -12,7 +12,7 @@ use crate::session::Session;
 use crate::status;
 
 /// What a lent buffer holds before the call.
-const FILL: u8 = 0x55;
+pub const FILL: u8 = 0x55;
 
 /// The largest room of a lent buffer.
 pub const MOST_ROOM: u8 = 0x40;

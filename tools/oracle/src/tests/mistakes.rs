@@ -2,7 +2,7 @@
 
 use crate::cases::{self, line_names};
 use crate::rules::{Mistake, Rules, ALL};
-use crate::{bench, cases_bench, cases_trials, demand3, trials};
+use crate::{bench, cases_bench, cases_trials, demand3, edges, trials};
 
 /// The seed and the steps of demand 3 that each mistake is tried on.
 const DEMAND3: (u64, usize) = (1, 12_000);
@@ -57,6 +57,14 @@ fn trials_input() -> Tried {
     Tried::new(cases::trials(), names, trials::run)
 }
 
+/// The calls of `edges`, which takes no input, named by their arguments.
+fn edges_calls() -> Tried {
+    let output = edges::run(Rules::RIGHT);
+    let calls = output.lines().filter_map(|line| line.split(':').next());
+    let names = calls.map(str::to_string).collect();
+    Tried::new(Vec::new(), names, |rules, _| edges::run(rules))
+}
+
 fn in_demand3(rules: Rules) -> bool {
     demand3::run(rules, DEMAND3.0, DEMAND3.1).is_err()
 }
@@ -70,15 +78,16 @@ fn cell(found: &Option<(usize, String)>) -> String {
 
 /// The table of README.md.
 fn table() -> String {
-    let (bench, trials) = (bench_inputs(), trials_input());
+    let (bench, trials, edges) = (bench_inputs(), trials_input(), edges_calls());
     let mut text = String::new();
     for (mistake, meaning) in ALL {
         let rules = Rules::with(*mistake);
         let in_bench = bench.iter().find_map(|tried| tried.differences(rules));
         text += &format!(
-            "| {meaning} | {} | {} | {} |\n",
+            "| {meaning} | {} | {} | {} | {} |\n",
             cell(&in_bench),
             cell(&trials.differences(rules)),
+            cell(&edges.differences(rules)),
             if in_demand3(rules) { "yes" } else { "-" }
         );
     }
@@ -90,7 +99,7 @@ fn table() -> String {
 fn every_mistake_is_noticed() {
     let table = table();
     for row in table.lines() {
-        assert!(!row.ends_with("| - | - | - |"), "unnoticed: {row}");
+        assert!(!row.ends_with("| - | - | - | - |"), "unnoticed: {row}");
     }
     let readme = include_str!("../../README.md");
     assert!(

@@ -1,10 +1,10 @@
-//! The two programs at the edges of their input.
+//! The programs at the edges of their input, and what `edges` tries.
 
 use super::last_answer;
 use crate::cases_bench::further_inputs;
 use crate::hex::MOST_INPUT;
 use crate::rules::Rules;
-use crate::{bench, trials};
+use crate::{bench, edges, trials};
 
 fn bench_output(input: &[u8]) -> String {
     bench::run(Rules::RIGHT, input)
@@ -95,5 +95,27 @@ fn no_nodes_and_open_counts_as_ready() {
         ("36", "08"),
     ] {
         assert_eq!(last_answer(&[hand_in.as_str(), line]), answer, "{line}");
+    }
+}
+
+/// A call of each kind that is refused or cut short, and one that is not.
+#[test]
+fn edges_of_every_kind() {
+    let output = edges::run(Rules::RIGHT);
+    for line in [
+        "order Set Address, walk and node 02 01:06 00 55 55 55 55 55",
+        "order Set Address, walk and node 03 01:0C 00 55 55 55 55 55",
+        "build Nop, kind and address 00 7F:00 04 AA 7F 0E 8D 55",
+        "build Nop, kind and address 00 80:06 00 55 55 55 55 55",
+        "build Nop, kind and address 01 7F:06 00 55 55 55 55 55",
+        "build Set Address, address and group 7F 80:05 00 55 55 55 55 55",
+        "build Set Address, address and group 80 80:06 00 55 55 55 55 55",
+        "read a line, from and characters 00 05:00 02 01 02 55 55 55",
+        "read a line, from and characters 00 14:00 07 01 02 03 04 05",
+        "read a line, from and characters 00 16:06 00 55 55 55 55 55",
+        "look, n and node 20 1F:00 00 55 55 55 55 55",
+        "look, n and node 20 20:0A 00 55 55 55 55 55",
+    ] {
+        assert!(output.lines().any(|own| own == line), "{line}");
     }
 }

@@ -1,4 +1,4 @@
--- What `wire::put` leaves.
+-- What `buffer::put` leaves.
 use borrow.Author.Needs.{needs}
 use Rattle.script.proofs.Appends.{put-wrote}
 use Rattle.script.proofs.answers.append.Statement.{statement}

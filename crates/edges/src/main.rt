@@ -1,0 +1,164 @@
+// Edges: calls that no line of `trials` can make, since its forms have no such arguments.
+// One line a call: what was tried and its two arguments; then the paper's number, how many bytes the answer speaks of, and the lent buffer, which held 55 before.
+// It has 5 bytes: a Nop has room there, a Set Address has not, so that 6 is seen to come before 5.
+use buffer::Built;
+use command::Command;
+use command::Place;
+use hex::Parsed;
+use libc::STDOUT_FILENO;
+use session::End;
+use session::Seen;
+use session::Session;
+use wire::Address;
+use wire::Group;
+use wire::Individual;
+use wire::Refusal;
+
+fn show(what: &[u8], a: u8, b: u8, answer: Built, lent: &[u8; 5]) {
+    let mut number = wire::DONE;
+    let mut length = 0;
+    match answer {
+        Built::Bytes(n) => length = (n % 256) as u8,
+        Built::Refused(why) => number = why.number(),
+    }
+    let mut line = [0; 27];
+    hex::write_line(
+        &[
+            a,
+            b,
+            number,
+            length,
+            lent[0],
+            lent[1],
+            lent[2],
+            lent[3],
+            lent[4],
+        ],
+        &mut line,
+    );
+    // Between the arguments and the answer.
+    line[5] = b':';
+    io::write_all(STDOUT_FILENO, what);
+    io::write_all(STDOUT_FILENO, &line);
+}
+
+// A session made by hand: it counts as closed if n is above 31 or the walk past n.
+fn session(n: u8, walk: u8) -> Session {
+    let mut s = start::fresh();
+    s.started = true;
+    s.n = n;
+    s.walk = walk;
+    s
+}
+
+fn set_address(address: u8, group: u8) -> Command {
+    Command::SetAddress(Place {
+        address: Individual(address),
+        group: Group(group),
+        leader: true,
+    })
+}
+
+// A Set Address to a node, ordered from a session of two nodes.
+fn order(walk: u8, node: u8) {
+    let mut lent = [0x55; 5];
+    let to = Address::Individual(Individual(node));
+    let step = host::order(session(2, walk), to, set_address(node, 0x81), &mut lent);
+    let end = step.end;
+    let answer = match end {
+        End::Done => Built::Bytes(0),
+        End::Sent(n) => Built::Bytes(n),
+        End::Refused(why) => Built::Refused(why),
+    };
+    show(
+        b"order Set Address, walk and node ",
+        walk,
+        node,
+        answer,
+        &lent,
+    );
+}
+
+// A Nop to an address of kind 0, individual, or 1, group.
+fn build_nop(kind: u8, address: u8) {
+    let mut lent = [0x55; 5];
+    let to = if kind < 1 {
+        Address::Individual(Individual(address))
+    } else {
+        Address::Group(Group(address))
+    };
+    let answer = command::build(to, Command::Nop, &mut lent);
+    show(
+        b"build Nop, kind and address ",
+        kind,
+        address,
+        answer,
+        &lent,
+    );
+}
+
+// A Set Address to node 1, with this place.
+fn build_place(address: u8, group: u8) {
+    let mut lent = [0x55; 5];
+    let to = Address::Individual(Individual(1));
+    let answer = command::build(to, set_address(address, group), &mut lent);
+    show(
+        b"build Set Address, address and group ",
+        address,
+        group,
+        answer,
+        &lent,
+    );
+}
+
+// A part of a line whose last byte lacks a digit.
+fn read(from: u8, count: u8) {
+    let mut lent = [0x55; 5];
+    let line = text::rest(b"01 02 03 04 05 06 07 0", from as usize);
+    let answer = match hex::read_bytes(text::first(line, count as usize), &mut lent) {
+        Parsed::Bytes(n) => Built::Bytes(n),
+        Parsed::Malformed => Built::Refused(Refusal::Range),
+    };
+    show(
+        b"read a line, from and characters ",
+        from,
+        count,
+        answer,
+        &lent,
+    );
+}
+
+// A look at a node, from a session of n nodes; it is lent nothing.
+fn look(n: u8, node: u8) {
+    let answer = match session::look(session(n, 0), Individual(node)) {
+        Seen::Found(_) => Built::Bytes(0),
+        Seen::Refused(why) => Built::Refused(why),
+    };
+    show(b"look, n and node ", n, node, answer, &[0x55; 5]);
+}
+
+fn main() {
+    order(2, 1);
+    order(2, 3);
+    order(0, 1);
+    order(3, 1);
+    build_nop(0, 0x7F);
+    build_nop(0, 0x80);
+    build_nop(0, 0xFF);
+    build_nop(1, 0x80);
+    build_nop(1, 0x7F);
+    build_nop(1, 0x00);
+    build_place(0x7F, 0x80);
+    build_place(0x80, 0x80);
+    build_place(0x7F, 0x7F);
+    read(0, 0);
+    read(0, 5);
+    read(0, 20);
+    read(0, 22);
+    read(1, 4);
+    look(31, 31);
+    look(32, 31);
+    look(32, 32);
+    look(255, 1);
+    look(255, 255);
+}

@@ -1,0 +1,130 @@
+//! The output of the program `edges`: calls that no line of `trials` can make,
+//! since its forms have no such arguments. One line a call: what was tried and
+//! its two arguments; then the number, how many bytes the answer speaks of, and
+//! the lent buffer, which held 55 before.
+
+use crate::command::{Command, Place};
+use crate::hex;
+use crate::refusal::{number_of, Refusal};
+use crate::rules::Rules;
+use crate::session::{Session, Target};
+use crate::trials::FILL;
+
+/// A Nop has room in the lent buffer, a Set Address has not.
+const ROOM: usize = 5;
+
+/// A line whose last byte lacks a digit.
+const LINE: &[u8] = b"01 02 03 04 05 06 07 0";
+
+/// Calls of one kind: what is tried, with which arguments.
+struct Kind {
+    what: &'static str,
+    call: fn(Rules, u8, u8, &mut [u8]) -> Result<usize, Refusal>,
+    arguments: &'static [(u8, u8)],
+}
+
+/// The kinds in the order of the output.
+const KINDS: [Kind; 5] = [
+    Kind {
+        what: "order Set Address, walk and node",
+        call: order,
+        arguments: &[(2, 1), (2, 3), (0, 1), (3, 1)],
+    },
+    Kind {
+        what: "build Nop, kind and address",
+        call: build_nop,
+        arguments: &[
+            (0, 0x7F),
+            (0, 0x80),
+            (0, 0xFF),
+            (1, 0x80),
+            (1, 0x7F),
+            (1, 0x00),
+        ],
+    },
+    Kind {
+        what: "build Set Address, address and group",
+        call: build_place,
+        arguments: &[(0x7F, 0x80), (0x80, 0x80), (0x7F, 0x7F)],
+    },
+    Kind {
+        what: "read a line, from and characters",
+        call: read,
+        arguments: &[(0, 0), (0, 5), (0, 20), (0, 22), (1, 4)],
+    },
+    Kind {
+        what: "look, n and node",
+        call: look,
+        arguments: &[(31, 31), (32, 31), (32, 32), (255, 1), (255, 255)],
+    },
+];
+
+/// The whole output.
+pub fn run(rules: Rules) -> String {
+    let mut text = String::new();
+    for kind in KINDS {
+        for (a, b) in kind.arguments {
+            let mut buffer = [FILL; ROOM];
+            let result = (kind.call)(rules, *a, *b, &mut buffer);
+            let length = *result.as_ref().unwrap_or(&0) as u8;
+            let answer = [&[number_of(&result), length], &buffer[..]].concat();
+            let (arguments, answer) = (hex::format(&[*a, *b]), hex::format(&answer));
+            text += &format!("{} {arguments}:{answer}\n", kind.what);
+        }
+    }
+    text
+}
+
+/// A session made by hand, with a record as at power-up.
+fn session(rules: Rules, n: u8, walk: u8) -> Session {
+    Session {
+        open: true,
+        n,
+        walk,
+        ..Session::fresh(rules)
+    }
+}
+
+fn set_address(address: u8, group: u8) -> Command {
+    Command::SetAddress(Place {
+        address,
+        group,
+        leader: true,
+    })
+}
+
+/// A Set Address to a node, ordered from a session of two nodes.
+fn order(rules: Rules, walk: u8, node: u8, buffer: &mut [u8]) -> Result<usize, Refusal> {
+    let command = set_address(node, 0x81);
+    session(rules, 2, walk).command(Target::Node(node), command, buffer)
+}
+
+/// A Nop to an address of kind 0, individual, or 1, group.
+fn build_nop(rules: Rules, kind: u8, address: u8, buffer: &mut [u8]) -> Result<usize, Refusal> {
+    let to = match kind {
+        0 => Target::Node(address),
+        _ => Target::Group(address),
+    };
+    Command::Nop.build(rules, to, buffer)
+}
+
+/// A Set Address to node 1 with this place.
+fn build_place(rules: Rules, address: u8, group: u8, buffer: &mut [u8]) -> Result<usize, Refusal> {
+    set_address(address, group).build(rules, Target::Node(1), buffer)
+}
+
+/// A part of the line.
+fn read(rules: Rules, from: u8, count: u8, buffer: &mut [u8]) -> Result<usize, Refusal> {
+    let part: Vec<u8> = LINE
+        .iter()
+        .skip(usize::from(from))
+        .take(usize::from(count))
+        .copied()
+        .collect();
+    hex::read_into(rules, &part, buffer).ok_or(Refusal::OffRange)
+}
+
+/// A look at a node, from a session of n nodes.
+fn look(rules: Rules, n: u8, node: u8, _: &mut [u8]) -> Result<usize, Refusal> {
+    session(rules, n, 0).look(node).map(|_| 0)
+}

@@ -7,27 +7,20 @@ use command::Place;
 use hex::Parsed;
 use libc::STDOUT_FILENO;
 use session::End;
-use session::Seen;
 use session::Session;
 use wire::Address;
 use wire::Group;
 use wire::Individual;
 use wire::Refusal;
 
-fn show(what: &[u8], a: u8, b: u8, answer: Built, lent: &[u8; 5]) {
-    let mut number = wire::DONE;
-    let mut length = 0;
-    match answer {
-        Built::Bytes(n) => length = (n % 256) as u8,
-        Built::Refused(why) => number = why.number(),
-    }
+fn show(what: &[u8], a: u8, b: u8, number: u8, length: usize, lent: &[u8; 5]) {
     let mut line = [0; 27];
     hex::write_line(
         &[
             a,
             b,
             number,
-            length,
+            (length % 256) as u8,
             lent[0],
             lent[1],
             lent[2],
@@ -59,22 +52,31 @@ fn set_address(address: u8, group: u8) -> Command {
     })
 }
 
+// How many bytes were built.
+fn length(b: Built) -> usize {
+    match b {
+        Built::Bytes(n) => n,
+        Built::Refused(_) => 0,
+    }
+}
+
 // A Set Address to a node, ordered from a session of two nodes.
 fn order(walk: u8, node: u8) {
     let mut lent = [0x55; 5];
     let to = Address::Individual(Individual(node));
     let step = host::order(session(2, walk), to, set_address(node, 0x81), &mut lent);
     let end = step.end;
-    let answer = match end {
-        End::Done => Built::Bytes(0),
-        End::Sent(n) => Built::Bytes(n),
-        End::Refused(why) => Built::Refused(why),
+    let sent = match end {
+        End::Done => 0,
+        End::Sent(n) => n,
+        End::Refused(_) => 0,
     };
     show(
         b"order Set Address, walk and node ",
         walk,
         node,
-        answer,
+        end.number(),
+        sent,
         &lent,
     );
 }
@@ -92,7 +94,8 @@ fn build_nop(kind: u8, address: u8) {
         b"build Nop, kind and address ",
         kind,
         address,
-        answer,
+        answer.number(),
+        length(answer),
         &lent,
     );
 }
@@ -106,7 +109,8 @@ fn build_place(address: u8, group: u8) {
         b"build Set Address, address and group ",
         address,
         group,
-        answer,
+        answer.number(),
+        length(answer),
         &lent,
     );
 }
@@ -115,26 +119,26 @@ fn build_place(address: u8, group: u8) {
 fn read(from: u8, count: u8) {
     let mut lent = [0x55; 5];
     let line = text::rest(b"01 02 03 04 05 06 07 0", from as usize);
-    let answer = match hex::read_bytes(text::first(line, count as usize), &mut lent) {
-        Parsed::Bytes(n) => Built::Bytes(n),
-        Parsed::Malformed => Built::Refused(Refusal::Range),
-    };
+    let mut number = wire::DONE;
+    let mut bytes = 0;
+    match hex::read_bytes(text::first(line, count as usize), &mut lent) {
+        Parsed::Bytes(n) => bytes = n,
+        Parsed::Malformed => number = Refusal::Range.number(),
+    }
     show(
         b"read a line, from and characters ",
         from,
         count,
-        answer,
+        number,
+        bytes,
         &lent,
     );
 }
 
 // A look at a node, from a session of n nodes; it is lent nothing.
 fn look(n: u8, node: u8) {
-    let answer = match session::look(session(n, 0), Individual(node)) {
-        Seen::Found(_) => Built::Bytes(0),
-        Seen::Refused(why) => Built::Refused(why),
-    };
-    show(b"look, n and node ", n, node, answer, &[0x55; 5]);
+    let seen = session::look(session(n, 0), Individual(node));
+    show(b"look, n and node ", n, node, seen.number(), 0, &[0x55; 5]);
 }
 
 fn main() {

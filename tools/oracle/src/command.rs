@@ -1,11 +1,6 @@
 //! "A command is one of these kinds, each with its own data", and the six
 //! settings that the kinds write.
 
-use crate::packet::{self, OVERHEAD};
-use crate::refusal::{require, Refusal};
-use crate::rules::{Mistake, Rules};
-use crate::session::Target;
-
 /// The place: individual address, group, leader or not.
 #[derive(Clone, Copy, Debug, PartialEq, Eq)]
 pub struct Place {
@@ -33,11 +28,6 @@ impl Place {
             self.group
         };
         [self.address, second]
-    }
-
-    /// Whether the address is individual and the group a group.
-    fn is_in_range(self) -> bool {
-        Target::Node(self.address).is_in_range() && Target::Group(self.group).is_in_range()
     }
 
     /// A place without lead.
@@ -135,29 +125,6 @@ impl Command {
                 Vec::new()
             }
         }
-    }
-
-    /// Whether the data is of its range.
-    fn is_in_range(self) -> bool {
-        match self {
-            Command::SetAddress(place) => place.is_in_range(),
-            _ => true,
-        }
-    }
-
-    /// The packet of this command, at the start of the lent buffer. An
-    /// address or a place that is not of its range is an "argument off its
-    /// range", 6, and that comes before 5.
-    pub fn build(self, rules: Rules, to: Target, buffer: &mut [u8]) -> Result<usize, Refusal> {
-        let data = self.data();
-        if rules.slips(Mistake::RoomBeforeRange) {
-            require(OVERHEAD + data.len() <= buffer.len(), Refusal::NoRoom)?;
-        }
-        let to_any = rules.slips(Mistake::AnyAddressBuilt);
-        require(to_any || to.is_in_range(), Refusal::OffRange)?;
-        let of_any = rules.slips(Mistake::AnyPlaceBuilt);
-        require(of_any || self.is_in_range(), Refusal::OffRange)?;
-        packet::build(rules, buffer, to.address(), self.byte() & 0x0F, &data)
     }
 }
 

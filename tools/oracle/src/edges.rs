@@ -7,7 +7,7 @@ use crate::command::{Command, Place};
 use crate::hex;
 use crate::refusal::{number_of, Refusal};
 use crate::rules::Rules;
-use crate::session::{Session, Target};
+use crate::session::{self, Session, Target};
 use crate::trials::FILL;
 
 /// A Nop has room in the lent buffer, a Set Address has not.
@@ -76,7 +76,7 @@ pub fn run(rules: Rules) -> String {
 }
 
 /// A session made by hand, with a record as at power-up.
-fn session(rules: Rules, n: u8, walk: u8) -> Session {
+fn made(rules: Rules, n: u8, walk: u8) -> Session {
     Session {
         open: true,
         n,
@@ -96,7 +96,7 @@ fn set_address(address: u8, group: u8) -> Command {
 /// A Set Address to a node, ordered from a session of two nodes.
 fn order(rules: Rules, walk: u8, node: u8, buffer: &mut [u8]) -> Result<usize, Refusal> {
     let command = set_address(node, 0x81);
-    session(rules, 2, walk).command(Target::Node(node), command, buffer)
+    made(rules, 2, walk).command(Target::Node(node), command, buffer)
 }
 
 /// A Nop to an address of kind 0, individual, or 1, group.
@@ -105,12 +105,12 @@ fn build_nop(rules: Rules, kind: u8, address: u8, buffer: &mut [u8]) -> Result<u
         0 => Target::Node(address),
         _ => Target::Group(address),
     };
-    Command::Nop.build(rules, to, buffer)
+    session::build(rules, to, Command::Nop, buffer)
 }
 
 /// A Set Address to node 1 with this place.
 fn build_place(rules: Rules, address: u8, group: u8, buffer: &mut [u8]) -> Result<usize, Refusal> {
-    set_address(address, group).build(rules, Target::Node(1), buffer)
+    session::build(rules, Target::Node(1), set_address(address, group), buffer)
 }
 
 /// A part of the line.
@@ -126,5 +126,5 @@ fn read(rules: Rules, from: u8, count: u8, buffer: &mut [u8]) -> Result<usize, R
 
 /// A look at a node, from a session of n nodes.
 fn look(rules: Rules, n: u8, node: u8, _: &mut [u8]) -> Result<usize, Refusal> {
-    session(rules, n, 0).look(node).map(|_| 0)
+    made(rules, n, 0).look(node).map(|_| 0)
 }

@@ -2,7 +2,7 @@
 //! replies and keeping a record of each node.
 
 use crate::command::{Command, Place};
-use crate::packet;
+use crate::packet::{self, OVERHEAD};
 use crate::record::{confirm_entry, doubt_entry, Entry, Setting};
 use crate::refusal::{require, Refusal};
 use crate::rules::{Mistake, Rules};
@@ -450,4 +450,34 @@ impl Session {
 /// The Set Address by which the walk gives a node its number.
 fn walk_command(node: u8) -> Command {
     Command::SetAddress(Place::member(node, DEFAULT_GROUP))
+}
+
+/// Whether a command's addresses, where its data has any, are of their range.
+fn is_in_range(command: Command) -> bool {
+    match command {
+        Command::SetAddress(place) => {
+            Target::Node(place.address).is_in_range() && Target::Group(place.group).is_in_range()
+        }
+        _ => true,
+    }
+}
+
+/// The packet of a command, at the start of the lent buffer. An address or a
+/// place that is not of its range is an "argument off its range", 6, and that
+/// comes before 5.
+pub fn build(
+    rules: Rules,
+    to: Target,
+    command: Command,
+    buffer: &mut [u8],
+) -> Result<usize, Refusal> {
+    let data = command.data();
+    if rules.slips(Mistake::RoomBeforeRange) {
+        require(OVERHEAD + data.len() <= buffer.len(), Refusal::NoRoom)?;
+    }
+    let to_any = rules.slips(Mistake::AnyAddressBuilt);
+    require(to_any || to.is_in_range(), Refusal::OffRange)?;
+    let of_any = rules.slips(Mistake::AnyPlaceBuilt);
+    require(of_any || is_in_range(command), Refusal::OffRange)?;
+    packet::build(rules, buffer, to.address(), command.byte() & 0x0F, &data)
 }

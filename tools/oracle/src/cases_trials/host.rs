@@ -298,5 +298,20 @@ pub fn handed_in_cases() -> Vec<Case> {
             "35 00 00; 37; 31 06; 36; 32 04; 35 00 00; 37",
         ),
         handed("handed in: an ask", &asking, "35 00 00; 37; 31 06"),
+        handed(
+            "handed in: a Hard Reset that waits, confirmed",
+            &session(2, 2, waits(Target::Node(2), Command::HardReset)),
+            "31 06; 35 00 00; 37; 33 04 00 01 0E; 36; 37",
+        ),
+        handed(
+            "handed in: a Hard Reset to a group that waits, silent",
+            &session(2, 2, waits(Target::Group(0xFF), Command::HardReset)),
+            "35 02 02; 37; 36; 37",
+        ),
+        handed(
+            "handed in: a Set Address to a group that waits",
+            &session(2, 2, waits(Target::Group(0xFF), set_address)),
+            "35 00 00; 37; 34 06 01 90 01; 36; 37",
+        ),
     ]
 }

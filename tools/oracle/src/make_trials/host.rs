@@ -1,7 +1,7 @@
 //! The host's calls of a story: most make sense where the session stands.
 
 use super::Story;
-use crate::command::{Command, COMMAND_BYTES};
+use crate::command::COMMAND_BYTES;
 use crate::layout;
 use crate::make_packets::{any_command, group};
 use crate::record::{Entry, Setting, ALL_KNOWN};
@@ -13,9 +13,6 @@ use crate::status::{seal, MARK};
 impl Story {
     pub fn host_line(&mut self) -> Vec<u8> {
         self.show = self.prng.percent(60);
-        if self.waits_on_hard_reset() {
-            return self.past_hard_reset();
-        }
         match self.prng.below(100) {
             0..=1 if !self.terse => return self.hand_in(),
             2..=9 => return self.any_call(),
@@ -32,27 +29,6 @@ impl Story {
             vec![0x31, self.room(6)]
         } else {
             self.ready_call()
-        }
-    }
-
-    /// No session sends a Hard Reset and waits, so nothing says what its
-    /// reply would write. One handed in is shown and refused, not reported.
-    fn waits_on_hard_reset(&self) -> bool {
-        let waiting = matches!(
-            self.model.session.exchange,
-            Exchange::Waiting {
-                command: Command::HardReset,
-                ..
-            }
-        );
-        waiting && self.model.session.waits()
-    }
-
-    fn past_hard_reset(&mut self) -> Vec<u8> {
-        match self.prng.below(3) {
-            0 => vec![0x37],
-            1 => vec![0x31, self.room(6)],
-            _ => self.power_up(),
         }
     }
 

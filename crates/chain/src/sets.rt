@@ -1,6 +1,5 @@
 // Sets of nodes: bit i stands for node i, in the order of the cable.
 ghost use mathlib.Core.Path.{_≡_};
-ghost use Prim.Native.Nat.{_<_};
 ghost use Rattle.chain.specs.Sets.{joined, firstOf, withoutFirst, members};
 ghost use Rattle.chain.specs.Chain.{replierOf};
 

@@ -22,6 +22,6 @@ abbrev pub membersFrom : ℕ → ℕ → ℕ → List ℕ
 membersFrom zero i s = []
 membersFrom (suc k) i s = cond (eqb (s % 2) 1) (i ∷ membersFrom k (suc i) (s / 2)) (membersFrom k (suc i) (s / 2))
 
--- of the nodes 0 to n
+-- of the nodes 0 to n - 1
 abbrev pub members : ℕ → ℕ → List ℕ
 members n s = membersFrom n 0 s

@@ -63,7 +63,7 @@ abbrev pub glancesOf : Incoming → Seen → List Node → Seen
 glancesOf c s [] = s
 glancesOf c s (n ∷ ns) = glancesOf c (glanceOf c s n) ns
 
--- who replies, if the packet is answered at all: the nodes 0 to n are searched for those in the set s
+-- who replies, if the packet is answered at all: the nodes 0 to n - 1 are searched for those in the set s
 unfoldable pub replierTo : Heard → ℕ → ℕ → Replier
 replierTo h s n = cond (isAnswered h) (replierOf (members n s)) None
 

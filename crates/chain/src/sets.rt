@@ -1,6 +1,5 @@
 // Sets of nodes: bit i stands for node i, in the order of the cable.
 ghost use mathlib.Core.Path.{_≡_};
-ghost use Prim.Native.Nat.{_<_};
 ghost use Rattle.chain.specs.Sets.{joined, firstOf, withoutFirst, members};
 ghost use Rattle.chain.specs.Chain.{replierOf};
 
@@ -38,7 +37,7 @@ pub(crate) fn without_first(set: u32) -> u32
     set - (1u32 << u32::trailing_zeros(set))
 }
 
-// The chain is searched in order, node 0 to n, and left at the second replier; at the first, where nobody behind it replies.
+// The chain is searched in order, node 0 to n - 1, and left at the second replier; at the first, where nobody behind it replies.
 // Whether node i replies was seen before: it is bit i of `replying`.
 pub(crate) fn search(replying: u32, n: usize) -> Replier
     ensures { λ r. ⌜ r ≡ replierOf (members n replying) ⌝ }

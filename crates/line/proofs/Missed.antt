@@ -7,7 +7,7 @@ use mathlib.Core.Option.{Option}
 use mathlib.Core.Path.{_≡_, refl, sym, ap, subst, _∙_}
 use native.Mathlib.Omega.{arith}
 use lib.Dec.{eqb, ltb}
-use lib.ListN.{take}
+use lib.ListN.{length, take}
 use borrow.Author.Tests.{eqb-true}
 use Rattle.wire.proofs.Choice.{both}
 use Rattle.wire.specs.declared.address.Address.{Address}
@@ -35,7 +35,7 @@ use Rattle.line.specs.History.{Sending, asks}
 use Rattle.line.specs.Call.{Call, calledOf}
 use Rattle.line.specs.Call as calls
 use Rattle.line.specs.Line.{reportedOf, heardIn}
-use Rattle.line.specs.Missed.{OnlyPowerUp}
+use Rattle.line.specs.Missed.{Left, OnlyPowerUp}
 use Rattle.line.proofs.Due.{Due, next, ask, order, regroup, accepted}
 use Rattle.line.proofs.Closing.{waitingAt, entryAt, due-opens, reported-concludes}
 use Rattle.line.proofs.Returning.{marked-returns, quiet-returns}
@@ -44,9 +44,9 @@ use Rattle.line.proofs.Peace.{Own, own, no-clash}
 use Rattle.line.proofs.Delivery.{exchanged}
 use Rattle.line.proofs.Course.{when-idle, holds}
 
-same : (t b : Bool) → cond t b b ≡ b
-same true b = refl
-same false b = refl
+same : {A : Type 0} (t : Bool) (a : A) → cond t a a ≡ a
+same true a = refl
+same false a = refl
 
 module _ (h : Session) (ns : List Node) (inv : Invariant h ns) (l : h .walk < h .n) (u : at ns (h .walk) .addressed ≡ false) where
   -- the node that the walk is at isn't at its new address
@@ -74,8 +74,15 @@ module _ (h : Session) (ns : List Node) (inv : Invariant h ns) (l : h .walk < h 
       go (inl p) = let f : i ≡ h .walk = omega (arith, e) in elsewhere (subst (λ (j : ℕ). at ns j .settings .place .address .0 ≡ h .walk + 1) f (sym e))
       go (inr p) = omega (arith, e, p .0)
 
-  pub stays-out : {ms : List Node} {a : Answer} → Exchanged (nodeAt (h .walk + 1)) Nop ns ms a → (a ≡ Clear → ⊥) × (at ms (h .walk) .addressed ≡ false)
-  stays-out x = ((λ e. nobody (x .clear e)), x .addressed (h .walk) (omega (arith, inv .long)) ∙ same (x .whole (h .walk) && acts (nodeAt (h .walk + 1)) ns (h .walk)) (at ns (h .walk) .addressed) ∙ u)
+  pub stays-out : {ms : List Node} {a : Answer} → Exchanged (nodeAt (h .walk + 1)) Nop ns ms a → (a ≡ Clear → ⊥) × Left (at ns (h .walk)) (at ms (h .walk))
+  stays-out x =
+      let b : Bool = x .whole (h .walk) && acts (nodeAt (h .walk + 1)) ns (h .walk) in
+      let m : h .walk < length ns = omega (arith, inv .long) in
+      ((λ e. nobody (x .clear e)),
+      record {
+        settings = x .settings (h .walk) m ∙ same b (at ns (h .walk) .settings);
+        unreached = x .addressed (h .walk) m ∙ same b (at ns (h .walk) .addressed) ∙ u;
+      })
 
 -- an "ask" that isn't confirmed leaves the session as it was
 unconfirmed : (s : Session) → s .exchange ≡ Idle → (a : Answer) → (a ≡ Clear → ⊥) → concluded (waitingAt s (nodeAt (s .walk + 1)) Nop) (nodeAt (s .walk + 1)) Nop a ≡ s
@@ -86,11 +93,11 @@ unconfirmed s e Silent n = rw (opened-waits s (nodeAt (s .walk + 1)) Nop refl) a
 -- what "ask" sends, and what the report of whatever came leaves
 asked : (s t : Session) (ns ms : List Node) (p : List ℕ) → Invariant s ns → s .exchange ≡ Idle → at ns (s .walk) .addressed ≡ false
     → {line to : Address} {c : Command} → Due s (calls.whatOf calls.ask p) line to c → t ≡ opened s to c → (r : Option (List ℕ)) → Exchanged line c ns ms (heardIn r)
-    → (reportedOf t r .session ≡ s) × (at ms (s .walk) .addressed ≡ false)
+    → (reportedOf t r .session ≡ s) × Left (at ns (s .walk)) (at ms (s .walk))
 asked s t ns ms p inv idle u d f r x = go d refl f x
   where
     go : {what : Sending} {line to : Address} {c : Command} → Due s what line to c → what ≡ calls.whatOf calls.ask p → t ≡ opened s to c → Exchanged line c ns ms (heardIn r)
-        → (reportedOf t r .session ≡ s) × (at ms (s .walk) .addressed ≡ false)
+        → (reportedOf t r .session ≡ s) × Left (at ns (s .walk)) (at ms (s .walk))
     go (ask l k) e f x =
         let o = stays-out s ns inv l u x in
         let d : Due s (asks (s .walk + 1)) (nodeAt (s .walk + 1)) (nodeAt (s .walk + 1)) Nop = ask l k in

@@ -5,6 +5,7 @@ use mathlib.Core.List.{List}
 use mathlib.Core.Option.{Option}
 use mathlib.Core.Path.{_≡_}
 use lib.ListN.{take}
+use Rattle.node.specs.declared.state.Node.{Node}
 use Rattle.node.specs.Setting.{place}
 use Rattle.entry.specs.Entry.{knows}
 use Rattle.session.specs.declared.Exchange.the-variants.{Idle}
@@ -21,12 +22,17 @@ pub record Missed (w : World) : Type 0 where
   pub unconfirmed : knows (entryOf (w .host) (w .host .walk + 1)) place ≡ false
   pub unreached : nodeOf (w .nodes) (w .host .walk + 1) .addressed ≡ false
 
--- no call but "ask" sends; and whatever becomes of an "ask" and of the reply to it, session and node are afterwards as they were
+-- m is the node n, which got no command: its settings are as they were, and it is not addressed
+pub record Left (n m : Node) : Type 0 where
+  pub settings : m .settings ≡ n .settings
+  pub unreached : m .addressed ≡ false
+
+-- no call but "ask" sends; and whatever becomes of an "ask" and of the reply to it, the session is afterwards as it was, the node's settings too, and it is still not addressed
 pub record Stuck (w : World) : Type 0 where
   pub alone : (c : Call) (out : List ℕ) (n : ℕ) → calledOf c (w .host) out .answer .end ≡ Sent n → c ≡ ask
   pub same : (out : List ℕ) (n : ℕ) → calledOf ask (w .host) out .answer .end ≡ Sent n → (q r : Option (List ℕ))
       → Arrives (take n (calledOf ask (w .host) out .left)) q → Returns (saidAfter q (w .nodes)) r
-      → (reportedOf (calledOf ask (w .host) out .answer .session) r .session ≡ w .host) × (nodeOf (nodesAfter q (w .nodes)) (w .host .walk + 1) .addressed ≡ false)
+      → (reportedOf (calledOf ask (w .host) out .answer .session) r .session ≡ w .host) × Left (nodeOf (w .nodes) (w .host .walk + 1)) (nodeOf (nodesAfter q (w .nodes)) (w .host .walk + 1))
 
 abbrev pub OnlyPowerUp : Type 0
 OnlyPowerUp = (w : World) → Comes w → w .up ≡ true → w .host .exchange ≡ Idle → Missed w → Stuck w

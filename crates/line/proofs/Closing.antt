@@ -106,7 +106,7 @@ waiting-sound h to c f w l o = record { valid = valid-from (waitingAt h to c) f 
 
 -- ---- the report closes it
 
-reported-finished : (s : Session) (r : Option (List ℕ)) → reportedOf s r ≡ finished s (heardIn r)
+pub reported-finished : (s : Session) (r : Option (List ℕ)) → reportedOf s r ≡ finished s (heardIn r)
 reported-finished s none = refl
 reported-finished s (some bytes) = report-is s bytes
 

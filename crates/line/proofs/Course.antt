@@ -13,6 +13,7 @@ use Rattle.wire.specs.declared.refusal.Refusal.{Refusal}
 use Rattle.command.specs.declared.Command.{Command}
 use Rattle.command.specs.Build.{fitsOf, packetFor}
 use Rattle.command.specs.Build as build
+use Rattle.status.specs.declared.Answer.{Answer}
 use Rattle.status.specs.declared.Answer.the-variants.{Silent}
 use Rattle.node.specs.declared.state.Node.{Node}
 use Rattle.session.specs.declared.Exchange.the-variants.{Idle}
@@ -23,19 +24,21 @@ use Rattle.session.specs.declared.Step.{Step}
 use Rattle.session.specs.Session.{endNumber, stepNumber}
 use Rattle.start.specs.Start.{poweredOf}
 use Rattle.start.proofs.Starting.{power-up-stays}
-use Rattle.reports.specs.Report.{concluded}
+use Rattle.reports.specs.Report.{concluded, finished}
+use Rattle.chain.specs.Chain.{Said, silence, reply, clash}
 use Rattle.reports.proofs.Soundness.{finished-stays, report-stays}
 use Rattle.line.specs.History.{Sending, Sent, counted}
 use Rattle.line.specs.Call.{Call, calledOf, whatOf, resets, Typed}
-use Rattle.line.specs.Line.{Line, quiet, going, coming, Arrives, Returns, nodesAfter, saidAfter, reportedOf, heardIn}
-use Rattle.line.specs.World.{World, hosting, callEnded, called, Comes, start, power, unpowered, call, deliver, report, stray, bench}
+use Rattle.line.specs.Line.{Line, quiet, going, coming, late, Arrives, lost, Nothing, unheard, Returns, quietly, mixed, nodesAfter, saidAfter, reportedOf, heardIn}
+use Rattle.line.specs.Line as line
+use Rattle.line.specs.World.{World, hosting, callEnded, called, Comes, start, power, unpowered, call, deliver, report, hurry, delay, stray, bench}
 use Rattle.buffer.proofs.Refusals.{not-done}
 use Rattle.line.proofs.Due.{Due, Accepted, accepted, call-not-done, call-stays}
-use Rattle.line.proofs.Closing.{waitingAt, due-opens, reported-concludes, conclusion}
+use Rattle.line.proofs.Closing.{waitingAt, due-opens, reported-finished, reported-concludes, conclusion}
 use Rattle.line.proofs.Exactly.{Exactly, exactly-step}
 use Rattle.line.proofs.Invariant.{at, Invariant, Exchanged}
 use Rattle.line.proofs.Peace.{no-clash}
-use Rattle.line.proofs.Delivery.{exchanged}
+use Rattle.line.proofs.Delivery.{nothing-silent, exchanged}
 use Rattle.line.proofs.Exchange.{exchange-step}
 use Rattle.line.proofs.Benching.{Benched, set-benched, benched-exchange, benched-invariant}
 use Rattle.line.proofs.Powering.{accepted-power, powered-invariant, powered-exactly}
@@ -71,20 +74,25 @@ pub record Coming (h : Session) (ns : List Node) (past : List Sent) (what : Send
   pub opened : Opened h old past what
   pub exchange : Exchanged (opened .line) (opened .command) old ns (heardIn r)
 
+-- it still is, although silence was reported on it
+pub record Late (h : Session) (ns : List Node) (past : List Sent) (p : List ℕ) : Type 0 where
+  pub waiting : Session
+  pub earlier : List Sent
+  pub what : Sending
+  pub sent : Going waiting ns earlier what p
+  pub host : h ≡ reportedOf waiting none .session
+  pub history : past ≡ record { what = what; heard = Silent } ∷ earlier
+
 abbrev pub Stands : Session → List Node → List Sent → Line → Type 0
 Stands h ns past quiet = Settled h ns past
 Stands h ns past (going what p) = Going h ns past what p
 Stands h ns past (coming what r) = Coming h ns past what r
+Stands h ns past (late p) = Late h ns past p
 
 -- ---- a call that sends
 
 not-idle : {h : Session} {ns : List Node} {past : List Sent} {what : Sending} → Opened h ns past what → h .exchange ≡ Idle → ⊥
 not-idle o e = let z : _≡_ {A = ℕ} 0 1 = cc (sym (ap (λ (s : Session). s .exchange) (o .now)) ∙ e) in omega arith
-
-pub when-idle : (h : Session) (ns : List Node) (past : List Sent) (l : Line) → Stands h ns past l → h .exchange ≡ Idle → Settled h ns past
-when-idle h ns past quiet s e = s
-when-idle h ns past (going what p) s e = absurd (not-idle (s .opened) e)
-when-idle h ns past (coming what r) s e = absurd (not-idle (s .opened) e)
 
 call-goes : (h t : Session) (ns : List Node) (past : List Sent) (k : Call) (p : List ℕ) → Settled h ns past → Accepted h k p t → Going t ns past (whatOf k p) p
 call-goes h t ns past k p s a = record {
@@ -130,6 +138,37 @@ settles-again h ns past what r c =
       exactly = exactly-step (o .due) t (counted past) (o .exactly) (heardIn r) k;
     })
 
+-- ---- silence is reported before the packet has come
+
+-- whatever is said, nothing need come back
+unheard-of : (s : Said) → Returns s none
+unheard-of silence = quietly unheard
+unheard-of (reply r) = line.Returns.lost unheard
+unheard-of clash = mixed
+
+-- it comes then, or never: the host, which is in doubt already, is right in either case
+late-settles : {h : Session} {ns : List Node} {past : List Sent} {p : List ℕ} → Late h ns past p → (q : Option (List ℕ)) → Arrives p q → Settled h (nodesAfter q ns) past
+late-settles {h} {ns} {past} {p} l q a =
+    rw (l .host, l .history) (settles-again (l .waiting) (nodesAfter q ns) (l .earlier) (l .what) none
+    (arrives (l .waiting) ns (l .earlier) (l .what) p (l .sent) q none a (unheard-of (saidAfter q ns))))
+
+pub when-idle : (h : Session) (ns : List Node) (past : List Sent) (l : Line) → Stands h ns past l → h .exchange ≡ Idle → Settled h ns past
+when-idle h ns past quiet s e = s
+when-idle h ns past (going what p) s e = absurd (not-idle (s .opened) e)
+when-idle h ns past (coming what r) s e = absurd (not-idle (s .opened) e)
+when-idle h ns past (late p) s e = late-settles s none lost
+
+hurries : (h : Session) (ns : List Node) (past : List Sent) (what : Sending) (p : List ℕ) → Going h ns past what p → (r : Option (List ℕ)) → Nothing r
+    → Late (reportedOf h r .session) ns (record { what = what; heard = heardIn r } ∷ past) p
+hurries h ns past what p g r n = record {
+  waiting = h;
+  earlier = past;
+  what = what;
+  sent = g;
+  host = ap (λ (t : Step). t .session) (reported-finished h r ∙ ap (finished h) (nothing-silent n));
+  history = ap (λ (a : Answer). record { what = what; heard = a } ∷ past) (nothing-silent n);
+}
+
 -- ---- refused power-ups and reports
 
 refused-not-done : (t : Step) (why : Refusal) → t .end ≡ ends.Refused why → stepNumber t ≡ done → ⊥
@@ -141,9 +180,8 @@ stray-stays s (some bytes) why e = report-stays s bytes (refused-not-done (repor
 
 -- ---- the bench
 
-bench-stands : (h : Session) (ns ms : List Node) (past : List Sent) (l : Line) → Benched ns ms → Stands h ns past l → Stands h ms past l
-bench-stands h ns ms past quiet b s = record { free = s .free; inv = benched-invariant h ns ms b (s .inv); exactly = s .exactly }
-bench-stands h ns ms past (going what p) b s =
+bench-going : {h : Session} {ns ms : List Node} {past : List Sent} {what : Sending} {p : List ℕ} → Benched ns ms → Going h ns past what p → Going h ms past what p
+bench-going {h} {ns} {ms} b s =
     let o = s .opened in
     record {
       opened = record {
@@ -161,6 +199,18 @@ bench-stands h ns ms past (going what p) b s =
       };
       packet = s .packet;
     }
+
+bench-stands : (h : Session) (ns ms : List Node) (past : List Sent) (l : Line) → Benched ns ms → Stands h ns past l → Stands h ms past l
+bench-stands h ns ms past quiet b s = record { free = s .free; inv = benched-invariant h ns ms b (s .inv); exactly = s .exactly }
+bench-stands h ns ms past (going what p) b s = bench-going b s
+bench-stands h ns ms past (late p) b s = record {
+  waiting = s .waiting;
+  earlier = s .earlier;
+  what = s .what;
+  sent = bench-going b (s .sent);
+  host = s .host;
+  history = s .history;
+}
 bench-stands h ns ms past (coming what r) b s = record { old = s .old; opened = s .opened; exchange = benched-exchange b (s .exchange) }
 
 -- ---- all along
@@ -201,6 +251,9 @@ holds (deliver {w = w} c what p e q r a b) up =
     arrives (w .host) (w .nodes) (w .past) what p (subst (λ (l : Line). Stands (w .host) (w .nodes) (w .past) l) e (holds c up)) q r a b
 holds (report {w = w} c what r e) up =
     settles-again (w .host) (w .nodes) (w .past) what r (subst (λ (l : Line). Stands (w .host) (w .nodes) (w .past) l) e (holds c up))
+holds (hurry {w = w} c what p e r n) up =
+    hurries (w .host) (w .nodes) (w .past) what p (subst (λ (l : Line). Stands (w .host) (w .nodes) (w .past) l) e (holds c up)) r n
+holds (delay {w = w} c p e q a) up = late-settles (subst (λ (l : Line). Stands (w .host) (w .nodes) (w .past) l) e (holds c up)) q a
 holds (stray {w = w} c r why e) up = rw (stray-stays (w .host) r why e) (holds c up)
 holds (bench {w = w} c i b) up = bench-stands (w .host) (w .nodes) _ (w .past) (w .line) (set-benched (w .nodes) i b) (holds c up)
 
@@ -224,3 +277,4 @@ steady h ns past (coming what r) s =
       nodes = k .nodes ∙ sym (ap (λ (z : Session). z .n) (o .now));
       inv = exchange-step (o .due) (o .fits) _ (s .old) ns i (heardIn r) (s .exchange) k;
     }
+steady h ns past (late p) s = record { session = h; nodes = refl; inv = late-settles s none lost .inv }

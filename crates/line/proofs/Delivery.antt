@@ -37,7 +37,7 @@ data Voice (to : Address) (heard : Heard) (ns : List Node) : Answer → Type 0 w
   silent : Voice to heard ns Silent
   spoke : (r : List ℕ) → Replying to heard ns r → Voice to heard ns (cleared (statusByte heard))
 
-nothing-silent : {t : Option (List ℕ)} → Nothing t → heardIn t ≡ Silent
+pub nothing-silent : {t : Option (List ℕ)} → Nothing t → heardIn t ≡ Silent
 unfolding judged
 nothing-silent line.unheard = refl
 nothing-silent line.empty = refl

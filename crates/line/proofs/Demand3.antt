@@ -69,8 +69,11 @@ peace h ns past what p g q a c = go (rw (g .packet) at a) c
     go line.lost c = let z : _≡_ {A = ℕ} 0 1 = cc c in omega arith
 
 pub no-collision : promised.NoCollision
-no-collision w comes up what p e =
-    peace (w .host) (w .nodes) (w .past) what p (subst (λ (l : Line). Stands (w .host) (w .nodes) (w .past) l) e (holds comes up))
+no-collision w comes up p o = go o (holds comes up)
+  where
+    go : {l : Line} → line.OnItsWay p l → Stands (w .host) (w .nodes) (w .past) l → (q : Option (List ℕ)) → Arrives p q → saidAfter q (w .nodes) ≡ clash → ⊥
+    go (line.awaited {what = what}) s = peace (w .host) (w .nodes) (w .past) what p s
+    go line.overdue s = peace (s .waiting) (w .nodes) (s .earlier) (s .what) p (s .sent)
 
 pub by-call : promised.ByCall
 unfolding sound

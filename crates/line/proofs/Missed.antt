@@ -77,12 +77,13 @@ module _ (h : Session) (ns : List Node) (inv : Invariant h ns) (l : h .walk < h 
   pub stays-out : {ms : List Node} {a : Answer} → Exchanged (nodeAt (h .walk + 1)) Nop ns ms a → (a ≡ Clear → ⊥) × Left (at ns (h .walk)) (at ms (h .walk))
   stays-out x =
       let b : Bool = x .whole (h .walk) && acts (nodeAt (h .walk + 1)) ns (h .walk) in
-      let m : h .walk < length ns = omega (arith, inv .long) in
-      ((λ e. nobody (x .clear e)),
-      record {
-        settings = x .settings (h .walk) m ∙ same b (at ns (h .walk) .settings);
-        unreached = x .addressed (h .walk) m ∙ same b (at ns (h .walk) .addressed) ∙ u;
-      })
+      let m : h .walk < length ns = omega (arith, inv .long) in (
+        (λ e. nobody (x .clear e)),
+        record {
+          settings = x .settings (h .walk) m ∙ same b (at ns (h .walk) .settings);
+          unreached = x .addressed (h .walk) m ∙ same b (at ns (h .walk) .addressed) ∙ u;
+        },
+      )
 
 -- an "ask" that isn't confirmed leaves the session as it was
 unconfirmed : (s : Session) → s .exchange ≡ Idle → (a : Answer) → (a ≡ Clear → ⊥) → concluded (waitingAt s (nodeAt (s .walk + 1)) Nop) (nodeAt (s .walk + 1)) Nop a ≡ s

@@ -19,8 +19,8 @@ use Rattle.chain.specs.Delivery.{valid, deliveredOn}
 use Rattle.entry.specs.Entry.{knows, shows}
 use Rattle.session.specs.declared.Exchange.the-variants.{Idle}
 use Rattle.session.specs.Session.{entryOf}
-use Rattle.line.specs.History.{Sending, counted, Doubtful}
-use Rattle.line.specs.Line.{going, Arrives, nodesAfter, saidAfter}
+use Rattle.line.specs.History.{counted, Doubtful}
+use Rattle.line.specs.Line.{OnItsWay, Arrives, nodesAfter, saidAfter}
 use Rattle.line.specs.World.{World, Comes}
 
 -- node k of the chain
@@ -49,8 +49,7 @@ OneLeader = (w : World) → Comes w → w .up ≡ true → (g : Group) (j k : �
 
 -- so no two nodes reply at once to a packet sent in that time, whatever becomes of it on its way
 abbrev pub NoCollision : Type 0
-NoCollision = (w : World) → Comes w → w .up ≡ true → (what : Sending) (p : List ℕ) → w .line ≡ going what p
-    → (q : Option (List ℕ)) → Arrives p q → saidAfter q (w .nodes) ≡ clash → ⊥
+NoCollision = (w : World) → Comes w → w .up ≡ true → (p : List ℕ) → OnItsWay p (w .line) → (q : Option (List ℕ)) → Arrives p q → saidAfter q (w .nodes) ≡ clash → ⊥
 
 -- what a delivery to a table says on the line
 abbrev pub heardBy : Delivery → List ℕ → Said

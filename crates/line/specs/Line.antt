@@ -17,11 +17,17 @@ use Rattle.session.specs.declared.Step.{Step}
 use Rattle.reports.specs.Report.{finished, reportOf}
 use Rattle.line.specs.History.{Sending}
 
--- what is on the line: nothing; a packet on its way to the nodes; what came of it on its way back, some bytes or nothing
+-- what is on the line: nothing; a packet on its way to the nodes; what came of it on its way back, some bytes or nothing; a packet still on its way when its exchange was closed as silence
 pub data Line : Type 0 where
   quiet : Line
   going : Sending → List ℕ → Line
   coming : Sending → Option (List ℕ) → Line
+  late : List ℕ → Line
+
+-- the packet p is on its way to the nodes, whether its exchange is still open or not
+pub data OnItsWay (p : List ℕ) : Line → Type 0 where
+  awaited : {what : Sending} → OnItsWay p (going what p)
+  overdue : OnItsWay p (late p)
 
 -- "A command reaches all nodes alike: whole, with one byte other than header and command byte changed, or not at all"
 pub data Arrives (p : List ℕ) : Option (List ℕ) → Type 0 where

@@ -16,7 +16,7 @@ use Rattle.line.specs.Line.{Arrives, Returns, nodesAfter, saidAfter, rep
 use Rattle.line.specs.World.{World, Comes}
 use Rattle.line.specs.Demand3.{nodeOf}
 
--- the walk's Set Address is unconfirmed, and its node has not taken the address
+-- the walk's Set Address is unconfirmed, and its node has not taken the address; if it is not on its way any more either, it never arrived
 pub record Missed (w : World) : Type 0 where
   pub walking : w .host .walk < w .host .n
   pub unconfirmed : knows (entryOf (w .host) (w .host .walk + 1)) place ≡ false

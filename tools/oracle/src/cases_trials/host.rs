@@ -306,7 +306,12 @@ pub fn handed_in_cases() -> Vec<Case> {
         handed(
             "handed in: a Hard Reset to a group that waits, silent",
             &session(2, 2, waits(Target::Group(0xFF), Command::HardReset)),
-            "35 02 02; 37; 36; 37",
+            "36; 37",
+        ),
+        handed(
+            "handed in: a Hard Reset that waits, a reply that isn't clear",
+            &session(2, 2, waits(Target::Node(1), Command::HardReset)),
+            "35 02 02; 37; 36",
         ),
         handed(
             "handed in: a Set Address to a group that waits",

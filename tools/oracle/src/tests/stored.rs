@@ -73,7 +73,7 @@ fn made_inputs_are_stable() {
         0xAE94_4990_69F4_38FE,
         0xFE08_241C_7849_446D,
         0xFBDD_5CCB_C99E_36CA,
-        0x3DDA_9CAB_2D65_084A,
+        0x5193_8B76_F222_4C62,
     ];
     assert_eq!(sums, expected, "{sums:#018X?}");
 }

@@ -2,12 +2,12 @@
 //! block with a fixed seed. Within 60 KiB for each program.
 
 use crate::bench::Bench;
+use crate::case::Case;
 use crate::cases_bench;
 use crate::cases_trials;
 use crate::hex;
 use crate::make_bench;
 use crate::make_trials::Story;
-use crate::manuals::{DOCUMENTS, PRINTED};
 use crate::prng::Prng;
 use crate::rules::Rules;
 
@@ -19,54 +19,6 @@ const SEED: u64 = 773;
 
 /// The nodes of the stored bench input.
 const BENCH_NODES: u8 = 5;
-
-/// Input lines under one name.
-pub struct Case {
-    pub name: String,
-    pub lines: Vec<String>,
-}
-
-impl Case {
-    pub fn new(name: &str, lines: Vec<String>) -> Case {
-        Case {
-            name: name.to_string(),
-            lines,
-        }
-    }
-}
-
-/// A packet's line from address, command byte and data: header and sum added.
-pub fn packet(parts: &str) -> String {
-    let mut bytes = vec![0xAA];
-    bytes.extend(hex::parse(Rules::RIGHT, parts.as_bytes()).expect("hexadecimal parts"));
-    bytes.push(crate::packet::sum(&bytes[1..]));
-    hex::format(&bytes)
-}
-
-/// The same with its sum wrong by one.
-pub fn damaged(parts: &str) -> String {
-    let line = packet(parts);
-    let mut bytes = hex::parse(Rules::RIGHT, line.as_bytes()).expect("a packet's line");
-    if let Some(last) = bytes.last_mut() {
-        *last = last.wrapping_add(1);
-    }
-    hex::format(&bytes)
-}
-
-/// The printed packets of each manual, one case per manual.
-pub fn manual_cases(prefix: &str) -> Vec<Case> {
-    DOCUMENTS
-        .into_iter()
-        .map(|document| {
-            let lines = PRINTED
-                .iter()
-                .filter(|packet| packet.document == document)
-                .map(|packet| format!("{prefix}{}", packet.bytes))
-                .collect();
-            Case::new(&format!("packets of manual {document}"), lines)
-        })
-        .collect()
-}
 
 fn text(cases: &[Case]) -> Vec<u8> {
     let lines = cases.iter().flat_map(|case| &case.lines);

@@ -1,7 +1,7 @@
 //! Hand-written cases for the bench program. One chain of five nodes runs
 //! through all of them; each case starts from where the last one left it.
 
-use crate::cases::{damaged, manual_cases, packet, Case};
+use crate::case::{damaged, manual_cases, packet, Case};
 
 /// The input of document 01's bench paragraph.
 pub const DOCUMENT_EXAMPLE: [&str; 6] = [

@@ -3,7 +3,7 @@
 mod chain;
 mod host;
 
-use crate::cases::{manual_cases, Case};
+use crate::case::{manual_cases, Case};
 use crate::manuals::PRINTED_STATUS;
 
 /// The cases in order.

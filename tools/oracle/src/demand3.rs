@@ -18,8 +18,9 @@ use crate::prng::Prng;
 use crate::record::Setting;
 use crate::refusal::{number_of, Refusal};
 use crate::rules::Rules;
-use crate::session::{Exchange, Session, Target, MOST_NODES};
+use crate::session::{Exchange, Session, MOST_NODES};
 use crate::status::T;
+use crate::target::Target;
 
 /// How often things happened.
 #[derive(Clone, Copy, Debug, Default)]

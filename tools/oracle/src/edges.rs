@@ -7,7 +7,8 @@ use crate::command::{Command, Place};
 use crate::hex;
 use crate::refusal::{number_of, Refusal};
 use crate::rules::Rules;
-use crate::session::{self, Session, Target};
+use crate::session::{self, Session};
+use crate::target::Target;
 use crate::trials::FILL;
 
 /// A Nop has room in the lent buffer, a Set Address has not.

@@ -8,7 +8,7 @@
 
 use crate::command::Command;
 use crate::record::Setting;
-use crate::session::Target;
+use crate::target::Target;
 
 /// What was heard after a command.
 #[derive(Clone, Copy, PartialEq, Eq)]

@@ -5,7 +5,8 @@ use crate::command::{Command, Held, Place, Settings};
 use crate::node::{BenchValues, Captured, Node};
 use crate::record::{Entry, ALL_KNOWN};
 use crate::rules::Rules;
-use crate::session::{Exchange, Session, Target};
+use crate::session::{Exchange, Session};
+use crate::target::Target;
 
 /// The bytes of one NODE.
 #[cfg(test)]

@@ -1,38 +1,12 @@
-//! An independent judge of the LDCN host and bench software: see README.md.
-
-mod bench;
-mod cases;
-mod cases_bench;
-mod cases_trials;
-mod chain;
-mod command;
-mod coverage;
-mod demand3;
-mod edges;
-mod hex;
-mod history;
-mod layout;
-mod make_bench;
-mod make_packets;
-mod make_trials;
-mod manuals;
-mod node;
-mod packet;
-mod prng;
-mod record;
-mod refusal;
-mod rules;
-mod session;
-mod status;
-#[cfg(test)]
-mod tests;
-mod trials;
+//! The program `oracle`: its subcommands, over the library.
 
 use std::io::{Read, Write};
 use std::process::ExitCode;
 
-use coverage::Coverage;
-use rules::Rules;
+use oracle::coverage::Coverage;
+use oracle::rules::Rules;
+use oracle::{bench, cases, cases_bench, demand3, edges, hex};
+use oracle::{make_bench, make_trials, manuals, trials};
 
 const USAGE: &str = "\
 oracle bench                    a bench input in, what the bench must print out
@@ -90,7 +64,7 @@ fn run(words: &[&str]) -> Option<Output> {
         ["cases-bench", name] => further_input(name)?,
         ["cases-trials"] => cases::trials(),
         ["manuals"] => manuals::list().into_bytes(),
-        ["demand3", seed, steps] => return demand3(seed.parse().ok()?, steps.parse().ok()?),
+        ["demand3", seed, steps] => return simulate(seed.parse().ok()?, steps.parse().ok()?),
         ["coverage", "bench"] => Coverage::of_bench(&input()).text().into_bytes(),
         ["coverage", "trials"] => Coverage::of_trials(&input()).text().into_bytes(),
         _ => return None,
@@ -118,7 +92,7 @@ fn further_input(name: &str) -> Option<Vec<u8>> {
     inputs.find(|(own, _)| *own == name).map(|(_, input)| input)
 }
 
-fn demand3(seed: u64, steps: usize) -> Option<Output> {
+fn simulate(seed: u64, steps: usize) -> Option<Output> {
     let (text, well) = match demand3::run(Rules::RIGHT, seed, steps) {
         Ok(counts) => (counts.to_string(), true),
         Err(violation) => (violation.to_string(), false),

@@ -3,7 +3,7 @@
 
 use crate::command::{Command, Settings};
 use crate::rules::{Mistake, Rules};
-use crate::session::Target;
+use crate::target::Target;
 
 /// The six settings by name; the value is the setting's bit in `known`.
 #[derive(Clone, Copy, Debug, PartialEq, Eq)]

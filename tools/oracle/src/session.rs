@@ -7,6 +7,7 @@ use crate::record::{confirm_entry, doubt_entry, Entry, Setting};
 use crate::refusal::{require, Refusal};
 use crate::rules::{Mistake, Rules};
 use crate::status::{sum_is_right, MARK, T};
+use crate::target::Target;
 
 /// The most nodes a session can have, and the entries it always keeps.
 pub const MOST_NODES: u8 = 31;
@@ -16,32 +17,6 @@ const DEFAULT_GROUP: u8 = 0xFF;
 
 /// The address at which a node waits for its Set Address.
 const UNADDRESSED: u8 = 0x00;
-
-/// Whom a command is for. The walk's Set Address is for the node that it
-/// gives its number, although it travels to 0x00.
-#[derive(Clone, Copy, Debug, PartialEq, Eq)]
-pub enum Target {
-    Node(u8),
-    Group(u8),
-}
-
-impl Target {
-    /// The address byte of a ready session's packet.
-    pub fn address(self) -> u8 {
-        match self {
-            Target::Node(address) | Target::Group(address) => address,
-        }
-    }
-
-    pub fn is_group(self) -> bool {
-        matches!(self, Target::Group(_))
-    }
-
-    /// "Addresses 0x00 to 0x7F are individual, 0x80 to 0xFF are groups."
-    pub fn is_in_range(self) -> bool {
-        self.is_group() == (self.address() >= 0x80)
-    }
-}
 
 /// "The open exchange holds the command that waits."
 #[derive(Clone, Copy, Debug, PartialEq, Eq)]

@@ -1,6 +1,6 @@
 //! Hand-written cases for deliveries, `20`.
 
-use crate::cases::{damaged, packet, Case};
+use crate::case::{damaged, packet, Case};
 use crate::command::{Held, Place, Settings};
 use crate::hex;
 use crate::layout;

@@ -1,12 +1,13 @@
 //! Hand-written cases for the host's calls, `30` to `38`.
 
 use super::story;
-use crate::cases::Case;
+use crate::case::Case;
 use crate::command::{Command, Place};
 use crate::hex;
 use crate::layout;
 use crate::rules::Rules;
-use crate::session::{Exchange, Session, Target};
+use crate::session::{Exchange, Session};
+use crate::target::Target;
 
 /// A session of n nodes made ready.
 fn ready(n: u8) -> Vec<String> {

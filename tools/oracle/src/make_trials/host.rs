@@ -6,8 +6,9 @@ use crate::layout;
 use crate::make_packets::{any_command, group};
 use crate::record::{Entry, Setting, ALL_KNOWN};
 use crate::rules::Rules;
-use crate::session::{Exchange, Session, Target, MOST_NODES};
+use crate::session::{Exchange, Session, MOST_NODES};
 use crate::status::{seal, MARK};
+use crate::target::Target;
 
 /// The host.
 impl Story {

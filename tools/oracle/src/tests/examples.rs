@@ -5,7 +5,8 @@ use crate::bench;
 use crate::cases_bench::DOCUMENT_EXAMPLE;
 use crate::record::{Entry, Setting};
 use crate::rules::Rules;
-use crate::session::{Outcome, Session, Target};
+use crate::session::{Outcome, Session};
+use crate::target::Target;
 
 use crate::command::Command;
 

@@ -1,5 +1,6 @@
 //! The stored cases and the generators: size, coverage, stability.
 
+use crate::case;
 use crate::cases::{self, MOST_STORED};
 use crate::cases_bench::further_inputs;
 use crate::command::COMMAND_BYTES;
@@ -128,7 +129,7 @@ fn the_manuals_packets_are_counted() {
             .count()
     };
     assert_eq!(DOCUMENTS.map(count), [45, 27, 45, 29]);
-    let cases = cases::manual_cases("");
+    let cases = case::manual_cases("");
     let lines: usize = cases.iter().map(|case| case.lines.len()).sum();
     assert_eq!(lines, PRINTED.len());
 }

@@ -2,10 +2,12 @@
 
 use std::hint::black_box;
 
+use oracle::bench;
+use oracle::rules::Rules;
+
 use crate::plain::{Answer, Node, MOST_REPLY};
-use crate::rules::Rules;
 use crate::work::{chain, text, Packets};
-use crate::{bench, ours, plain, SEED};
+use crate::{ours, plain, SEED};
 
 /// One packet to a table of nodes: the answer, with the reply in the buffer.
 pub type Deliver = fn(&mut [Node], &[u8], &mut [u8]) -> Answer;

@@ -1,9 +1,11 @@
 //! What both sides are given: seeded packets for a chain, and the same as the
 //! text of a rehearsal.
 
-use crate::packet::whole;
+use oracle::hex;
+use oracle::packet::whole;
+use oracle::prng::Prng;
+
 use crate::plain::{Bench, Node};
-use crate::prng::Prng;
 
 /// The room of a rehearsal text.
 const TEXT: usize = 64 * 1024;
@@ -106,7 +108,7 @@ pub fn text(nodes: usize, seed: u64) -> (Vec<u8>, usize) {
     let mut text = format!("{nodes}\n").into_bytes();
     let mut count = 0;
     for packet in Packets::make(nodes, TEXT / 12, seed).iter() {
-        let line = crate::hex::format(packet);
+        let line = hex::format(packet);
         if text.len() + line.len() + 1 > TEXT {
             break;
         }

@@ -3,45 +3,6 @@
 //!     harness                        checks, times and counts; prints the tables
 //!     harness count KIND NODES SIDE  one pass of one side, for callgrind
 
-// The independent program, of which the chain, the bench and the generators
-// are used.
-#[allow(dead_code)]
-#[path = "../oracle/src/bench.rs"]
-mod bench;
-#[allow(dead_code)]
-#[path = "../oracle/src/chain.rs"]
-mod chain;
-#[allow(dead_code)]
-#[path = "../oracle/src/command.rs"]
-mod command;
-#[allow(dead_code)]
-#[path = "../oracle/src/hex.rs"]
-mod hex;
-#[allow(dead_code)]
-#[path = "../oracle/src/make_bench.rs"]
-mod make_bench;
-#[allow(dead_code)]
-#[path = "../oracle/src/make_packets.rs"]
-mod make_packets;
-#[allow(dead_code)]
-#[path = "../oracle/src/node.rs"]
-mod node;
-#[allow(dead_code)]
-#[path = "../oracle/src/packet.rs"]
-mod packet;
-#[allow(dead_code)]
-#[path = "../oracle/src/prng.rs"]
-mod prng;
-#[allow(dead_code)]
-#[path = "../oracle/src/refusal.rs"]
-mod refusal;
-#[allow(dead_code)]
-#[path = "../oracle/src/rules.rs"]
-mod rules;
-#[allow(dead_code)]
-#[path = "../oracle/src/status.rs"]
-mod status;
-
 mod check;
 mod clock;
 mod ours;

@@ -1,11 +1,13 @@
 //! Before anything is timed: ours, plain Rust and the independent program
 //! answer alike, byte for byte, and leave the same nodes behind.
 
+use oracle::prng::Prng;
+use oracle::rules::Rules;
+use oracle::{bench, chain, command, make_bench, make_packets, node};
+
 use crate::plain::{Answer, Bench, Captured, Held, Node, Place, Settings, MOST_REPLY};
-use crate::prng::Prng;
-use crate::rules::Rules;
 use crate::sides::{Deliver, Rehearse, DELIVERIES, PACKETS, REHEARSALS};
-use crate::{bench, chain as oracle_chain, make_bench, make_packets, node, work, SEED};
+use crate::{work, SEED};
 
 /// A side that answers differently, and on what.
 pub type Outcome = Result<(), String>;
@@ -71,11 +73,11 @@ fn one(
     let mut reply = [0x5A; MOST_REPLY + 3];
     let mut wanted_reply = reply;
     let answer = deliver(&mut table, packet, &mut reply[..room]);
-    let wanted = oracle_chain::deliver(Rules::RIGHT, nodes, packet, &mut wanted_reply[..room]);
+    let wanted = chain::deliver(Rules::RIGHT, nodes, packet, &mut wanted_reply[..room]);
     let wanted = match wanted {
-        Ok(oracle_chain::Delivery::Silent) => Answer::Silent,
-        Ok(oracle_chain::Delivery::Reply(count)) => Answer::Replied(count),
-        Ok(oracle_chain::Delivery::Collision) => Answer::Collision,
+        Ok(chain::Delivery::Silent) => Answer::Silent,
+        Ok(chain::Delivery::Reply(count)) => Answer::Replied(count),
+        Ok(chain::Delivery::Collision) => Answer::Collision,
         Err(refusal) => Answer::Refused(refusal.number()),
     };
     let after: Vec<Node> = nodes.iter().map(plain_node).collect();
@@ -208,8 +210,8 @@ fn plain_node(node: &node::Node) -> Node {
 fn oracle_node(node: &Node) -> node::Node {
     let settings = &node.settings;
     node::Node {
-        settings: crate::command::Settings {
-            place: crate::command::Place {
+        settings: command::Settings {
+            place: command::Place {
                 address: settings.place.address,
                 group: settings.place.group,
                 leader: settings.place.leader,
@@ -217,7 +219,7 @@ fn oracle_node(node: &Node) -> node::Node {
             mask: settings.mask,
             outputs: settings.outputs,
             pwm: settings.pwm,
-            held: crate::command::Held {
+            held: command::Held {
                 outputs: settings.held.outputs,
                 pwm: settings.held.pwm,
             },

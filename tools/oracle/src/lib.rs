@@ -1,0 +1,35 @@
+//! An independent judge of the LDCN host and bench software: see README.md.
+//!
+//! The program `oracle` (main.rs) is a thin main over this library; the speed
+//! harness uses its chain, its bench and its generators.
+
+pub mod bench;
+pub mod case;
+pub mod cases;
+pub mod cases_bench;
+pub mod cases_trials;
+pub mod chain;
+pub mod command;
+pub mod coverage;
+pub mod demand3;
+pub mod edges;
+pub mod hex;
+pub mod history;
+pub mod layout;
+pub mod make_bench;
+pub mod make_packets;
+pub mod make_trials;
+pub mod manuals;
+pub mod node;
+pub mod packet;
+pub mod prng;
+pub mod record;
+pub mod refusal;
+pub mod rules;
+pub mod session;
+pub mod status;
+pub mod target;
+pub mod trials;
+
+#[cfg(test)]
+mod tests;

@@ -16,6 +16,7 @@ use Rattle.wire.specs.declared.refusal.Refusal.the-variants.{Room}
 use Rattle.buffer.specs.declared.Built.{Built}
 use Rattle.buffer.specs.declared.Built.the-variants.{Bytes, Refused}
 use Rattle.wire.proofs.Choice.{chose-second}
+use Rattle.wire.proofs.Impossible.{impossible}
 
 laid-tail : (d r : List ℕ) (m : ℕ) → length d < length r
     → set (take (length d) d ++ drop (length d) r) (length d) m ≡ (d ++ (m ∷ [])) ++ drop (suc (length d)) r
@@ -76,8 +77,7 @@ wrote n left = record { answer = Bytes n; left = left }
 pub wrote-not : (why : Refusal) (out left : List ℕ) (n : ℕ) → refused why out ≡ wrote n left → ⊥
 wrote-not why out left n e =
     let f : Refused why ≡ Bytes n = ap (λ (o : Outcome Built (List ℕ)). o .answer) e in
-    let z : _≡_ {A = ℕ} 0 1 = cc in
-    omega arith
+    impossible cc
 
 -- then the first n bytes are the packet
 pub place-wrote : (p out left : List ℕ) (n : ℕ) → place p out ≡ wrote n left → take n left ≡ p

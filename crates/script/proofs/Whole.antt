@@ -20,7 +20,8 @@ use Rattle.text.specs.declared.digits.Decimal.the-variants.{Value, Malformed}
 use Rattle.text.proofs.Parts.{lines-step}
 use Rattle.hex.proofs.Puts.{sets-start}
 use Rattle.table.specs.declared.Table.{Table}
-use Rattle.script.specs.Wrote.{Wrote, Line}
+use Rattle.buffer.specs.Wrote.{Wrote}
+use Rattle.script.specs.Line.{Line}
 use Rattle.script.specs.Bench.{startOf, played, wrong, onCount, onDecimal, benchOf}
 use Rattle.script.proofs.Bound.{most, bench-short}
 

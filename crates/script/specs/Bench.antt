@@ -18,7 +18,7 @@ use Rattle.text.specs.Lines.{linesOf}
 use Rattle.text.specs.Digits.{decimalIn}
 use Rattle.hex.specs.Hex.{Content, bytes, malformed, bytesIn}
 use Rattle.script.specs.Answers.{answerLine, refusedLine}
-use Rattle.script.specs.Wrote.{Line}
+use Rattle.script.specs.Line.{Line}
 use Rattle.script.specs.declared.rehearsal.Step.{Step}
 
 -- "bench values 0"

@@ -16,7 +16,8 @@ ghost use Rattle.wire.specs.Promise.{Lending};
 ghost use Rattle.buffer.specs.Buffer.{builtNumber, place};
 ghost use Rattle.table.specs.Table.{deliveredOf};
 ghost use Rattle.text.specs.Lines.{linesOf};
-ghost use Rattle.script.specs.Wrote.{far, Wrote};
+ghost use Rattle.buffer.specs.Wrote.{Wrote};
+ghost use Rattle.script.specs.Line.{far};
 ghost use Rattle.script.specs.Bench.{startOf, heard, refusedStep, stepOf, played, onCount, benchOf, Lined};
 
 // The longest input, 64 KiB.

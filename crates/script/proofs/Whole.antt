@@ -12,13 +12,12 @@ use Rattle.wire.specs.Promise.{Promise, Lending}
 use Rattle.buffer.specs.Buffer.{builtNumber, place}
 use Rattle.wire.specs.declared.refusal.Refusal.the-variants.{Room}
 use Rattle.buffer.specs.declared.Built.the-variants as built
-use Rattle.buffer.proofs.Writing.{no-room, has-room}
+use Rattle.buffer.proofs.Writing.{sets-start, no-room, has-room}
 use Rattle.text.specs.Lines.{lineOf, linesOf}
 use Rattle.text.specs.Digits.{decimalIn, decimalNumber}
 use Rattle.text.specs.declared.digits.Decimal.{Decimal}
 use Rattle.text.specs.declared.digits.Decimal.the-variants.{Value, Malformed}
 use Rattle.text.proofs.Parts.{lines-step}
-use Rattle.hex.proofs.Puts.{sets-start}
 use Rattle.table.specs.declared.Table.{Table}
 use Rattle.buffer.specs.Wrote.{Wrote}
 use Rattle.script.specs.Line.{Line}

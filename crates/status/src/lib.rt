@@ -9,8 +9,18 @@ ghost use Rattle.wire.specs.Part.{Part};
 ghost use Rattle.buffer.specs.Buffer.{builtNumber};
 ghost use Rattle.status.specs.Status.{statusOf, statusNumber, itemsFrom, itemsOf, statusBuilt, judged};
 
+// How many bytes each item has, from bit 0 of the mask on.
+pub const COUNTS: [usize; 8] = [2, 1, 1, 1, 4, 2, 2, 4];
+
 // The total of all item counts.
-pub const T: usize = 17;
+pub const T: usize = COUNTS[0]
+    + COUNTS[1]
+    + COUNTS[2]
+    + COUNTS[3]
+    + COUNTS[4]
+    + COUNTS[5]
+    + COUNTS[6]
+    + COUNTS[7];
 
 // What reading a status packet finds: its status byte, or the refusal. The items are `items_part`.
 pub enum Status {

@@ -1,4 +1,4 @@
-// Status packets: status byte; the items asked for; sum. And how the host takes what it received for a command.
+// Status packets: status byte; the items asked for; sum. How many bytes each item has. And how the host takes what it received for a command.
 // Promised: a built packet reads back, an accepted one is the one built from its parts, a reply with one byte changed is never good.
 // Left to others: which items a mask asks for (mask, reply), and what an answer makes of the record (entry).
 use buffer::Built;

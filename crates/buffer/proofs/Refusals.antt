@@ -1,32 +1,16 @@
--- A refusal is never 0, and any number but 0 leaves the lent buffer as it stood.
+-- Any number but 0 leaves the lent buffer as it stood.
 use mathlib.Core.Bool.{Bool, true, false, cond}
 use mathlib.Core.List.{List}
 use mathlib.Core.Path.{_≡_, refl}
 use Prim.Native.Nat.{ℕ}
-use native.Mathlib.Omega.{arith}
 use lib.Dec.{ltb}
 use lib.ListN.{length}
 use Rattle.wire.specs.Promise.{Outcome}
-use Rattle.wire.specs.Numbers.{done, numberOf}
+use Rattle.wire.specs.Numbers.{done}
 use Rattle.buffer.specs.Buffer.{written, refused, place, builtNumber}
 use Rattle.wire.specs.declared.refusal.Refusal.{Refusal}
-use Rattle.wire.specs.declared.refusal.Refusal.the-variants.{Short, Header, Long, Sum, Room, Range, Busy, Idle, NotDue, NoNode, Led, Closed}
+use Rattle.wire.specs.declared.refusal.Refusal.the-variants.{Room}
 use Rattle.buffer.specs.declared.Built.{Built}
-
--- no refusal has the number of a call that is done
-pub not-done : (why : Refusal) → numberOf why ≡ done → ⊥
-not-done Short h = omega arith
-not-done Header h = omega arith
-not-done Long h = omega arith
-not-done Sum h = omega arith
-not-done Room h = omega arith
-not-done Range h = omega arith
-not-done Busy h = omega arith
-not-done Idle h = omega arith
-not-done NotDue h = omega arith
-not-done NoNode h = omega arith
-not-done Led h = omega arith
-not-done Closed h = omega arith
 
 -- o leaves `out` as it stood, unless its number is 0
 abbrev pub Spares : List ℕ → Outcome Built (List ℕ) → Type 0

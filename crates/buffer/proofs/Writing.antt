@@ -16,6 +16,7 @@ use Rattle.wire.specs.declared.refusal.Refusal.the-variants.{Room}
 use Rattle.buffer.specs.declared.Built.{Built}
 use Rattle.buffer.specs.declared.Built.the-variants.{Bytes, Refused}
 use Rattle.wire.proofs.Choice.{chose-second}
+use Rattle.wire.proofs.Impossible.{impossible}
 
 laid-tail : (d r : List ℕ) (m : ℕ) → length d < length r
     → set (take (length d) d ++ drop (length d) r) (length d) m ≡ (d ++ (m ∷ [])) ++ drop (suc (length d)) r
@@ -42,15 +43,18 @@ put-not out at d h = rw (lt-ltb (length out) (at + length d) h)
 pub length-put : (out : List ℕ) (at : ℕ) (d : List ℕ) → at + length d ≤ length out → length (putAt out at d) ≡ length out
 length-put out at d h = ap length (put-fits out at d h) ∙ length-paste out at d (length d) h (omega arith)
 
+-- d stored from the start on
+pub sets-start : (out d : List ℕ) → length d ≤ length out → sets out 0 d ≡ d ++ drop (length d) out
+sets-start out d h = rw zero-add at (sets-eq d out 0 (rw zero-add h))
+
 -- p by single stores, d put behind it, and m behind that
 pub laid : (p d out o : List ℕ) (m e : ℕ) → o ≡ putAt (sets out 0 p) (length p) d → e ≡ suc (length p + length d) → e ≤ length out
     → set o (length p + length d) m ≡ (p ++ (d ++ (m ∷ []))) ++ drop e out
 laid p d out o m e f g k =
     let w : length p + suc (length d) ≡ e = omega arith in
-    let q : sets out 0 p ≡ p ++ drop (length p) out = rw zero-add at (sets-eq p out 0 (rw zero-add (omega arith))) in
     let r : putAt (sets out 0 p) (length p) d ≡ paste (sets out 0 p) (length p) d (length d) =
     put-fits (sets out 0 p) (length p) d (omega (arith, length-sets out 0 p)) in
-    ap (λ (l : List ℕ). set l (length p + length d) m) (f ∙ r ∙ ap (λ (l : List ℕ). paste l (length p) d (length d)) q)
+    ap (λ (l : List ℕ). set l (length p + length d) m) (f ∙ r ∙ ap (λ (l : List ℕ). paste l (length p) d (length d)) (sets-start out p (omega arith)))
     ∙ laid-behind p d (drop (length p) out) m (rw length-drop (omega arith))
     ∙ ap (λ (l : List ℕ). (p ++ (d ++ (m ∷ []))) ++ l) (drop-drop (suc (length d)) (length p) out ∙ ap (λ (n : ℕ). drop n out) w)
 
@@ -76,8 +80,7 @@ wrote n left = record { answer = Bytes n; left = left }
 pub wrote-not : (why : Refusal) (out left : List ℕ) (n : ℕ) → refused why out ≡ wrote n left → ⊥
 wrote-not why out left n e =
     let f : Refused why ≡ Bytes n = ap (λ (o : Outcome Built (List ℕ)). o .answer) e in
-    let z : _≡_ {A = ℕ} 0 1 = cc in
-    omega arith
+    impossible cc
 
 -- then the first n bytes are the packet
 pub place-wrote : (p out left : List ℕ) (n : ℕ) → place p out ≡ wrote n left → take n left ≡ p

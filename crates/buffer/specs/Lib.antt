@@ -1,3 +1,4 @@
 pub mod Sum
 pub mod Buffer
+pub mod Wrote
 pub mod Change

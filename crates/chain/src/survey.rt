@@ -54,7 +54,7 @@ pub(crate) fn hear(p: &[u8]) -> Incoming
         Framed::Whole {
             address,
             command,
-            count: _,
+            end: _,
         } => {
             let reading = command::read(command, packet::data_part(p));
             let heard = Heard::of(reading, packet::is_intact(p));

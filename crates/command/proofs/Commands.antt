@@ -70,7 +70,7 @@ built-reads a c h f t =
     let small : codeOf c < 16 = omega arith in
     record {
       command = codeOf c;
-      count = length (bytesOf c);
+      end = 4 + length (bytesOf c);
       whole = rw (address-back a h) at (packets.built-reads (byteOf a) (codeOf c) (bytesOf c) small);
       known = rw (packets.built-data (byteOf a) (codeOf c) (bytesOf c) small) (read-back c f t);
     }
@@ -79,13 +79,13 @@ built-reads a c h f t =
 pub reads-built : (s : List ℕ) (a : Address) (c : Command) → AllBytes s → ReadsAs s a c → s ≡ packetFor a c
 reads-built s a c h r =
     let e = read-from (r .command) (dataOf s) c (packet.data-bytes s h) (r .known) in
-    rw (e .0, e .1) (packets.accepted-built s a (r .command) (r .count) (r .whole))
+    rw (e .0, e .1) (packets.accepted-built s a (r .command) (r .end) (r .whole))
 
 -- whose address and command are of their ranges, so that they are built and read back
 pub reads-in-range : (s : List ℕ) (a : Address) (c : Command) → ReadsAs s a c → (inRange a ≡ true) × (fitsOf c ≡ true) × Typed c
 unfolding readingOf
 reads-in-range s a c r =
-    let f = packets.framing s a (r .command) (r .count) (packets.read-says s a (r .command) (r .count) (r .whole) .0) in
+    let f = packets.framing s a (r .command) (r .end) (packets.read-says s a (r .command) (r .end) (r .whole) .0) in
     let g = says (r .command) (length (dataOf s)) (dataOf s) c (r .known) in
     (rw (← (f .address)) (address-in-range (getD s 1 0)), g .fits, g .typed)
 

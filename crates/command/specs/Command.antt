@@ -53,6 +53,6 @@ readingOf k d = rowsOf k (length d) d
 -- some bytes are one whole packet with a right sum, which says command c to address a
 pub record ReadsAs (s : List ℕ) (a : Address) (c : Command) : Type 0 where
   pub command : ℕ
-  pub count : ℕ
-  pub whole : readOf s ≡ Whole a command count
+  pub end : ℕ
+  pub whole : readOf s ≡ Whole a command end
   pub known : readingOf command (dataOf s) ≡ Known c

@@ -8,6 +8,7 @@ use native.Mathlib.Nat.{not-suc-le-zero}
 use lib.Dec.{eqb, ltb}
 use lib.ListN.{length}
 use borrow.Author.Tests.{lt-ltb, le-ltb, ltb-true, ltb-false, eqb-true}
+use Rattle.wire.proofs.Impossible.{impossible}
 use Rattle.buffer.specs.Change.{AllBytes}
 use Rattle.hex.specs.Digits.{digitOf, charOf}
 use Rattle.hex.specs.Hex.{space, hexOf, hexRest, hexText, Content, bytes, malformed, pairBy, pairOf, before, onPair, packetIn, bytesIn}
@@ -107,14 +108,14 @@ record Form (l d : List ℕ) : Type 0 where
 
 packet-written : (l d : List ℕ) → packetIn l ≡ bytes d → Form l d
 unfolding hexRest pairOf pairBy
-packet-written [] d e = absurd (let z : _≡_ {A = ℕ} 0 1 = cc in let y : ⊥ = omega arith in y)
-packet-written (a ∷ []) d e = absurd (let z : _≡_ {A = ℕ} 0 1 = cc in let y : ⊥ = omega arith in y)
+packet-written [] d e = impossible cc
+packet-written (a ∷ []) d e = impossible cc
 packet-written (a ∷ b ∷ []) d e = go (ltb 15 (digitOf a)) (ltb 15 (digitOf b)) refl refl e
   where
     go : (t u : Bool) → ltb 15 (digitOf a) ≡ t → ltb 15 (digitOf b) ≡ u
         → onPair (cond t Bad (cond u Bad (Last (digitOf a * 16 + digitOf b)))) malformed ≡ bytes d → Form (a ∷ b ∷ []) d
-    go true u x y e = absurd (let z : _≡_ {A = ℕ} 0 1 = cc in let y : ⊥ = omega arith in y)
-    go false true x y e = absurd (let z : _≡_ {A = ℕ} 0 1 = cc in let y : ⊥ = omega arith in y)
+    go true u x y e = impossible cc
+    go false true x y e = impossible cc
     go false false x y e =
         let z : d ≡ (digitOf a * 16 + digitOf b) ∷ [] = cc in
         let p = ltb-false 15 (digitOf a) x in
@@ -125,7 +126,7 @@ packet-written (a ∷ b ∷ c ∷ s) d e =
     (rw (le-ltb (length (a ∷ b ∷ c ∷ s)) 2 (omega arith)) at e)
   where
     on : (v : ℕ) (q : Content) → v < 256 → a ∷ b ∷ [] ≡ hexOf v → c ≡ space → ((m : List ℕ) → q ≡ bytes m → Form s m) → before v q ≡ bytes d → Form (a ∷ b ∷ c ∷ s) d
-    on v malformed n h k ih e = absurd (let z : _≡_ {A = ℕ} 0 1 = cc in let y : ⊥ = omega arith in y)
+    on v malformed n h k ih e = impossible cc
     on v (bytes m) n h k ih e =
         let z : d ≡ v ∷ m = cc in
         let f : Form s m = ih m refl in
@@ -137,10 +138,10 @@ packet-written (a ∷ b ∷ c ∷ s) d e =
         → ((m : List ℕ) → packetIn s ≡ bytes m → Form s m)
         → onPair (cond t Bad (cond u Bad (cond v (Last (digitOf a * 16 + digitOf b)) (cond w (More (digitOf a * 16 + digitOf b)) Bad)))) (packetIn s) ≡ bytes d
         → Form (a ∷ b ∷ c ∷ s) d
-    go true u v w x y i j ih e = absurd (let z : _≡_ {A = ℕ} 0 1 = cc in let y : ⊥ = omega arith in y)
-    go false true v w x y i j ih e = absurd (let z : _≡_ {A = ℕ} 0 1 = cc in let y : ⊥ = omega arith in y)
+    go true u v w x y i j ih e = impossible cc
+    go false true v w x y i j ih e = impossible cc
     go false false true w x y i j ih e = absurd (let z : length (a ∷ b ∷ c ∷ s) < 3 = ltb-true (length (a ∷ b ∷ c ∷ s)) 3 i in let y : ⊥ = omega arith in y)
-    go false false false false x y i j ih e = absurd (let z : _≡_ {A = ℕ} 0 1 = cc in let y : ⊥ = omega arith in y)
+    go false false false false x y i j ih e = impossible cc
     go false false false true x y i j ih e =
         let p = ltb-false 15 (digitOf a) x in
         let q = ltb-false 15 (digitOf b) y in

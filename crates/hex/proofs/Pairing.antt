@@ -11,6 +11,7 @@ use lib.ListN.{length, drop, getD, set, length-drop, length-set}
 use lib.Seq.{drop-drop, sets, take-nil}
 use borrow.Author.Tests.{le-ltb, ltb-false}
 use Rattle.wire.specs.Promise.{Lending, lent}
+use Rattle.wire.proofs.Impossible.{impossible}
 use Rattle.hex.specs.Digits.{digitOf}
 use Rattle.hex.specs.Hex.{space, Content, bytes, malformed, pairBy, pairOf, before, onPair, packetIn, bytesIn, over, readInto, parsedNumber, Seen, whole, none, seen, laidFrom}
 use Rattle.hex.specs.declared.pairs.Pair.{Pair}
@@ -105,7 +106,7 @@ read-empty (x ∷ l) out h = absurd (let z : ⊥ = omega arith in z)
 
 -- it was read through over some other buffer first
 on-bad : (c : Content) (o out : List ℕ) → none ≡ laidFrom c 0 o → Lending parsedNumber Malformed out (readInto c out)
-on-bad (bytes d) o out e = absurd (let z : _≡_ {A = ℕ} 0 1 = cc in let y : ⊥ = omega arith in y)
+on-bad (bytes d) o out e = impossible cc
 on-bad malformed o out e = lent refl
 
 on-good : (c : Content) (n : ℕ) (m o out left : List ℕ) (r : Parsed) → whole n m ≡ laidFrom c 0 o → seen r left ≡ laidFrom c 0 out → Lending parsedNumber r left (readInto c out)
@@ -113,8 +114,8 @@ on-good (bytes d) n m o out left (Bytes k) e f =
     let ek : k ≡ 0 + length d = cc in
     let el : left ≡ sets out 0 d = cc in
     lent (rw (ek, el, zero-add, sets-over out d))
-on-good (bytes d) n m o out left Malformed e f = absurd (let z : _≡_ {A = ℕ} 0 1 = cc in let y : ⊥ = omega arith in y)
-on-good malformed n m o out left r e f = absurd (let z : _≡_ {A = ℕ} 0 1 = cc in let y : ⊥ = omega arith in y)
+on-good (bytes d) n m o out left Malformed e f = impossible cc
+on-good malformed n m o out left r e f = impossible cc
 
 module _ (line o m : List ℕ) (form : Parsed) (e : seen form m ≡ laidFrom (packetIn line) 0 o) where
   pub read-bad : (out : List ℕ) → 1 ≤ length line → form ≡ Malformed → Lending parsedNumber Malformed out (readInto (bytesIn line) out)

@@ -3,23 +3,19 @@ use Prim.Native.Nat.{ℕ, suc, _+_, _-_, _*_, _/_, _%_, _≤_, _<_}
 use mathlib.Core.List.{List, [], _∷_, _++_}
 use mathlib.Core.Path.{_≡_, refl, ap, _∙_}
 use native.Mathlib.Omega.{arith}
-use native.Mathlib.Nat.{add-zero, zero-add, not-suc-le-zero}
+use native.Mathlib.Nat.{add-zero, not-suc-le-zero}
 use native.Mathlib.Numerals.{add-one}
 use lib.ListN.{length, drop, getD, set, length-append, length-drop, length-set, drop-of-length-le}
-use lib.Seq.{sets, sets-eq, drop-cons, length-sets}
+use lib.Seq.{sets, drop-cons, length-sets}
 use Rattle.wire.specs.Promise.{Lending}
 use Rattle.buffer.specs.Buffer.{builtNumber, place}
 use Rattle.wire.specs.declared.refusal.Refusal.the-variants.{Room}
 use Rattle.buffer.specs.declared.Built.{Built}
 use Rattle.buffer.specs.declared.Built.the-variants.{Bytes, Refused}
-use Rattle.buffer.proofs.Writing.{no-room, has-room, sets-append}
+use Rattle.buffer.proofs.Writing.{sets-start, no-room, has-room, sets-append}
 use Rattle.text.specs.Lines.{newline}
 use Rattle.hex.specs.Digits.{charOf}
 use Rattle.hex.specs.Hex.{space, hexOf, hexRest, hexText, hexLine}
-
--- what has room at the start
-pub sets-start : (l d : List ℕ) → length d ≤ length l → sets l 0 d ≡ d ++ drop (length d) l
-sets-start l d h = sets-eq d l 0 (omega arith) ∙ ap (λ (n : ℕ). d ++ drop n l) (zero-add (length d))
 
 -- ---- a byte
 

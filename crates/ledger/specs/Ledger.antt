@@ -4,6 +4,7 @@ use mathlib.Core.Bool.{Bool, false, cond, not, _&&_, _||_}
 use mathlib.Core.List.{List, [], _∷_, map}
 use lib.Dec.{ltb, eqb}
 use lib.ListN.{replicate}
+use Rattle.wire.specs.Numbers.{mostNodes}
 use Rattle.wire.specs.declared.address.Group.{Group}
 use Rattle.wire.specs.declared.address.Address.{Address}
 use Rattle.wire.specs.declared.address.Address.the-variants as address
@@ -32,11 +33,11 @@ blank = record {
 
 -- "makes all settings known as power-up has them"
 unfoldable pub ledgerUp : List Entry
-ledgerUp = replicate 31 entryUp
+ledgerUp = replicate mostNodes entryUp
 
 -- how many entries n counts
 unfoldable pub leastOf : ℕ → ℕ
-leastOf n = cond (ltb 31 n) 31 n
+leastOf n = cond (ltb mostNodes n) mostNodes n
 
 -- "Who may be written: node k for an individual command ..; for a group, nodes known to be in it and every node whose place is in doubt"
 abbrev pub reachOf : Address → ℕ → Entry → Reach

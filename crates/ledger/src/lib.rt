@@ -7,23 +7,24 @@ use entry::Reach;
 use status::Answer;
 use wire::Address;
 use wire::Group;
+use wire::MOST_NODES;
 ghost use mathlib.Core.Path.{_≡_};
 ghost use Rattle.ledger.specs.Ledger.{ledgerUp, leastOf, reachOf, settled, forgotten, rivals, isLed};
 
 // At power-up.
-pub fn power_up() -> [Entry; 31]
+pub fn power_up() -> [Entry; MOST_NODES]
     ensures { λ r. ⌜ r ≡ ledgerUp ⌝ }
 {
     let e = Entry::power_up();
-    [e; 31]
+    [e; MOST_NODES]
 }
 
 // n, or 31 where n is more: how many entries n counts.
 fn least(n: u8) -> u8
     ensures { λ r. ⌜ r ≡ leastOf n ⌝ }
 {
-    if 31 < n {
-        return 31;
+    if MOST_NODES < n as usize {
+        return MOST_NODES as u8;
     }
     n
 }
@@ -49,7 +50,13 @@ fn reach(to: Address, k: u8, e: Entry) -> Reach
 }
 
 // The record after an exchange: a command to an address, and how it was answered.
-pub fn settle(entries: [Entry; 31], n: u8, to: Address, c: Command, answer: Answer) -> [Entry; 31]
+pub fn settle(
+    entries: [Entry; MOST_NODES],
+    n: u8,
+    to: Address,
+    c: Command,
+    answer: Answer,
+) -> [Entry; MOST_NODES]
     ensures { λ r. ⌜ r ≡ settled answer to c n entries ⌝ }
 {
     let end = least(n);
@@ -65,12 +72,12 @@ pub fn settle(entries: [Entry; 31], n: u8, to: Address, c: Command, answer: Answ
 }
 
 // Everything in doubt, in all 31 entries: what a Hard Reset leaves.
-pub fn forget(entries: [Entry; 31]) -> [Entry; 31]
+pub fn forget(entries: [Entry; MOST_NODES]) -> [Entry; MOST_NODES]
     ensures { λ r. ⌜ r ≡ forgotten entries ⌝ }
 {
     let mut all = entries;
     let mut i = 0;
-    while i < 31 {
+    while i < MOST_NODES {
         let e = all[i];
         all[i] = e.doubt(Command::HardReset);
         i += 1;
@@ -95,7 +102,7 @@ fn is_rival(k: u8, g: Group, j: u8, e: Entry) -> bool
 }
 
 // Whether one of nodes 1 to n, another than k, leads group g or has its place in doubt.
-pub fn is_led(entries: [Entry; 31], n: u8, k: u8, g: Group) -> bool
+pub fn is_led(entries: [Entry; MOST_NODES], n: u8, k: u8, g: Group) -> bool
     ensures { λ r. ⌜ r ≡ isLed k g n entries ⌝ }
 {
     let end = least(n);

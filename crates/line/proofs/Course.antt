@@ -32,7 +32,7 @@ use Rattle.line.specs.Call.{Call, calledOf, whatOf, resets, Typed}
 use Rattle.line.specs.Line.{Line, quiet, going, coming, late, Arrives, lost, Nothing, unheard, Returns, quietly, mixed, nodesAfter, saidAfter, reportedOf, heardIn}
 use Rattle.line.specs.Line as line
 use Rattle.line.specs.World.{World, hosting, callEnded, called, Comes, start, power, unpowered, call, deliver, report, hurry, delay, stray, bench}
-use Rattle.buffer.proofs.Refusals.{not-done}
+use Rattle.wire.proofs.Numbers.{not-done}
 use Rattle.line.proofs.Due.{Due, Accepted, accepted, call-not-done, call-stays}
 use Rattle.line.proofs.Closing.{waitingAt, due-opens, reported-finished, reported-concludes, conclusion}
 use Rattle.line.proofs.Exactly.{Exactly, exactly-step}

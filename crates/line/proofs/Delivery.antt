@@ -134,21 +134,21 @@ module _ (to : Address) (c : Command) (ns : List Node) where
     pub whole-means : Means (packetFor to c) to (Intact c)
     whole-means =
         let r = built-reads to c range fits typed in
-        let s = read-says (packetFor to c) to (r .command) (r .count) (r .whole) in
+        let s = read-says (packetFor to c) to (r .command) (r .end) (r .whole) in
         let h : heardAs (r .command) (packetFor to c) ≡ Intact c = rw (s .1, r .known) refl in
         record {
-          nodes = nodes-are ns (packetFor to c) to (r .command) (r .count) (Intact c) (s .0) h;
-          speaks = said-is ns (packetFor to c) to (r .command) (r .count) (Intact c) (s .0) h;
+          nodes = nodes-are ns (packetFor to c) to (r .command) (r .end) (Intact c) (s .0) h;
+          speaks = said-is ns (packetFor to c) to (r .command) (r .end) (Intact c) (s .0) h;
         }
 
     pub damaged-means : (q : List ℕ) → Damaged (packetFor to c) q → Means q (addressOf (getD q 1 0)) Spoilt
     damaged-means q d =
         let r = built-reads to c range fits typed in
-        let f = damaged-frames (packetFor to c) q to (r .command) (r .count) (r .whole) d in
-        let h : heardAs (r .command) q ≡ Spoilt = rw (damaged-spoilt (packetFor to c) q to (r .command) (r .count) (r .whole) d) refl in
+        let f = damaged-frames (packetFor to c) q to (r .command) (r .end) (r .whole) d in
+        let h : heardAs (r .command) q ≡ Spoilt = rw (damaged-spoilt (packetFor to c) q to (r .command) (r .end) (r .whole) d) refl in
         record {
-          nodes = nodes-are ns q _ (r .command) (r .count) Spoilt f h;
-          speaks = said-is ns q _ (r .command) (r .count) Spoilt f h;
+          nodes = nodes-are ns q _ (r .command) (r .end) Spoilt f h;
+          speaks = said-is ns q _ (r .command) (r .end) Spoilt f h;
         }
 
     -- from the sending to the report

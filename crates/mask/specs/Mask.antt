@@ -1,24 +1,23 @@
--- Define Status in the LS-773 manual: the byte counts of the status items, their bits in the mask, and a status packet read under a mask.
+-- Define Status in the LS-773 manual: the bits of a mask, and a status packet read under a mask.
 use Prim.Native.Nat.{ℕ, suc, _+_, _/_, _%_, _^_}
 use mathlib.Core.Bool.{Bool, cond}
 use mathlib.Core.List.{List, [], _∷_}
 use lib.Dec.{eqb}
-use Rattle.status.specs.Status.{statusOf}
+use Rattle.status.specs.Status.{counts, statusOf}
 use Rattle.status.specs.declared.Status.{Status}
-
--- bit 0 the inputs, bits 1 to 3 the three analog values, bit 4 the counter, bit 5 device ID and version,
--- bits 6 and 7 the captured inputs and counter: the byte counts
-abbrev pub counts : List ℕ
-counts = 2 ∷ 1 ∷ 1 ∷ 1 ∷ 4 ∷ 2 ∷ 2 ∷ 4 ∷ []
 
 -- bit k of a mask
 abbrev pub bit : ℕ → ℕ → Bool
 bit k m = eqb (m / 2 ^ k % 2) 1
 
+-- an item's count, if it is asked for
+abbrev pub askedCount : Bool → ℕ → ℕ
+askedCount t n = cond t n 0
+
 -- how many bytes a mask asks for, by the counts from bit k on
 abbrev pub countFrom : ℕ → ℕ → List ℕ → ℕ
 countFrom k m [] = 0
-countFrom k m (n ∷ ns) = cond (bit k m) n 0 + countFrom (suc k) m ns
+countFrom k m (n ∷ ns) = askedCount (bit k m) n + countFrom (suc k) m ns
 
 -- the length of the status packet under a mask: status byte, items, sum
 unfoldable pub sizeOf : ℕ → ℕ

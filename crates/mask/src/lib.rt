@@ -5,16 +5,29 @@ use status::Status;
 ghost use mathlib.Core.Path.{_≡_};
 ghost use Rattle.wire.specs.Promise.{Promise};
 ghost use Rattle.status.specs.Status.{statusNumber};
-ghost use Rattle.mask.specs.Mask.{sizeOf, readUnder};
+ghost use Rattle.mask.specs.Mask.{askedCount, sizeOf, readUnder};
 
-// How many bytes the status packet under a mask has.
+// The bytes of an item: none where it isn't asked for.
+fn asked_count(wanted: bool, count: usize) -> usize
+    ensures { λ r. ⌜ r ≡ askedCount wanted count ⌝ }
+{
+    if wanted { count } else { 0 }
+}
+
+// How many bytes the status packet under a mask has: status byte, items, sum.
 pub fn size(mask: u8) -> usize
     ensures { λ r. ⌜ r ≡ sizeOf mask ⌝ }
 {
-    let ones = mask / 2 % 2 + mask / 4 % 2 + mask / 8 % 2;
-    let twos = mask % 2 + mask / 32 % 2 + mask / 64 % 2;
-    let fours = mask / 16 % 2 + mask / 128 % 2;
-    (2 + ones + twos * 2 + fours * 4) as usize
+    let counts = status::COUNTS;
+    let mut bits = mask;
+    let mut n = 2;
+    let mut i = 0;
+    while i < 8 {
+        n += asked_count(bits % 2 == 1, counts[i]);
+        bits /= 2;
+        i += 1;
+    }
+    n
 }
 
 // One whole status packet under a mask. Its items are `status::items_part`.

@@ -10,7 +10,7 @@ use lib.Dec.{ltb, eqb}
 use borrow.Author.Tests.{eqb-true, eq-eqb, le-ltb, ltb-false, not-false}
 use Rattle.buffer.specs.Sum.{withSum}
 use Rattle.wire.specs.Address.{addressOf, byteOf}
-use Rattle.packet.specs.Packet.{commandOf, countOf, partsOf, dataOf, frameOf, intactOf, checked, readOf}
+use Rattle.packet.specs.Packet.{commandOf, countOf, endOf, followed, partsOf, dataOf, frameOf, intactOf, checked, readOf}
 use Rattle.packet.specs.Build.{headOf, packetOf, buildOf}
 use Rattle.buffer.specs.Buffer.{written}
 use Rattle.buffer.specs.Change.{AllBytes, Changed, Damaged}
@@ -20,6 +20,7 @@ use Rattle.wire.specs.declared.refusal.Refusal.the-variants.{Short, Header, Lon
 use Rattle.packet.specs.declared.Framed.{Framed}
 use Rattle.packet.specs.declared.Framed.the-variants.{Whole, Refused}
 use Rattle.wire.proofs.Choice.{chose-first, chose-second}
+use Rattle.wire.proofs.Impossible.{impossible}
 use Rattle.wire.proofs.Addresses.{byte-address}
 use Rattle.buffer.proofs.Bytes.{byte-at}
 use Rattle.buffer.proofs.Writing.{place-written, wrote, wrote-not, place-wrote}
@@ -27,15 +28,15 @@ use Rattle.buffer.proofs.Sums.{length-with-sum, with-sum-ends, ends-shape, chan
 
 -- a refusal is no packet
 refused-not : (why : Refusal) (a : Address) (c n : ℕ) → Refused why ≡ Whole a c n → ⊥
-refused-not why a c n e = let z : _≡_ {A = ℕ} 0 1 = cc in omega arith
+refused-not why a c n e = impossible cc
 
 -- what the checks but for the sum find of a packet that they pass
 pub record Framing (s : List ℕ) (a : Address) (c n : ℕ) : Type 0 where
-  pub size : length s ≡ 4 + n
+  pub size : length s ≡ n
   pub header : getD s 0 0 ≡ 0xAA
   pub address : addressOf (getD s 1 0) ≡ a
   pub command : commandOf s ≡ c
-  pub count : countOf s ≡ n
+  pub end : endOf s ≡ n
 
 pub framing : (s : List ℕ) (a : Address) (c n : ℕ) → frameOf s ≡ Whole a c n → Framing s a c n
 unfolding frameOf
@@ -43,27 +44,27 @@ framing s a c n e =
     let t1 = chose-second (ltb (length s) 1) e (refused-not Short a c n) in
     let t2 = chose-second (not (eqb (getD s 0 0) 0xAA)) (t1 .1) (refused-not Header a c n) in
     let t3 = chose-second (ltb (length s) 4) (t2 .1) (refused-not Short a c n) in
-    let t4 = chose-second (ltb (length s) (4 + countOf s)) (t3 .1) (refused-not Short a c n) in
-    let t5 = chose-second (ltb (4 + countOf s) (length s)) (t4 .1) (refused-not Long a c n) in
-    let k : countOf s ≡ n = cc (t5 .1) in
+    let t4 = chose-second (ltb (length s) (endOf s)) (t3 .1) (refused-not Short a c n) in
+    let t5 = chose-second (followed s) (t4 .1) (refused-not Long a c n) in
+    let k : endOf s ≡ n = cc (t5 .1) in
     record {
       size = omega (arith, ltb-false);
       header = eqb-true _ _ (not-false _ (t2 .0));
       address = cc (t5 .1);
       command = cc (t5 .1);
-      count = k;
+      end = k;
     }
 
 -- the checks but for the sum pass
-pub frames : (s : List ℕ) → length s ≡ 4 + countOf s → getD s 0 0 ≡ 0xAA → frameOf s ≡ partsOf s
+pub frames : (s : List ℕ) → length s ≡ endOf s → getD s 0 0 ≡ 0xAA → frameOf s ≡ partsOf s
 unfolding frameOf
 frames s e h =
     simp (
       le-ltb (length s) 1 (omega arith),
       eq-eqb (getD s 0 0) 0xAA h,
       le-ltb (length s) 4 (omega arith),
-      le-ltb (length s) (4 + countOf s) (omega arith),
-      le-ltb (4 + countOf s) (length s) (omega arith),
+      le-ltb (length s) (endOf s) (omega arith),
+      le-ltb (endOf s) (length s) (omega arith),
     )
 
 -- a whole packet with a right sum reads as its parts
@@ -96,7 +97,7 @@ module _ (a c : ℕ) (d : List ℕ) (small : c < 16) where
   built-count : countOf (packetOf a c d) ≡ length d
   built-count = omega arith
 
-  pub built-frames : frameOf (packetOf a c d) ≡ Whole (addressOf a) c (length d)
+  pub built-frames : frameOf (packetOf a c d) ≡ Whole (addressOf a) c (4 + length d)
   built-frames =
       let m : headOf c d % 16 ≡ c = omega arith in
       frames (packetOf a c d) (omega (arith, built-length a c d, built-count)) refl ∙ cc built-count
@@ -106,8 +107,8 @@ module _ (a c : ℕ) (d : List ℕ) (small : c < 16) where
   built-intact = with-sum-ends (a ∷ headOf c d ∷ d)
 
   -- a built packet reads back as its parts
-  pub built-reads : readOf (packetOf a c d) ≡ Whole (addressOf a) c (length d)
-  built-reads = reads (packetOf a c d) (addressOf a) c (length d) built-frames built-intact
+  pub built-reads : readOf (packetOf a c d) ≡ Whole (addressOf a) c (4 + length d)
+  built-reads = reads (packetOf a c d) (addressOf a) c (4 + length d) built-frames built-intact
 
   pub built-data : dataOf (packetOf a c d) ≡ d
   unfolding dataOf
@@ -122,7 +123,7 @@ module _ (a c : ℕ) (d out left : List ℕ) (n : ℕ) (e : buildOf a c d out �
       let u = chose-second (ltb 15 c) (t .1) (wrote-not Range out left n) in
       (omega (arith, ltb-false 15 c (u .0)), place-wrote (packetOf a c d) out left n (u .1))
 
-  pub written-reads : readOf (take n left) ≡ Whole (addressOf a) c (length d)
+  pub written-reads : readOf (take n left) ≡ Whole (addressOf a) c (4 + length d)
   written-reads = rw (placed .1) (built-reads a c d (placed .0))
 
   pub written-data : dataOf (take n left) ≡ d
@@ -149,19 +150,19 @@ accepted-built s a c n e =
     let f = framing s a c n (t .0) in
     let d : List ℕ = take (countOf s) (drop 3 s) in
     let eb : getD s 1 0 ≡ byteOf a = sym (byte-address (getD s 1 0)) ∙ ap byteOf (f .address) in
-    let ld : length d ≡ countOf s = length-take-le (countOf s) (drop 3 s) (omega (arith, length-drop 3 s, f .size, f .count)) in
-    let eh : getD s 2 0 ≡ headOf c d = omega (arith, f .command, f .count) in
-    let k : length (drop 1 s) - 1 ≡ 2 + countOf s = omega (arith, length-drop 1 s, f .size, f .count) in
-    let p = shape s (countOf s) (omega (arith, f .size, f .count)) in
+    let ld : length d ≡ countOf s = length-take-le (countOf s) (drop 3 s) (omega (arith, length-drop 3 s, f .size, f .end)) in
+    let eh : getD s 2 0 ≡ headOf c d = omega (arith, f .command, f .end) in
+    let k : length (drop 1 s) - 1 ≡ 2 + countOf s = omega (arith, length-drop 1 s, f .size, f .end) in
+    let p = shape s (countOf s) (omega (arith, f .size, f .end)) in
     let q : take (length (drop 1 s) - 1) (drop 1 s) ≡ byteOf a ∷ headOf c d ∷ d = rw (k, p .1) (cc (eb, eh)) in
     p .0 ∙ cc (f .header, ap (λ (l : List ℕ). withSum l) q, ends-shape (drop 1 s) (t .1))
 
--- the data bytes number what the command byte says
-pub data-length : (s : List ℕ) (a : Address) (c n : ℕ) → frameOf s ≡ Whole a c n → length (dataOf s) ≡ n
+-- the data bytes number what the command byte says: they are all but four
+pub data-length : (s : List ℕ) (a : Address) (c n : ℕ) → frameOf s ≡ Whole a c n → 4 + length (dataOf s) ≡ n
 unfolding dataOf
 data-length s a c n e =
     let f = framing s a c n e in
-    length-take-le (countOf s) (drop 3 s) (omega (arith, length-drop 3 s, f .size, f .count)) ∙ f .count
+    ap (λ (k : ℕ). 4 + k) (length-take-le (countOf s) (drop 3 s) (omega (arith, length-drop 3 s, f .size, f .end))) ∙ f .end
 
 -- an accepted packet is, where it has room, the one that the builder writes from its parts
 pub accepted-written : (s : List ℕ) (a : Address) (c n : ℕ) (out : List ℕ) → AllBytes s → readOf s ≡ Whole a c n → length s ≤ length out
@@ -170,7 +171,7 @@ unfolding buildOf
 accepted-written s a c n out b e h =
     let t = read-says s a c n e .0 in
     let f = framing s a c n t in
-    let few : length (dataOf s) ≤ 15 = omega (arith, data-length s a c n t, f .count, byte-at s 2 b) in
+    let few : length (dataOf s) ≤ 15 = omega (arith, data-length s a c n t, f .end, byte-at s 2 b) in
     rw (le-ltb 15 (length (dataOf s)) few, le-ltb 15 c (omega (arith, f .command)), ← (accepted-built s a c n e)) (place-written s out h)
 
 -- ---- damaged packets
@@ -184,14 +185,14 @@ module _ (s t : List ℕ) (a : Address) (c n : ℕ) (e : readOf s ≡ Whole a c 
   kept : (j : ℕ) → (j ≡ d .at → ⊥) → getD t j 0 ≡ getD s j 0
   kept j h = ap (λ (l : List ℕ). getD l j 0) (d .change .result) ∙ getD-set-other s (d .at) j (d .change .value) 0 h
 
-  -- frame, command and count stay, with the address that is there now
+  -- frame, command and end stay, with the address that is there now
   pub damaged-frames : frameOf t ≡ Whole (addressOf (getD t 1 0)) c n
   damaged-frames =
       let f = framing s a c n (read-says s a c n e .0) in
       let g : getD t 2 0 ≡ getD s 2 0 = kept 2 (λ y. d .notCommand (sym y)) in
       let x : getD t 0 0 ≡ getD s 0 0 = kept 0 (λ y. d .notHeader (sym y)) in
       let k : commandOf t ≡ c = ap (λ (y : ℕ). y % 16) g ∙ f .command in
-      let m : countOf t ≡ n = ap (λ (y : ℕ). y / 16) g ∙ f .count in
+      let m : endOf t ≡ n = ap (λ (y : ℕ). 4 + y / 16) g ∙ f .end in
       frames t (omega (arith, changed-length (d .change), f .size)) (x ∙ f .header) ∙ cc (k, m)
 
   -- the sum is wrong

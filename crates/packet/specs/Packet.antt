@@ -18,9 +18,17 @@ commandOf s = getD s 2 0 % 16
 abbrev pub countOf : List ℕ → ℕ
 countOf s = getD s 2 0 / 16
 
--- the parts that a packet's bytes name
+-- where a packet ends: behind "4 + count" bytes
+abbrev pub endOf : List ℕ → ℕ
+endOf s = 4 + countOf s
+
+-- the parts that a packet's bytes name, and its end
 abbrev pub partsOf : List ℕ → Framed
-partsOf s = Whole (addressOf (getD s 1 0)) (commandOf s) (countOf s)
+partsOf s = Whole (addressOf (getD s 1 0)) (commandOf s) (endOf s)
+
+-- bytes follow the packet
+abbrev pub followed : List ℕ → Bool
+followed s = ltb (endOf s) (length s)
 
 -- "its fourth byte", counted from 0
 abbrev pub dataFrom : ℕ
@@ -36,8 +44,8 @@ frameOf s =
     cond (ltb (length s) 1) (Refused Short)
     (cond (not (eqb (getD s 0 0) 0xAA)) (Refused Header)
     (cond (ltb (length s) 4) (Refused Short)
-    (cond (ltb (length s) (4 + countOf s)) (Refused Short)
-    (cond (ltb (4 + countOf s) (length s)) (Refused Long)
+    (cond (ltb (length s) (endOf s)) (Refused Short)
+    (cond (followed s) (Refused Long)
     (partsOf s)))))
 
 -- the sum is right; "the header isn't in it"
@@ -46,7 +54,7 @@ intactOf s = endsInSum (drop 1 s)
 
 -- "sum, 4", the last of the checks
 abbrev pub checked : List ℕ → Framed → Framed
-checked s (Whole a c n) = cond (intactOf s) (Whole a c n) (Refused Sum)
+checked s (Whole a c e) = cond (intactOf s) (Whole a c e) (Refused Sum)
 checked s (Refused why) = Refused why
 
 unfoldable pub readOf : List ℕ → Framed
@@ -54,5 +62,5 @@ readOf s = checked s (frameOf s)
 
 -- the number of what reading finds
 abbrev pub framedNumber : Framed → ℕ
-framedNumber (Whole a c n) = done
+framedNumber (Whole a c e) = done
 framedNumber (Refused why) = numberOf why

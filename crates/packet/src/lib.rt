@@ -17,12 +17,12 @@ ghost use Rattle.packet.specs.Build.{packetWith, buildOf};
 // The first byte of every command packet.
 const HEADER: u8 = 0xAA;
 
-// What reading a command packet finds: its parts, or the refusal. The data bytes are `data_part`.
+// What reading a command packet finds: its parts and where it ends, or the refusal. The data bytes are `data_part`.
 pub enum Framed {
     Whole {
         address: Address,
         command: u8,
-        count: usize,
+        end: usize,
     },
     Refused(Refusal),
 }
@@ -36,7 +36,7 @@ impl Framed {
             Framed::Whole {
                 address: _,
                 command: _,
-                count: _,
+                end: _,
             } => wire::DONE,
             Framed::Refused(why) => why.number(),
         }
@@ -57,17 +57,18 @@ pub fn frame(s: &[u8]) -> Framed
         return Framed::Refused(Refusal::Short);
     }
     let head = s[2];
-    let count = (head / 16) as usize;
-    if s.len() < 4 + count {
+    let end = 4 + (head / 16) as usize;
+    if s.len() < end {
         return Framed::Refused(Refusal::Short);
     }
-    if 4 + count < s.len() {
+    // Here alone is it a fault that bytes follow the packet.
+    if end < s.len() {
         return Framed::Refused(Refusal::Long);
     }
     Framed::Whole {
         address: Address::of(s[1]),
         command: head % 16,
-        count,
+        end,
     }
 }
 
@@ -89,13 +90,13 @@ pub fn read(s: &[u8]) -> Framed
         Framed::Whole {
             address,
             command,
-            count,
+            end,
         } => {
             if is_intact(s) {
                 Framed::Whole {
                     address,
                     command,
-                    count,
+                    end,
                 }
             } else {
                 Framed::Refused(Refusal::Sum)

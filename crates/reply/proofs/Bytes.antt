@@ -7,7 +7,8 @@ use native.Mathlib.Omega.{arith}
 use native.Mathlib.Nat.{add-zero, pow-suc, div-lt-iff-lt-mul}
 use lib.ListN.{length, set}
 use lib.Seq.{sets}
-use Rattle.reply.specs.Items.{bytesOf, asked, Wrote}
+use Rattle.buffer.specs.Wrote.{Wrote}
+use Rattle.reply.specs.Items.{bytesOf, asked}
 
 pub bytes-length : (n w : ℕ) → length (bytesOf n w) ≡ n
 bytes-length zero w = refl
@@ -47,12 +48,12 @@ byte-more o at i n w h =
 
 -- an item that isn't asked for writes nothing
 pub left-out : (t : Bool) (d o : List ℕ) (at : ℕ) → t ≡ false → Wrote (asked t d) at o at o
-left-out t d o at e = rw e (record { next = sym (add-zero at); bytes = refl })
+left-out t d o at e = rw e (record { behind = sym (add-zero at); bytes = λ h. refl; long = refl })
 
 -- all bytes are written
 pub all-written : (t : Bool) (o₀ o : List ℕ) (at i n w v : ℕ) → t ≡ true → i ≤ n → n ≤ i
-    → sets o (at + i) (bytesOf (n - i) v) ≡ sets o₀ at (bytesOf n w)
+    → length o ≡ length o₀ → sets o (at + i) (bytesOf (n - i) v) ≡ sets o₀ at (bytesOf n w)
     → Wrote (asked t (bytesOf n w)) at o₀ (at + n) o
-all-written t o₀ o at i n w v e h k f =
+all-written t o₀ o at i n w v e h k l f =
     let z : n - i ≡ 0 = omega arith in
-    rw e (record { next = omega (arith, bytes-length n w); bytes = rw z at f })
+    rw e (record { behind = omega (arith, bytes-length n w); bytes = λ q. rw z at f; long = l })

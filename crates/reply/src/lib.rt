@@ -10,8 +10,9 @@ ghost use Prim.Native.Nat.{_+_, _≤_};
 ghost use lib.ListN.{length};
 ghost use Rattle.wire.specs.Promise.{Lending};
 ghost use Rattle.buffer.specs.Buffer.{builtNumber, place};
+ghost use Rattle.buffer.specs.Wrote.{Wrote};
 ghost use Rattle.status.specs.Status.{T};
-ghost use Rattle.reply.specs.Items.{bytesOf, asked, itemBytes, itemTable, Wrote};
+ghost use Rattle.reply.specs.Items.{bytesOf, asked, itemBytes, valuesOf};
 ghost use Rattle.reply.specs.Reply.{ownMask, maskOf, statusByte, replyOf};
 
 // The mask of a command's reply: Read Status has its own.
@@ -55,64 +56,33 @@ fn status_byte(heard: Heard) -> u8
     }
 }
 
-// An item of the status packet: how many bytes, and of which value.
-struct Item {
-    pub count: usize,
-    pub value: u32,
-}
-
-// The items of a node, from bit 0 of the mask on.
-fn items(n: Node) -> [Item; 8]
-    ensures { λ r. ⌜ r ≡ itemTable n ⌝ }
+// The values of a node's items, from bit 0 of the mask on: `status::COUNTS` has their byte counts.
+fn values(n: Node) -> [u32; 8]
+    ensures { λ r. ⌜ r ≡ valuesOf n ⌝ }
 {
     let b = n.bench;
     let k = n.captured;
     [
-        Item {
-            count: 2,
-            value: b.inputs as u32,
-        },
-        Item {
-            count: 1,
-            value: b.analog0 as u32,
-        },
-        Item {
-            count: 1,
-            value: b.analog1 as u32,
-        },
-        Item {
-            count: 1,
-            value: b.analog2 as u32,
-        },
-        Item {
-            count: 4,
-            value: b.counter,
-        },
-        Item {
-            count: 2,
-            value: b.id as u32 + b.version as u32 * 256,
-        },
-        Item {
-            count: 2,
-            value: k.inputs as u32,
-        },
-        Item {
-            count: 4,
-            value: k.counter,
-        },
+        b.inputs as u32,
+        b.analog0 as u32,
+        b.analog1 as u32,
+        b.analog2 as u32,
+        b.counter,
+        b.id as u32 + b.version as u32 * 256,
+        k.inputs as u32,
+        k.counter,
     ]
 }
 
 // Writes an item's bytes from `at` on, least significant first, if it is asked for; the place behind them.
-fn put_item(out: &mut [u8], at: usize, wanted: bool, item: Item) -> usize
-    requires { ⌜ at + length (asked wanted (bytesOf (item .count) (item .value))) ≤ length (now out) ⌝ }
-    ensures { λ r. ⌜ Wrote (asked wanted (bytesOf (item .count) (item .value))) at (now (out .entry)) r (now (out .exit)) ⌝ }
+fn put_item(out: &mut [u8], at: usize, wanted: bool, count: usize, value: u32) -> usize
+    requires { ⌜ at + length (asked wanted (bytesOf count value)) ≤ length (now out) ⌝ }
+    ensures { λ r. ⌜ Wrote (asked wanted (bytesOf count value)) at (now (out .entry)) r (now (out .exit)) ⌝ }
 {
     if !wanted {
         return at;
     }
-    let count = item.count;
-    let mut rest = item.value;
+    let mut rest = value;
     let mut i = 0;
     while i < count {
         out[at + i] = (rest % 256) as u8;
@@ -127,12 +97,13 @@ fn put_items(n: Node, mask: u8, out: &mut [u8]) -> usize
     requires { ⌜ length (now out) ≡ T ⌝ }
     ensures { λ r. ⌜ Wrote (itemBytes mask n) 0 (now (out .entry)) r (now (out .exit)) ⌝ }
 {
-    let table = items(n);
+    let counts = status::COUNTS;
+    let values = values(n);
     let mut bits = mask;
     let mut at = 0;
     let mut i = 0;
     while i < 8 {
-        at = put_item(out, at, bits % 2 == 1, table[i]);
+        at = put_item(out, at, bits % 2 == 1, counts[i], values[i]);
         bits /= 2;
         i += 1;
     }

@@ -14,6 +14,7 @@ use session::is_closed;
 use session::refuse;
 use status::Answer;
 use wire::Address;
+use wire::MOST_NODES;
 use wire::Refusal;
 ghost use mathlib.Core.Path.{_≡_};
 ghost use Rattle.wire.specs.Promise.{Promise};
@@ -77,7 +78,7 @@ fn is_asking(s: Session, to: Address, c: Command) -> bool
 }
 
 // The session with no exchange open, at a step of the walk, with a record.
-fn idle_at(s: Session, walk: u8, entries: [Entry; 31]) -> Session
+fn idle_at(s: Session, walk: u8, entries: [Entry; MOST_NODES]) -> Session
     ensures { λ r. ⌜ r ≡ idleAt s walk entries ⌝ }
 {
     Session {

@@ -8,6 +8,7 @@ use lib.Dec.{eqb, ltb}
 use lib.ListN.{length, replicate, take, length-append, length-take}
 use borrow.Author.Tests.{le-ltb, ltb-true, ltb-false}
 use Rattle.wire.specs.Promise.{Outcome}
+use Rattle.wire.specs.Numbers.{mostNodes}
 use Rattle.buffer.specs.Buffer.{written, place}
 use Rattle.wire.specs.declared.refusal.Refusal.the-variants.{Range}
 use Rattle.text.specs.Lines.{newline, linesOf, grown}
@@ -101,7 +102,7 @@ wrong-short = refused-short Range
 
 count-short : (n : ℕ) (ls : List (List ℕ)) → total ls ≤ 65536 → length (onCount n ls) ≤ most
 unfolding onCount
-count-short n ls h = go (ltb n 1) (ltb 31 n)
+count-short n ls h = go (ltb n 1) (ltb mostNodes n)
   where
     go : (t u : Bool) → length (cond t wrong (cond u wrong (played (startOf n) ls))) ≤ most
     go true u = omega (arith, wrong-short)

@@ -1,4 +1,3 @@
-pub mod Appends
 pub mod Lined
 pub mod Deliveries
 pub mod Playing

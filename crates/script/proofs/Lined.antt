@@ -12,7 +12,8 @@ use Rattle.wire.specs.Promise.{Lending}
 use Rattle.wire.specs.Numbers.{numberOf}
 use Rattle.buffer.specs.Buffer.{written, place, builtNumber}
 use Rattle.wire.specs.declared.refusal.Refusal.{Refusal}
-use Rattle.wire.specs.declared.refusal.Refusal.the-variants.{Short, Header, Long, Sum, Room, Range, Busy, Idle, NotDue, NoNode, Led, Closed}
+use Rattle.wire.proofs.Impossible.{impossible}
+use Rattle.wire.proofs.Numbers.{number-small}
 use Rattle.buffer.specs.declared.Built.{Built}
 use Rattle.buffer.specs.declared.Built.the-variants as built
 use Rattle.buffer.proofs.Writing.{place-long}
@@ -23,8 +24,9 @@ use Rattle.hex.proofs.Puts.{length-line}
 use Rattle.chain.specs.declared.decision.Delivery.{Delivery}
 use Rattle.chain.specs.declared.decision.Delivery.the-variants.{Silent, Replied, Collision, Refused}
 use Rattle.script.specs.Answers.{silentLine, collisionLine, refusedWord, numberEnd, refusedLine, answerLine}
-use Rattle.script.specs.Wrote.{far, Wrote, Line}
-use Rattle.script.proofs.Appends.{wrote-then}
+use Rattle.buffer.specs.Wrote.{Wrote}
+use Rattle.script.specs.Line.{far, Line}
+use Rattle.buffer.proofs.Appends.{wrote-then}
 
 -- ---- a number
 
@@ -46,20 +48,6 @@ number-short n = go (ltb n 10)
     go false = omega arith
 
 -- ---- a refusal
-
-number-small : (why : Refusal) → numberOf why < 100
-number-small Short = omega arith
-number-small Header = omega arith
-number-small Long = omega arith
-number-small Sum = omega arith
-number-small Room = omega arith
-number-small Range = omega arith
-number-small Busy = omega arith
-number-small Idle = omega arith
-number-small NotDue = omega arith
-number-small NoNode = omega arith
-number-small Led = omega arith
-number-small Closed = omega arith
 
 pub refused-short : (why : Refusal) → length (refusedLine why) ≤ 11
 refused-short why = omega (arith, length-append refusedWord (numberEnd (numberOf why)), number-short (numberOf why))
@@ -104,7 +92,7 @@ module _ (d l : List ℕ) (b : Built) (p : Lending builtNumber b l (place (hexLi
     pub reply-refused : (why : Refusal) (at : ℕ) (out : List ℕ) → b ≡ built.Refused why → Line (hexLine d) at out at out
     reply-refused why at out e =
         let a : built.Refused why ≡ built.Bytes (length (hexLine d)) = sym e ∙ p .answer ∙ ap (λ o. o .answer) (placed d h) in
-        absurd (let z : _≡_ {A = ℕ} 0 1 = cc in let y : ⊥ = omega arith in y)
+        impossible cc
 
 -- ---- by the answer
 

@@ -10,11 +10,12 @@ use lib.Seq.{length-take-le}
 use Rattle.wire.specs.Promise.{Lending}
 use Rattle.buffer.specs.Buffer.{written, refused, place, builtNumber}
 use Rattle.wire.specs.declared.refusal.Refusal.the-variants.{Room}
+use Rattle.wire.proofs.Impossible.{impossible}
 use Rattle.buffer.specs.declared.Built.{Built}
 use Rattle.buffer.specs.declared.Built.the-variants.{Bytes}
 
 chosen : (t : Bool) (p out left : List ℕ) (n : ℕ) → Bytes n ≡ cond t (refused Room out) (written p out) .answer → left ≡ cond t (refused Room out) (written p out) .left → n ≤ length left
-chosen true p out left n e f = absurd (let z : _≡_ {A = ℕ} 0 1 = cc in let y : ⊥ = omega arith in y)
+chosen true p out left n e f = impossible cc
 chosen false p out left n e f =
     let k : n ≡ length p = cc in
     rw (k, f) (omega (arith, length-append p (drop (length p) out)))

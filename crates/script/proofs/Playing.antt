@@ -6,6 +6,7 @@ use native.Mathlib.Omega.{arith}
 use lib.ListN.{length, take, drop, replicate, length-drop, drop-of-length-le}
 use lib.Seq.{drop-drop}
 use Rattle.wire.specs.Promise.{Outcome, Lending}
+use Rattle.wire.proofs.Impossible.{impossible}
 use Rattle.buffer.specs.Change.{AllBytes}
 use Rattle.buffer.proofs.Bytes.{byte-at}
 use Rattle.text.specs.Lines.{lineOf, linesOf}
@@ -20,11 +21,12 @@ use Rattle.table.specs.declared.Table.{Table}
 use Rattle.table.specs.declared.Delivered.{Delivered}
 use Rattle.table.specs.Table.{deliveredNumber, deliveredOf}
 use Rattle.script.specs.Answers.{answerLine}
-use Rattle.script.specs.Wrote.{Wrote, Line}
+use Rattle.buffer.specs.Wrote.{Wrote}
+use Rattle.script.specs.Line.{Line}
 use Rattle.script.specs.Bench.{zeros, startOf, Stepped, heard, refusedStep, onContent, stepOf, played, Lined}
 use Rattle.script.specs.declared.rehearsal.Step.{Step}
 use Rattle.script.proofs.Deliveries.{deliver-kept}
-use Rattle.script.proofs.Appends.{Going, going-on, going-done}
+use Rattle.buffer.proofs.Appends.{Going, going-on, going-done}
 
 -- ---- the start
 
@@ -46,7 +48,7 @@ module _ (t : Table) (l b : List ℕ) (found : Parsed) (e : Lending parsedNumber
     where
       go : (q : Content) → Malformed ≡ readInto q (replicate 20 0) .answer → Lined (onContent t q) at o r m
       go malformed e = f
-      go (bytes p) e = absurd (let z : _≡_ {A = ℕ} 0 1 = cc in let y : ⊥ = omega arith in y)
+      go (bytes p) e = impossible cc
 
   pub play-good : (n : ℕ) (d : List ℕ) → found ≡ Bytes n → d ≡ take n b → Lined (heard (deliveredOf t d (replicate 19 0))) at o r m → Lined (stepOf t l) at o r m
   unfolding stepOf
@@ -54,7 +56,7 @@ module _ (t : Table) (l b : List ℕ) (found : Parsed) (e : Lending parsedNumber
     where
       go : (q : Content) → ((p : List ℕ) → q ≡ bytes p → AllBytes p) → Bytes n ≡ readInto q (replicate 20 0) .answer → b ≡ readInto q (replicate 20 0) .left
           → Lined (onContent t q) at o r m
-      go malformed s i j = absurd (let z : _≡_ {A = ℕ} 0 1 = cc in let y : ⊥ = omega arith in y)
+      go malformed s i j = impossible cc
       go (bytes p) s i j =
           let en : n ≡ length p = cc in
           let ed : d ≡ take (length p) (over p (replicate 20 0)) = g ∙ rw (en, j) in

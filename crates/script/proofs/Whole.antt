@@ -9,18 +9,19 @@ use lib.Dec.{ltb}
 use lib.ListN.{length, drop, length-drop}
 use borrow.Author.Tests.{lt-ltb, le-ltb, ltb-true, ltb-false}
 use Rattle.wire.specs.Promise.{Promise, Lending}
+use Rattle.wire.specs.Numbers.{mostNodes}
 use Rattle.buffer.specs.Buffer.{builtNumber, place}
 use Rattle.wire.specs.declared.refusal.Refusal.the-variants.{Room}
 use Rattle.buffer.specs.declared.Built.the-variants as built
-use Rattle.buffer.proofs.Writing.{no-room, has-room}
+use Rattle.buffer.proofs.Writing.{sets-start, no-room, has-room}
 use Rattle.text.specs.Lines.{lineOf, linesOf}
 use Rattle.text.specs.Digits.{decimalIn, decimalNumber}
 use Rattle.text.specs.declared.digits.Decimal.{Decimal}
 use Rattle.text.specs.declared.digits.Decimal.the-variants.{Value, Malformed}
 use Rattle.text.proofs.Parts.{lines-step}
-use Rattle.hex.proofs.Puts.{sets-start}
 use Rattle.table.specs.declared.Table.{Table}
-use Rattle.script.specs.Wrote.{Wrote, Line}
+use Rattle.buffer.specs.Wrote.{Wrote}
+use Rattle.script.specs.Line.{Line}
 use Rattle.script.specs.Bench.{startOf, played, wrong, onCount, onDecimal, benchOf}
 use Rattle.script.proofs.Bound.{most, bench-short}
 
@@ -31,13 +32,13 @@ module _ (n : ℕ) (ls : List (List ℕ)) (out left : List ℕ) (r : ℕ) where
   unfolding onCount
   count-low h f = rw (lt-ltb n 1 h) (f .wrote)
 
-  pub count-high : 1 ≤ n → 31 < n → Line wrong 0 out r left → Wrote (onCount n ls) 0 out r left
+  pub count-high : 1 ≤ n → mostNodes < n → Line wrong 0 out r left → Wrote (onCount n ls) 0 out r left
   unfolding onCount
-  count-high h k f = rw (le-ltb n 1 h, lt-ltb 31 n k) (f .wrote)
+  count-high h k f = rw (le-ltb n 1 h, lt-ltb mostNodes n k) (f .wrote)
 
-  pub count-runs : (t : Table) → 1 ≤ n → n ≤ 31 → t ≡ startOf n → Wrote (played t ls) 0 out r left → Wrote (onCount n ls) 0 out r left
+  pub count-runs : (t : Table) → 1 ≤ n → n ≤ mostNodes → t ≡ startOf n → Wrote (played t ls) 0 out r left → Wrote (onCount n ls) 0 out r left
   unfolding onCount
-  count-runs t h k e f = rw (le-ltb n 1 h, le-ltb 31 n k, ← e) f
+  count-runs t h k e f = rw (le-ltb n 1 h, le-ltb mostNodes n k, ← e) f
 
 -- ---- by the first line
 

@@ -6,6 +6,7 @@ use mathlib.Core.Path.{_≡_}
 use lib.Dec.{ltb}
 use lib.ListN.{length, replicate}
 use Rattle.wire.specs.Promise.{Outcome}
+use Rattle.wire.specs.Numbers.{mostNodes}
 use Rattle.wire.specs.declared.refusal.Refusal.the-variants.{Range}
 use Rattle.node.specs.declared.state.Bench.{Bench}
 use Rattle.node.specs.Node.{powerUp}
@@ -18,7 +19,7 @@ use Rattle.text.specs.Lines.{linesOf}
 use Rattle.text.specs.Digits.{decimalIn}
 use Rattle.hex.specs.Hex.{Content, bytes, malformed, bytesIn}
 use Rattle.script.specs.Answers.{answerLine, refusedLine}
-use Rattle.script.specs.Wrote.{Line}
+use Rattle.script.specs.Line.{Line}
 use Rattle.script.specs.declared.rehearsal.Step.{Step}
 
 -- "bench values 0"
@@ -64,7 +65,7 @@ wrong = refusedLine Range
 
 -- "The count is 1 to 31 without a leading zero"
 unfoldable pub onCount : ℕ → List (List ℕ) → List ℕ
-onCount n ls = cond (ltb n 1) wrong (cond (ltb 31 n) wrong (played (startOf n) ls))
+onCount n ls = cond (ltb n 1) wrong (cond (ltb mostNodes n) wrong (played (startOf n) ls))
 
 abbrev pub onDecimal : Decimal → List (List ℕ) → List ℕ
 onDecimal (Value n) ls = onCount n ls

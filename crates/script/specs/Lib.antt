@@ -1,4 +1,4 @@
 pub mod Answers
-pub mod Wrote
+pub mod Line
 pub mod Bench
 pub mod Example

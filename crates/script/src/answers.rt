@@ -7,7 +7,8 @@ ghost use Prim.Native.Nat.{_+_, _≤_, _<_};
 ghost use lib.ListN.{length};
 ghost use Rattle.hex.specs.Hex.{hexLine};
 ghost use Rattle.script.specs.Answers.{numberEnd, refusedLine, answerLine};
-ghost use Rattle.script.specs.Wrote.{far, Wrote, Line};
+ghost use Rattle.buffer.specs.Wrote.{Wrote};
+ghost use Rattle.script.specs.Line.{far, Line};
 
 fn append(out: &mut [u8], at: usize, part: &[u8]) -> usize
     requires { ⌜ (at ≤ far + 64) × (length (now part) ≤ 64) ⌝ }

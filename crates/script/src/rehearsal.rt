@@ -7,6 +7,7 @@ use node::Bench;
 use node::Node;
 use table::Table;
 use text::Decimal;
+use wire::MOST_NODES;
 use wire::Refusal;
 ghost use mathlib.Core.Path.{_≡_};
 ghost use Prim.Native.Nat.{_≤_};
@@ -16,7 +17,8 @@ ghost use Rattle.wire.specs.Promise.{Lending};
 ghost use Rattle.buffer.specs.Buffer.{builtNumber, place};
 ghost use Rattle.table.specs.Table.{deliveredOf};
 ghost use Rattle.text.specs.Lines.{linesOf};
-ghost use Rattle.script.specs.Wrote.{far, Wrote};
+ghost use Rattle.buffer.specs.Wrote.{Wrote};
+ghost use Rattle.script.specs.Line.{far};
 ghost use Rattle.script.specs.Bench.{startOf, heard, refusedStep, stepOf, played, onCount, benchOf, Lined};
 
 // The longest input, 64 KiB.
@@ -46,6 +48,7 @@ fn start(count: usize) -> Table
     };
     let fresh = Node::power_up(bench);
     Table {
+        // `table::Table` says why 33.
         nodes: [fresh; 33],
         count,
     }
@@ -115,7 +118,7 @@ fn run_with(n: u8, packets: &[u8], out: &mut [u8]) -> usize
     if n < 1 {
         return put_refused(out, 0, Refusal::Range);
     }
-    if 31 < n {
+    if MOST_NODES < n as usize {
         return put_refused(out, 0, Refusal::Range);
     }
     run(start(n as usize), packets, out)

@@ -13,7 +13,7 @@ use Rattle.wire.specs.declared.address.Address.{Address}
 use Rattle.wire.specs.declared.refusal.Refusal.the-variants.{Room}
 use Rattle.buffer.specs.Buffer.{place}
 use Rattle.wire.specs.Numbers.{done}
-use Rattle.buffer.proofs.Refusals.{not-done}
+use Rattle.wire.proofs.Numbers.{not-done}
 use Rattle.command.specs.declared.Command.{Command}
 use Rattle.command.specs.Build.{fitsOf, packetFor}
 use Rattle.command.proofs.Commands.{built-written}

@@ -4,7 +4,7 @@ use mathlib.Core.Bool.{Bool, true, false, cond, not, _&&_, _||_}
 use lib.Dec.{ltb, leb}
 use mathlib.Core.Path.{_≡_}
 use lib.ListN.{length, getD}
-use Rattle.wire.specs.Numbers.{done, numberOf}
+use Rattle.wire.specs.Numbers.{done, numberOf, mostNodes}
 use Rattle.wire.specs.declared.address.Individual.{Individual}
 use Rattle.wire.specs.declared.address.Address.{Address}
 use Rattle.wire.specs.declared.address.Address.the-variants as address
@@ -36,12 +36,12 @@ strayOf n (Waiting to c) = offChain n to
 
 -- "One handed in with n above 31, a walk past n, or waiting on a node not 1 to n counts as closed with no exchange open"
 unfoldable pub validOf : Session → Bool
-validOf s = leb (s .n) 31 && leb (s .walk) (s .n) && not (strayOf (s .n) (s .exchange))
+validOf s = leb (s .n) mostNodes && leb (s .walk) (s .n) && not (strayOf (s .n) (s .exchange))
 
 -- a session within its bounds, with 31 entries: every session that comes about by the calls is such a one
 pub record Sound (s : Session) : Type 0 where
   pub valid : validOf s ≡ true
-  pub whole : length (s .entries) ≡ 31
+  pub whole : length (s .entries) ≡ mostNodes
 
 -- the number of a call's end
 abbrev pub endNumber : End → ℕ
@@ -63,7 +63,7 @@ entryOf s k = getD (s .entries) (k - 1) blank
 -- what a look at a node finds: 10 where the node is not 1 to n
 unfoldable pub lookOf : Session → Individual → Seen
 lookOf s i =
-    cond (ltb (i .0) 1 || ltb (s .n) (i .0) || ltb 31 (i .0)) (seen.Refused NoNode) (seen.Found (entryOf s (i .0)))
+    cond (ltb (i .0) 1 || ltb (s .n) (i .0) || ltb mostNodes (i .0)) (seen.Refused NoNode) (seen.Found (entryOf s (i .0)))
 
 abbrev pub lookNumber : Seen → ℕ
 lookNumber (seen.Found e) = done

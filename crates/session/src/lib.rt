@@ -5,6 +5,7 @@ use command::Command;
 use entry::Entry;
 use wire::Address;
 use wire::Individual;
+use wire::MOST_NODES;
 use wire::Refusal;
 ghost use mathlib.Core.Path.{_≡_};
 ghost use Rattle.wire.specs.Promise.{Promise};
@@ -21,7 +22,7 @@ pub struct Session {
     pub n: u8,
     pub walk: u8,
     pub exchange: Exchange,
-    pub entries: [Entry; 31],
+    pub entries: [Entry; MOST_NODES],
 }
 
 // How a call ends: done, sent as so many bytes, or refused.
@@ -89,7 +90,7 @@ fn is_stray(n: u8, x: Exchange) -> bool
 fn is_valid(s: Session) -> bool
     ensures { λ r. ⌜ r ≡ validOf s ⌝ }
 {
-    if 31 < s.n {
+    if MOST_NODES < s.n as usize {
         return false;
     }
     if s.n < s.walk {
@@ -128,7 +129,7 @@ pub fn look(s: Session, node: Individual) -> Seen
     if s.n < k {
         return Seen::Refused(Refusal::NoNode);
     }
-    if 31 < k {
+    if MOST_NODES < k as usize {
         return Seen::Refused(Refusal::NoNode);
     }
     let at = (k - 1) as usize;

@@ -2,6 +2,7 @@
 use Prim.Native.Nat.{ℕ}
 use mathlib.Core.Bool.{true, false, cond, _||_}
 use lib.Dec.{ltb}
+use Rattle.wire.specs.Numbers.{mostNodes}
 use Rattle.wire.specs.declared.refusal.Refusal.the-variants.{Range}
 use Rattle.ledger.specs.Ledger.{ledgerUp}
 use Rattle.session.specs.declared.Exchange.the-variants.{Idle}
@@ -17,6 +18,6 @@ freshOf = record { started = false; n = 0; walk = 0; exchange = Idle; entries = 
 -- "Power-up with n nodes (1 to 31) starts a session, at any time, drops an open exchange and makes all settings known as power-up has them; a bad n gives 6"
 unfoldable pub poweredOf : Session → ℕ → Step
 poweredOf s n =
-    cond (ltb n 1 || ltb 31 n)
+    cond (ltb n 1 || ltb mostNodes n)
     (refusedStep s Range)
     (record { end = Done; session = record { started = true; n = n; walk = 0; exchange = Idle; entries = ledgerUp } })

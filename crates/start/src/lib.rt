@@ -6,6 +6,7 @@ use session::Exchange;
 use session::Session;
 use session::Step;
 use session::refuse;
+use wire::MOST_NODES;
 use wire::Refusal;
 ghost use mathlib.Core.Path.{_≡_};
 ghost use Rattle.wire.specs.Promise.{Promise};
@@ -33,7 +34,7 @@ pub fn power_up(s: Session, n: u8) -> Step
     if n < 1 {
         return refuse(s, Refusal::Range);
     }
-    if 31 < n {
+    if MOST_NODES < n as usize {
         return refuse(s, Refusal::Range);
     }
     let entries = ledger::power_up();

@@ -1,7 +1,7 @@
 -- Document 01, "Packets": status packets, and the host's judgement of a reply.
 use Prim.Native.Nat.{ℕ, _+_, _-_, _/_, _%_}
 use mathlib.Core.Bool.{cond}
-use mathlib.Core.List.{List, _∷_}
+use mathlib.Core.List.{List, [], _∷_}
 use lib.ListN.{length, getD, take, drop}
 use lib.Dec.{ltb, eqb}
 use Rattle.wire.specs.Promise.{Outcome}
@@ -44,9 +44,19 @@ abbrev pub statusNumber : Status → ℕ
 statusNumber (Whole b) = done
 statusNumber (Refused why) = numberOf why
 
+-- Define Status in the LS-773 manual, the byte counts: bit 0 the inputs, bits 1 to 3 the three analog values, bit 4 the counter,
+-- bit 5 device ID and version, bits 6 and 7 the captured inputs and counter
+abbrev pub counts : List ℕ
+counts = 2 ∷ 1 ∷ 1 ∷ 1 ∷ 4 ∷ 2 ∷ 2 ∷ 4 ∷ []
+
+-- all of some counts
+abbrev pub allOf : List ℕ → ℕ
+allOf [] = 0
+allOf (n ∷ ns) = n + allOf ns
+
 -- "Let T be the total of all item counts"
 abbrev pub T : ℕ
-T = 17
+T = allOf counts
 
 -- "clear if bit 1 is 0"
 abbrev pub cleared : ℕ → Answer

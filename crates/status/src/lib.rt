@@ -1,4 +1,4 @@
-// Status packets: status byte; the items asked for; sum. And how the host takes what it received for a command.
+// Status packets: status byte; the items asked for; sum. How many bytes each item has. And how the host takes what it received for a command.
 // Promised: a built packet reads back, an accepted one is the one built from its parts, a reply with one byte changed is never good.
 // Left to others: which items a mask asks for (mask, reply), and what an answer makes of the record (entry).
 use buffer::Built;
@@ -9,8 +9,18 @@ ghost use Rattle.wire.specs.Part.{Part};
 ghost use Rattle.buffer.specs.Buffer.{builtNumber};
 ghost use Rattle.status.specs.Status.{statusOf, statusNumber, itemsFrom, itemsOf, statusBuilt, judged};
 
+// How many bytes each item has, from bit 0 of the mask on.
+pub const COUNTS: [usize; 8] = [2, 1, 1, 1, 4, 2, 2, 4];
+
 // The total of all item counts.
-pub const T: usize = 17;
+pub const T: usize = COUNTS[0]
+    + COUNTS[1]
+    + COUNTS[2]
+    + COUNTS[3]
+    + COUNTS[4]
+    + COUNTS[5]
+    + COUNTS[6]
+    + COUNTS[7];
 
 // What reading a status packet finds: its status byte, or the refusal. The items are `items_part`.
 pub enum Status {

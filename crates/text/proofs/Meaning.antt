@@ -7,6 +7,7 @@ use native.Mathlib.Omega.{arith}
 use lib.Dec.{ltb}
 use lib.ListN.{length}
 use borrow.Author.Tests.{lt-ltb, le-ltb, ne-eqb, ltb-true, ltb-false}
+use Rattle.wire.proofs.Impossible.{impossible}
 use Rattle.text.specs.Lines.{newline, linesOf}
 use Rattle.text.specs.Digits.{valueOf, decimalOf, oneDigit, twoDigits, decimalIn}
 use Rattle.text.specs.declared.digits.Decimal.the-variants as decimal
@@ -50,7 +51,7 @@ unfolding oneDigit decimalOf
 one-read a n e = go (ltb 9 (valueOf a)) refl e
   where
     go : (t : Bool) → ltb 9 (valueOf a) ≡ t → cond t decimal.Malformed (decimal.Value (valueOf a)) ≡ decimal.Value n → Counted (a ∷ []) n
-    go true x e = absurd (let z : _≡_ {A = ℕ} 0 1 = cc in let y : ⊥ = omega arith in y)
+    go true x e = impossible cc
     go false x e =
         let p = ltb-false 9 (valueOf a) x in
         let z : n ≡ valueOf a = cc in
@@ -62,9 +63,9 @@ two-read a b n e = go (ltb (valueOf a) 1) (ltb 9 (valueOf a)) (ltb 9 (valueOf b)
   where
     go : (t u v : Bool) → ltb (valueOf a) 1 ≡ t → ltb 9 (valueOf a) ≡ u → ltb 9 (valueOf b) ≡ v
         → cond t decimal.Malformed (cond u decimal.Malformed (cond v decimal.Malformed (decimal.Value (valueOf a * 10 + valueOf b)))) ≡ decimal.Value n → Counted (a ∷ b ∷ []) n
-    go true u v x y w e = absurd (let z : _≡_ {A = ℕ} 0 1 = cc in let y : ⊥ = omega arith in y)
-    go false true v x y w e = absurd (let z : _≡_ {A = ℕ} 0 1 = cc in let y : ⊥ = omega arith in y)
-    go false false true x y w e = absurd (let z : _≡_ {A = ℕ} 0 1 = cc in let y : ⊥ = omega arith in y)
+    go true u v x y w e = impossible cc
+    go false true v x y w e = impossible cc
+    go false false true x y w e = impossible cc
     go false false false x y w e =
         let p = ltb-false (valueOf a) 1 x in
         let q = ltb-false 9 (valueOf a) y in
@@ -76,13 +77,13 @@ two-read a b n e = go (ltb (valueOf a) 1) (ltb 9 (valueOf a)) (ltb 9 (valueOf b)
 
 pub decimal-written : (l : List ℕ) (n : ℕ) → decimalIn l ≡ decimal.Value n → Counted l n
 unfolding decimalIn
-decimal-written [] n e = absurd (let z : _≡_ {A = ℕ} 0 1 = cc in let y : ⊥ = omega arith in y)
+decimal-written [] n e = impossible cc
 decimal-written (a ∷ []) n e = one-read a n e
 decimal-written (a ∷ b ∷ []) n e = two-read a b n e
 decimal-written (a ∷ b ∷ c ∷ s) n e =
     let x : decimalIn (a ∷ b ∷ c ∷ s) ≡ decimal.Malformed =
     rw (ne-eqb (length (a ∷ b ∷ c ∷ s)) 1 (λ e. omega arith), ne-eqb (length (a ∷ b ∷ c ∷ s)) 2 (λ e. omega arith)) in
-    absurd (let z : _≡_ {A = ℕ} 0 1 = cc in let y : ⊥ = omega arith in y)
+    impossible cc
 
 -- ---- lines
 

@@ -26,7 +26,7 @@ pub(crate) fn read(args: &[u8]) -> Answer {
         Framed::Whole {
             address,
             command,
-            count: _,
+            end: _,
         } => answer
             .put(address.byte())
             .put(command)

@@ -2,7 +2,6 @@
 use Prim.Native.Nat.{ℕ, _<_, _≤_}
 use mathlib.Core.Bool.{Bool, true, false, cond}
 use mathlib.Core.Path.{_≡_, refl, sym, ap}
-use native.Mathlib.Omega.{arith}
 use borrow.Author.Tests.{ltb-true, ltb-false, le-leb, le-ltb, leb-true}
 use Rattle.wire.specs.Address.{isIndividual, addressOf, byteOf, inRange}
 use Rattle.wire.specs.declared.address.Individual.{Individual}
@@ -10,6 +9,7 @@ use Rattle.wire.specs.declared.address.Group.{Group}
 use Rattle.wire.specs.declared.address.Address.{Address}
 use Rattle.wire.specs.declared.address.Address.the-variants as address
 use Rattle.wire.proofs.Choice.{chose-first, chose-second}
+use Rattle.wire.proofs.Impossible.{impossible}
 
 -- the byte comes back, whichever of the two it names
 byte-back : (t : Bool) (b : ℕ) → byteOf (cond t (address.Individual (record { 0 = b })) (address.Group (record { 0 = b }))) ≡ b
@@ -21,7 +21,7 @@ byte-address b = byte-back (isIndividual b) b
 
 -- no address is both
 pub apart : (i : Individual) (g : Group) → address.Individual i ≡ address.Group g → ⊥
-apart i g e = let z : _≡_ {A = ℕ} 0 1 = cc in omega arith
+apart i g e = impossible cc
 
 -- a byte that names an individual address is that address, below 0x80
 pub individual-is : (b : ℕ) (i : Individual) → addressOf b ≡ address.Individual i → (i .0 ≡ b) × (b < 0x80)

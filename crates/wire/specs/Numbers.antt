@@ -1,7 +1,7 @@
 -- Document 01, "Numbers returned": the only place where a refusal's number stands.
 use Prim.Native.Nat.{ℕ}
 use Rattle.wire.specs.declared.refusal.Refusal.{Refusal}
-use Rattle.wire.specs.declared.refusal.Refusal.the-variants.{Short, Header, Long, Sum, Room, Range, Busy, Idle, NotDue, NoNode, Led, Closed}
+use Rattle.wire.specs.declared.refusal.Refusal.the-variants as refusal
 
 -- "done"
 abbrev pub done : ℕ
@@ -9,19 +9,23 @@ done = 0
 
 -- the refusals of the table
 abbrev pub numberOf : Refusal → ℕ
-numberOf Short = 1
-numberOf Header = 2
-numberOf Long = 3
-numberOf Sum = 4
-numberOf Room = 5
-numberOf Range = 6
-numberOf Busy = 7
-numberOf Idle = 8
-numberOf NotDue = 9
-numberOf NoNode = 10
-numberOf Led = 11
-numberOf Closed = 12
+numberOf refusal.Short = 1
+numberOf refusal.Header = 2
+numberOf refusal.Long = 3
+numberOf refusal.Sum = 4
+numberOf refusal.Room = 5
+numberOf refusal.Range = 6
+numberOf refusal.Busy = 7
+numberOf refusal.Idle = 8
+numberOf refusal.NotDue = 9
+numberOf refusal.NoNode = 10
+numberOf refusal.Led = 11
+numberOf refusal.Closed = 12
 
 -- "several nodes replied (not a refusal)"
 abbrev pub collision : ℕ
 collision = 13
+
+-- "1 to 31 nodes"
+abbrev pub mostNodes : ℕ
+mostNodes = 31

@@ -1,6 +1,7 @@
 // Document 01, "Numbers returned". specs/Numbers.antt has the number of each case.
 ghost use mathlib.Core.Path.{_≡_};
-ghost use Rattle.wire.specs.Numbers.{numberOf};
+ghost use mathlib.Core.List.{[], _∷_};
+ghost use Rattle.wire.specs.Numbers.{done, numberOf, collision};
 
 // Why a call is refused. A refused call changes nothing.
 pub enum Refusal {
@@ -35,6 +36,13 @@ pub const DONE: u8 = 0;
 
 // Several nodes replied: no refusal, the nodes keep their changes.
 pub const COLLISION: u8 = 13;
+
+// Nobody calls it: it holds the two to the paper's table, since no contract can name a constant.
+fn constants() -> [u8; 2]
+    ensures { λ r. ⌜ r ≡ done ∷ collision ∷ [] ⌝ }
+{
+    [DONE, COLLISION]
+}
 
 impl Refusal {
     pub fn number(self) -> u8

@@ -1,4 +1,5 @@
 -- By the test.
+use borrow.Author.Needs.{needs}
 use Rattle.wire.proofs.Tests.{tests}
 use Rattle.ledger.specs.Ledger.{leastOf}
 use Rattle.ledger.proofs.least.Statement.{statement}
@@ -13,4 +14,4 @@ unfolding leastOf
 fewer c = search tests
 
 pub least-spec : {M : Type 1} → statement M
-least-spec = tie.close (tie.spec more fewer)
+least-spec = tie.close (tie.spec (λ c. search needs) more fewer)

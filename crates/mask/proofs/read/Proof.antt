@@ -5,9 +5,9 @@ use Prim.Native.Nat.{ℕ, _-_, _≤_}
 use mathlib.Core.List.{List}
 use mathlib.Core.Path.{_≡_}
 use Rattle.wire.specs.Promise.{Promise}
-use Rattle.status.specs.Status.{statusOf, statusNumber}
+use Rattle.status.specs.Status.{counts, statusOf, statusNumber}
 use Rattle.status.specs.declared.Status.{Status}
-use Rattle.mask.specs.Mask.{counts, countFrom, sizeOf, readUnder}
+use Rattle.mask.specs.Mask.{countFrom, sizeOf, readUnder}
 use Rattle.mask.proofs.read.Statement.{statement}
 use Rattle.mask.proofs.read.Tie as tie
 

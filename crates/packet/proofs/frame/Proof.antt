@@ -20,7 +20,6 @@ frame-spec =
     (λ c. omega (arith, c .shared-slice-known3 .given 2))
     (λ c. omega (arith, c .shared-slice-known3 .given 2))
     (λ c. promised (search tests))
-    (λ c. search needs)
     (λ c. promised (search tests))
     (λ c. search needs)
     (λ c κs. search needs)

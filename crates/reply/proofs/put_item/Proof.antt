@@ -13,7 +13,7 @@ use Rattle.reply.proofs.put_item.Statement.{statement}
 use Rattle.reply.proofs.put_item.Tie as tie
 
 abbrev Inv-loop : tie.InvT-loop
-Inv-loop out₀ at wanted count rest₀ i₀ out rest i =
+Inv-loop out₀ at wanted count value rest₀ i₀ out rest i =
     (wanted ≡ true)
     × (at + count ≤ length out₀)
     × (i ≤ count)
@@ -21,7 +21,7 @@ Inv-loop out₀ at wanted count rest₀ i₀ out rest i =
     × (sets out (at + i) (bytesOf (count - i) rest) ≡ sets out₀ at (bytesOf count rest₀))
 
 abbrev μ-loop : tie.MeasureT-loop
-μ-loop out₀ at wanted count rest₀ i₀ out rest i = count - i
+μ-loop out₀ at wanted count value rest₀ i₀ out rest i = count - i
 
 returns : tie.Need-returns Inv-loop μ-loop
 returns c = left-out _ _ _ _ (not-true (c .before .args .wanted) (c .if1 .taken))
@@ -30,7 +30,7 @@ loop-holds : tie.Need-loop-holds Inv-loop μ-loop
 loop-holds c =
     let a = c .before .args in
     let w = not-false (a .wanted) (c .if1 .left) in
-    (w, asked-room (a .wanted) (a .item .count) (a .item .value) (a .at) _ w (c .before .pre), omega arith, refl, none-yet (a .out .now) (a .at) (a .item .count) (a .item .value))
+    (w, asked-room (a .wanted) (a .count) (a .value) (a .at) _ w (c .before .pre), omega arith, refl, none-yet (a .out .now) (a .at) (a .count) (a .value))
 
 loop-again : tie.Need-loop-again Inv-loop μ-loop
 loop-again c =
@@ -40,14 +40,14 @@ loop-again c =
       l .inv .1,
       omega arith,
       simp length-set (l .inv .3),
-      byte-more (l .out) (a .at) (l .i) (a .item .count) (l .rest) (c .loop-test .taken) ∙ l .inv .4,
+      byte-more (l .out) (a .at) (l .i) (a .count) (l .rest) (c .loop-test .taken) ∙ l .inv .4,
     )
 
 returns-2 : tie.Need-returns-2 Inv-loop μ-loop
 returns-2 c =
     let l = c .before .loop in
     let a = c .before .before .before .args in
-    all-written (a .wanted) (a .out .now) (l .out) (a .at) (l .i) (a .item .count) (a .item .value) (l .rest) (l .inv .0) (omega arith) (omega arith) (l .inv .4)
+    all-written (a .wanted) (a .out .now) (l .out) (a .at) (l .i) (a .count) (a .value) (l .rest) (l .inv .0) (omega arith) (omega arith) (l .inv .3) (l .inv .4)
 
 pub put-item-spec : {M : Type 1} → statement M
 put-item-spec =

@@ -8,6 +8,7 @@ pub is-valid-spec : {M : Type 1} → statement M
 is-valid-spec =
     tie.close
     (tie.spec
+    (λ c. search needs)
     (λ c. search many-invalid)
     (λ c. search past-invalid)
     (λ c κs. search needs)

@@ -10,6 +10,7 @@ look-spec =
     (tie.spec
     (λ c. search look-zero)
     (λ c. search look-past)
+    (λ c. search needs)
     (λ c. search look-none)
     (λ c. search needs)
     (λ c. search needs)

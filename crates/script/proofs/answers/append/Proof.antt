@@ -1,6 +1,6 @@
 -- What `buffer::put` leaves.
 use borrow.Author.Needs.{needs}
-use Rattle.script.proofs.Appends.{put-wrote}
+use Rattle.buffer.proofs.Appends.{put-wrote}
 use Rattle.script.proofs.answers.append.Statement.{statement}
 use Rattle.script.proofs.answers.append.Tie as tie
 

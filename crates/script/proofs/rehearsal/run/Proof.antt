@@ -6,7 +6,7 @@ use native.Mathlib.Omega.{arith}
 use lib.ListN.{length, drop}
 use Rattle.text.specs.Lines.{linesOf}
 use Rattle.script.specs.Bench.{played}
-use Rattle.script.proofs.Appends.{Going, going-start}
+use Rattle.buffer.proofs.Appends.{Going, going-start}
 use Rattle.script.proofs.Playing.{next-line, run-next, run-near, run-long, run-done}
 use Rattle.script.proofs.rehearsal.run.Statement.{statement}
 use Rattle.script.proofs.rehearsal.run.Tie as tie

@@ -1,4 +1,4 @@
--- Parts of the output, written one behind the other.
+-- Parts of a text or packet, written one behind the other: laws of `Wrote`.
 use Prim.Native.Nat.{ℕ, _+_, _≤_}
 use mathlib.Core.Bool.{Bool, true, false}
 use mathlib.Core.List.{List, [], _++_}
@@ -9,9 +9,9 @@ use lib.Dec.{ltb}
 use lib.ListN.{length, length-append}
 use lib.Seq.{sets, sets-eq}
 use borrow.Author.Tests.{le-ltb, ltb-true, ltb-false}
 use Rattle.buffer.specs.Buffer.{putAt}
+use Rattle.buffer.specs.Wrote.{Wrote}
 use Rattle.buffer.proofs.Writing.{put-not, length-put, sets-append}
-use Rattle.script.specs.Wrote.{Wrote}
 
 put-sets : (out : List ℕ) (at : ℕ) (d : List ℕ) → at + length d ≤ length out → putAt out at d ≡ sets out at d
 unfolding putAt

@@ -66,21 +66,23 @@ pub record Invariant (h : Session) (ns : List Node) : Type 0 where
 abbrev pub acts : Address → List Node → ℕ → Bool
 acts to ns i = hearsAt ns i && meant to (at ns i)
 
--- one that answered, and had the command whole
-pub record Answered (line : Address) (ns : List Node) (whole : ℕ → Bool) : Type 0 where
+-- the node of index i replies to this address, and acted on the command
+pub record Answered (line : Address) (ns : List Node) (did : ℕ → Bool) : Type 0 where
   pub index : ℕ
   pub inside : index < length ns
   pub replies : repliesAt line ns index ≡ true
-  pub had : whole index ≡ true
+  pub acted : did index ≡ true
 
--- what the line and the nodes make of a command, from its sending to the report; whole i: it came whole to the node of index i
+-- what the line and the nodes make of a command, from its sending to the report
 pub record Exchanged (line : Address) (c : Command) (ns ms : List Node) (a : Answer) : Type 0 where
-  pub whole : ℕ → Bool
-  -- "A command reaches all nodes alike"
-  pub alike : (i j : ℕ) → whole i ≡ whole j
+  -- the command came whole to the node of index i, which acted on it
+  pub did : ℕ → Bool
+  pub acting : (i : ℕ) → did i ≡ true → acts line ns i ≡ true
+  -- "A command reaches all nodes alike": where one acted on it, all did that act on such a command
+  pub alike : (i j : ℕ) → did i ≡ true → acts line ns j ≡ true → did j ≡ true
   pub long : length ms ≡ length ns
-  pub settings : (i : ℕ) → i < length ns → at ms i .settings ≡ cond (whole i && acts line ns i) (settingsAfter c (at ns i .settings)) (at ns i .settings)
-  pub addressed : (i : ℕ) → i < length ns → at ms i .addressed ≡ cond (whole i && acts line ns i) (addressedAfter c (at ns i .addressed)) (at ns i .addressed)
+  pub settings : (i : ℕ) → i < length ns → at ms i .settings ≡ cond (did i) (settingsAfter c (at ns i .settings)) (at ns i .settings)
+  pub addressed : (i : ℕ) → i < length ns → at ms i .addressed ≡ cond (did i) (addressedAfter c (at ns i .addressed)) (at ns i .addressed)
   -- what the answer tells
-  pub marked : a ≡ Marked → (i : ℕ) → whole i ≡ false
-  pub clear : a ≡ Clear → Answered line ns whole
+  pub marked : a ≡ Marked → (i : ℕ) → did i ≡ false
+  pub clear : a ≡ Clear → Answered line ns did

@@ -1,6 +1,6 @@
 -- One entry against what was sent and heard: a command that counts keeps them together.
 use Prim.Native.Nat.{ℕ}
-use mathlib.Core.Bool.{Bool, true, false, cond, not, _&&_, _||_, true≢false}
+use mathlib.Core.Bool.{Bool, true, false, cond, not, _&&_, _||_, and-false, true≢false}
 use mathlib.Core.List.{List, _∷_}
 use mathlib.Core.Path.{_≡_, refl, _∙_}
 use lib.Dec.{eqb}
@@ -20,7 +20,6 @@ use Rattle.entry.specs.Entry.{knows, shows, noted, notedFlag, notedValue}
 use Rattle.entry.proofs.Entries.{knows-noted, shows-noted}
 use Rattle.ledger.specs.Ledger.{reachOf}
 use Rattle.line.specs.History.{Counted, toGroup, placeIn, lastPlace, copied, goes, inDoubt}
-use Rattle.line.proofs.Bools.{and-false}
 
 -- the entry of node k says what the history says
 pub record Exact (e : Entry) (past : List Counted) (k : ℕ) : Type 0 where

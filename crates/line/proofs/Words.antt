@@ -1,13 +1,12 @@
 -- The two ways to say that a setting is in doubt, computed and in the demand's words, are the same.
 use Prim.Native.Nat.{ℕ}
-use mathlib.Core.Bool.{Bool, true, false, not, _&&_, _||_, false≢true}
+use mathlib.Core.Bool.{Bool, true, false, not, _&&_, _||_, or-true, false≢true}
 use mathlib.Core.List.{List, [], _∷_}
 use mathlib.Core.Logic.{_⊎_, inl, inr, _↔_}
 use mathlib.Core.Path.{_≡_, refl}
 use Rattle.node.specs.Setting.{Setting, place}
 use Rattle.node.specs.Effect.{effect}
 use Rattle.line.specs.History.{Counted, toGroup, copied, inDoubt, could, Last, this, older, Doubtful}
-use Rattle.line.proofs.Bools.{or-true}
 
 -- one of the three reasons
 one-of : (c g d h : Bool) → (not c || (g && d) || h) ≡ true → (c ≡ false) ⊎ ((g ≡ true) × (d ≡ true)) ⊎ (h ≡ true)

@@ -123,7 +123,7 @@ arrives h ns past what p g q r a b =
       exchange = exchanged (o .line) (o .command) ns (o .range) (o .fits) (o .typed) (no-clash (o .before) ns (o .inv)) (rw (g .packet) at a) b;
     }
 
-pub settles-again : (h : Session) (ns : List Node) (past : List Sent) (what : Sending) (r : Option (List ℕ)) → Coming h ns past what r
+settles-again : (h : Session) (ns : List Node) (past : List Sent) (what : Sending) (r : Option (List ℕ)) → Coming h ns past what r
     → Settled (reportedOf h r .session) ns (record { what = what; heard = heardIn r } ∷ past)
 settles-again h ns past what r c =
     let o = c .opened in

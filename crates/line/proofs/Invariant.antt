@@ -40,9 +40,23 @@ Unplaced x addressed = (addressed ≡ false) × (x .place .address .0 ≡ 0)
 abbrev pub Edge : Entry → Settings → Bool → ℕ → Type 0
 Edge e x addressed k = Unplaced x addressed ⊎ ((knows e place ≡ false) × (x .place ≡ givenPlace k) × (addressed ≡ true))
 
+-- the same of the node of index i
+abbrev pub PlacedAt : List Node → ℕ → Type 0
+PlacedAt ns i = Placed (suc i) (at ns i .settings) (at ns i .addressed)
+
+abbrev pub UnplacedAt : List Node → ℕ → Type 0
+UnplacedAt ns i = Unplaced (at ns i .settings) (at ns i .addressed)
+
+abbrev pub EdgeAt : Entry → List Node → ℕ → Type 0
+EdgeAt e ns i = Edge e (at ns i .settings) (at ns i .addressed) (i + 1)
+
 -- it really leads group g
 abbrev pub leads : ℕ → Settings → Bool
 leads g x = x .place .leader && eqb g (x .place .group .0)
+
+-- of the first n nodes at most one leads a group
+abbrev pub Alone : ℕ → List Node → Type 0
+Alone n ns = (g i j : ℕ) → i < n → j < n → leads g (at ns i .settings) ≡ true → leads g (at ns j .settings) ≡ true → i ≡ j
 
 pub record Invariant (h : Session) (ns : List Node) : Type 0 where
   pub begun : h .started ≡ true
@@ -54,11 +68,10 @@ pub record Invariant (h : Session) (ns : List Node) : Type 0 where
   -- what is known is held
   pub held : (i : ℕ) → i < h .n → Sound (entryAt h i) (at ns i .settings)
   -- where the walk is
-  pub front : (i : ℕ) → i < h .walk → Placed (suc i) (at ns i .settings) (at ns i .addressed)
-  pub back : (i : ℕ) → h .walk < i → i < h .n → Unplaced (at ns i .settings) (at ns i .addressed)
-  pub edge : h .walk < h .n → Edge (entryAt h (h .walk)) (at ns (h .walk) .settings) (at ns (h .walk) .addressed) (h .walk + 1)
-  -- at most one node leads a group
-  pub alone : (g i j : ℕ) → i < h .n → j < h .n → leads g (at ns i .settings) ≡ true → leads g (at ns j .settings) ≡ true → i ≡ j
+  pub front : (i : ℕ) → i < h .walk → PlacedAt ns i
+  pub back : (i : ℕ) → h .walk < i → i < h .n → UnplacedAt ns i
+  pub edge : h .walk < h .n → EdgeAt (entryAt h (h .walk)) ns (h .walk)
+  pub alone : Alone (h .n) ns
   -- every place is of its range
   pub fit : (i : ℕ) → i < h .n → placeFits (at ns i .settings .place) ≡ true
 

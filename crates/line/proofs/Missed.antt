@@ -35,7 +35,7 @@ use Rattle.line.specs.Missed.{Left, OnlyPowerUp}
 use Rattle.line.proofs.Due.{Due, next, ask, order, regroup, accepted}
 use Rattle.line.proofs.Closing.{waitingAt, entryAt, due-opens, reported-concludes}
 use Rattle.line.proofs.Returning.{marked-returns, quiet-returns}
-use Rattle.line.proofs.Invariant.{at, Edge, Invariant, Answered, Exchanged}
+use Rattle.line.proofs.Invariant.{at, EdgeAt, Invariant, Answered, Exchanged}
 use Rattle.line.proofs.Peace.{no-clash}
 use Rattle.line.proofs.Walk.{nobody}
 use Rattle.line.proofs.Delivery.{exchanged}
@@ -46,11 +46,11 @@ module _ (h : Session) (ns : List Node) (inv : Invariant h ns) (l : h .walk < h 
   unanswered : {did : ℕ → Bool} → Answered (nodeAt (h .walk + 1)) ns did → ⊥
   unanswered o = go (inv .edge l)
     where
-      go : Edge (entryAt h (h .walk)) (at ns (h .walk) .settings) (at ns (h .walk) .addressed) (h .walk + 1) → ⊥
+      go : EdgeAt (entryAt h (h .walk)) ns (h .walk) → ⊥
       go (inl p) = nobody h ns inv l p o
       go (inr p) = true≢false (sym (p .2) ∙ u)
 
-  pub stays-out : {ms : List Node} {a : Answer} → Exchanged (nodeAt (h .walk + 1)) Nop ns ms a → (a ≡ Clear → ⊥) × Left (at ns (h .walk)) (at ms (h .walk))
+  stays-out : {ms : List Node} {a : Answer} → Exchanged (nodeAt (h .walk + 1)) Nop ns ms a → (a ≡ Clear → ⊥) × Left (at ns (h .walk)) (at ms (h .walk))
   stays-out x =
       let b : Bool = x .did (h .walk) in
       let m : h .walk < length ns = omega (arith, inv .long) in (

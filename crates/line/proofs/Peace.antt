@@ -1,5 +1,5 @@
 -- No two nodes reply at once.
-use Prim.Native.Nat.{ℕ, zero, suc, _+_, _≤_, _<_}
+use Prim.Native.Nat.{ℕ, zero, suc, _≤_, _<_}
 use mathlib.Core.Bool.{Bool, true, false, _||_, false≢true}
 use mathlib.Core.List.{List}
 use mathlib.Core.Logic.{_⊎_, inl, inr}
@@ -17,24 +17,24 @@ use Rattle.chain.specs.Chain.{clash, said, hearsAt, repliesAt}
 use Rattle.chain.proofs.Clashes.{clash-two}
 use Rattle.session.specs.declared.Session.{Session}
 use Rattle.line.proofs.Closing.{entryAt}
-use Rattle.line.proofs.Invariant.{at, Unplaced, Edge, Invariant}
+use Rattle.line.proofs.Invariant.{at, UnplacedAt, EdgeAt, Invariant}
 
 -- a node of its own address, or one at 0x00 that the walk has not come to
-abbrev pub Own : Session → List Node → ℕ → Type 0
+abbrev Own : Session → List Node → ℕ → Type 0
 Own h ns i = (at ns i .settings .place .address .0 ≡ suc i) ⊎ ((at ns i .settings .place .address .0 ≡ 0) × (at ns i .addressed ≡ false) × (h .walk ≤ i))
 
 module _ (h : Session) (ns : List Node) (inv : Invariant h ns) where
-  unplaced : (i : ℕ) → h .walk ≤ i → Unplaced (at ns i .settings) (at ns i .addressed) → Own h ns i
+  unplaced : (i : ℕ) → h .walk ≤ i → UnplacedAt ns i → Own h ns i
   unplaced i l u = inr (u .1, u .0, l)
 
   edge-own : (i : ℕ) → h .walk ≡ i → i < h .n → Own h ns i
   edge-own i e l = subst (Own h ns) e (go (inv .edge (omega arith)))
     where
-      go : Edge (entryAt h (h .walk)) (at ns (h .walk) .settings) (at ns (h .walk) .addressed) (h .walk + 1) → Own h ns (h .walk)
+      go : EdgeAt (entryAt h (h .walk)) ns (h .walk) → Own h ns (h .walk)
       go (inl u) = unplaced (h .walk) (omega arith) u
       go (inr p) = inl (ap (λ q. q .address .0) (p .1) ∙ omega arith)
 
-  pub own : (i : ℕ) → i < h .n → (b c : Bool) → ltb i (h .walk) ≡ b → eqb (h .walk) i ≡ c → Own h ns i
+  own : (i : ℕ) → i < h .n → (b c : Bool) → ltb i (h .walk) ≡ b → eqb (h .walk) i ≡ c → Own h ns i
   own i l true c e f = inl (inv .front i (ltb-true i (h .walk) e) .1)
   own i l false true e f = edge-own i (eqb-true (h .walk) i f) l
   own i l false false e f =
@@ -61,7 +61,7 @@ module _ (h : Session) (ns : List Node) (inv : Invariant h ns) where
   only-address a i j l m (inr p) (inr q) e f x y false false g k = omega (arith, ltb-false i j g, ltb-false j i k)
 
   -- at most one node replies to an address
-  pub one-replies : (to : Address) (i j : ℕ) → i < h .n → j < h .n → repliesAt to ns i ≡ true → repliesAt to ns j ≡ true → i ≡ j
+  one-replies : (to : Address) (i j : ℕ) → i < h .n → j < h .n → repliesAt to ns i ≡ true → repliesAt to ns j ≡ true → i ≡ j
   one-replies (address.Individual a) i j l m p q =
       let x = both (hearsAt ns i) (answers (address.Individual a) (at ns i)) p in
       let y = both (hearsAt ns j) (answers (address.Individual a) (at ns j)) q in

@@ -31,7 +31,7 @@ use Rattle.ledger.proofs.Ledgers.{free-says}
 use Rattle.session.specs.declared.Session.{Session}
 use Rattle.line.proofs.Closing.{entryAt, Concluded}
 use Rattle.line.proofs.Sound.{Fits, fits-test, hits-test}
-use Rattle.line.proofs.Invariant.{at, Placed, leads, Invariant, acts, Answered, Exchanged}
+use Rattle.line.proofs.Invariant.{at, Placed, PlacedAt, leads, Alone, Invariant, acts, Answered, Exchanged}
 use Rattle.line.proofs.Step.{held-step, shrinks, stepped}
 
 hears-addressed : (ns : List Node) (i : ℕ) → at ns i .addressed ≡ true → hearsAt ns i ≡ true
@@ -56,7 +56,7 @@ module _ (h : Session) (ns : List Node) (inv : Invariant h ns) (ended : h .walk 
   fits-group g i l b f true k = rw (inv .held i l place k) (fits-test _ b (λ e. eq-eqb _ (g .0) (acts-group g i (f e))))
   fits-group g i l b f false k = tt
 
-  pub fits-ready : (to : Address) (i : ℕ) → i < h .n → (b : Bool) → (b ≡ true → acts to ns i ≡ true) → Fits (reachOf to (suc i) (entryAt h i)) b
+  fits-ready : (to : Address) (i : ℕ) → i < h .n → (b : Bool) → (b ≡ true → acts to ns i ≡ true) → Fits (reachOf to (suc i) (entryAt h i)) b
   fits-ready (address.Individual j) i l b f = fits-test (eqb (j .0) (suc i)) b (λ e. eq-eqb (j .0) (suc i) (acts-node j i l (f e)))
   fits-ready (address.Group g) i l b f = fits-group g i l b f (knows (entryAt h i) place) refl
 
@@ -77,7 +77,7 @@ module _ (h : Session) (ns : List Node) (inv : Invariant h ns) (ended : h .walk 
   reached (address.Group g) x o i l r = x .alike (o .index) i (o .acted) (member-acts g i l r)
 
   module _ (ms : List Node) (t : Session) (to : Address) (c : Command) (a : Answer) (x : Exchanged to c ns ms a) (k : Concluded h a to c (h .walk) t) where
-    placed-if : (i : ℕ) (b : Bool) → Placed (suc i) (at ns i .settings) (at ns i .addressed)
+    placed-if : (i : ℕ) (b : Bool) → PlacedAt ns i
         → (b ≡ true → Placed (suc i) (settingsAfter c (at ns i .settings)) (addressedAfter c (at ns i .addressed)))
         → Placed (suc i) (cond b (settingsAfter c (at ns i .settings)) (at ns i .settings)) (cond b (addressedAfter c (at ns i .addressed)) (at ns i .addressed))
     placed-if i true p q = q refl
@@ -86,7 +86,7 @@ module _ (h : Session) (ns : List Node) (inv : Invariant h ns) (ended : h .walk 
     -- if every node that acts keeps its number
     ready-step : fitsOf c ≡ true
         → ((i : ℕ) → i < h .n → acts to ns i ≡ true → Placed (suc i) (settingsAfter c (at ns i .settings)) (addressedAfter c (at ns i .addressed)))
-        → ((g i j : ℕ) → i < h .n → j < h .n → leads g (at ms i .settings) ≡ true → leads g (at ms j .settings) ≡ true → i ≡ j)
+        → Alone (h .n) ms
         → Invariant t ms
     ready-step fits numbers alone =
         stepped h ns ms inv to c a x t to c (h .walk) k fits (inv .walked)

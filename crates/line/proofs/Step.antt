@@ -1,5 +1,5 @@
 -- One exchange, for every kind of command: what the invariant asks of it, node by node.
-use Prim.Native.Nat.{ℕ, suc, _+_, _≤_, _<_}
+use Prim.Native.Nat.{ℕ, suc, _≤_, _<_}
 use mathlib.Core.Bool.{Bool, true, false, cond}
 use mathlib.Core.List.{List}
 use mathlib.Core.Path.{_≡_, refl, sym, _∙_}
@@ -19,7 +19,7 @@ use Rattle.ledger.specs.Ledger.{reachOf}
 use Rattle.session.specs.declared.Session.{Session}
 use Rattle.line.proofs.Closing.{entryAt, Concluded}
 use Rattle.line.proofs.Sound.{Sound, Fits, told, noted-sound}
-use Rattle.line.proofs.Invariant.{at, Placed, Unplaced, Edge, leads, Invariant, Exchanged}
+use Rattle.line.proofs.Invariant.{at, PlacedAt, UnplacedAt, EdgeAt, leads, Alone, Invariant, Exchanged}
 
 -- a command whose values are of their range leaves every place of its range
 fit-after : (c : Command) → fitsOf c ≡ true → (x : Settings) → placeFits (x .place) ≡ true → placeFits (settingsAfter c x .place) ≡ true
@@ -53,7 +53,7 @@ module _ (h : Session) (ns ms : List Node) (inv : Invariant h ns) (line : Addres
 
   -- no node has come to lead a group
   pub shrinks : ((g i : ℕ) → leads g (settingsAfter c (at ns i .settings)) ≡ true → leads g (at ns i .settings) ≡ true)
-      → (g i j : ℕ) → i < h .n → j < h .n → leads g (at ms i .settings) ≡ true → leads g (at ms j .settings) ≡ true → i ≡ j
+      → Alone (h .n) ms
   shrinks s g i j l m p q = inv .alone g i j l m (led i l p) (led j m q)
     where
       led-if : (i : ℕ) (b : Bool) → leads g (cond b (settingsAfter c (at ns i .settings)) (at ns i .settings)) ≡ true → leads g (at ns i .settings) ≡ true
@@ -67,10 +67,10 @@ module _ (h : Session) (ns ms : List Node) (inv : Invariant h ns) (line : Addres
   module _ (t : Session) (to : Address) (m : Command) (w : ℕ) (k : Concluded h a to m w t) where
     pub stepped : fitsOf c ≡ true → w ≤ h .n
         → ((i : ℕ) → i < h .n → Sound (noted a (reachOf to (suc i) (entryAt h i)) m (entryAt h i)) (at ms i .settings))
-        → ((i : ℕ) → i < w → Placed (suc i) (at ms i .settings) (at ms i .addressed))
-        → ((i : ℕ) → w < i → i < h .n → Unplaced (at ms i .settings) (at ms i .addressed))
-        → (w < h .n → Edge (noted a (reachOf to (suc w) (entryAt h w)) m (entryAt h w)) (at ms w .settings) (at ms w .addressed) (w + 1))
-        → ((g i j : ℕ) → i < h .n → j < h .n → leads g (at ms i .settings) ≡ true → leads g (at ms j .settings) ≡ true → i ≡ j)
+        → ((i : ℕ) → i < w → PlacedAt ms i)
+        → ((i : ℕ) → w < i → i < h .n → UnplacedAt ms i)
+        → (w < h .n → EdgeAt (noted a (reachOf to (suc w) (entryAt h w)) m (entryAt h w)) ms w)
+        → Alone (h .n) ms
         → Invariant t ms
     stepped fits walked held front back edge alone =
         let n = k .nodes in

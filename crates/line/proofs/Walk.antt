@@ -32,7 +32,7 @@ use Rattle.session.specs.Session.{nodeAt}
 use Rattle.line.specs.History.{gives, asks}
 use Rattle.line.proofs.Closing.{entryAt, walked, settles, Concluded}
 use Rattle.line.proofs.Sound.{Sound, told, fits-test, hits-test, noted-sound}
-use Rattle.line.proofs.Invariant.{at, Placed, Unplaced, Edge, leads, Invariant, acts, Answered, Exchanged}
+use Rattle.line.proofs.Invariant.{at, PlacedAt, Unplaced, UnplacedAt, Edge, EdgeAt, Alone, Invariant, acts, Answered, Exchanged}
 use Rattle.line.proofs.Step.{held-step, shrinks, stepped}
 
 -- what "next" sends
@@ -56,8 +56,8 @@ module _ (h t : Session) (ns ms : List Node) (inv : Invariant h ns) (line to : A
       (λ g i j l m p q. inv .alone g i j l m (rw (settings i l) at p) (rw (settings j m) at q))
 
 -- the walk is at a node that it has not come to
-module _ (h : Session) (ns : List Node) (inv : Invariant h ns) (l : h .walk < h .n) (u : Unplaced (at ns (h .walk) .settings) (at ns (h .walk) .addressed)) where
-  unplaced : (i : ℕ) → h .walk ≤ i → i < h .n → (b : Bool) → eqb (h .walk) i ≡ b → Unplaced (at ns i .settings) (at ns i .addressed)
+module _ (h : Session) (ns : List Node) (inv : Invariant h ns) (l : h .walk < h .n) (u : UnplacedAt ns (h .walk)) where
+  unplaced : (i : ℕ) → h .walk ≤ i → i < h .n → (b : Bool) → eqb (h .walk) i ≡ b → UnplacedAt ns i
   unplaced i m p true e = rw (eqb-true (h .walk) i e) at u
   unplaced i m p false e = let d = eqb-false (h .walk) i e in inv .back i (omega arith) p
 
@@ -111,7 +111,7 @@ module _ (h : Session) (ns : List Node) (inv : Invariant h ns) (l : h .walk < h 
     did-walk e = let o = x .clear e in ap (x .did) (at-walk (o .index) (omega (arith, o .inside, inv .long)) (o .acted)) ∙ o .acted
 
     -- nobody comes to lead
-    alone-next : (g i j : ℕ) → i < h .n → j < h .n → leads g (at ms i .settings) ≡ true → leads g (at ms j .settings) ≡ true → i ≡ j
+    alone-next : Alone (h .n) ms
     alone-next = shrinks h ns ms inv (nodeAt 0) (given h) a x (λ g i e. absurd (false≢true e))
 
     held-next : (i : ℕ) → i < h .n → Sound (noted a (reachOf (nodeAt (h .walk + 1)) (suc i) (entryAt h i)) (given h) (entryAt h i)) (at ms i .settings)
@@ -121,9 +121,9 @@ module _ (h : Session) (ns : List Node) (inv : Invariant h ns) (l : h .walk < h 
         (λ e r. let j : i ≡ h .walk = omega (arith, eqb-true (h .walk + 1) (suc i) (hits-test (eqb (h .walk + 1) (suc i)) r)) in ap (x .did) j ∙ did-walk e)
 
     -- confirmed: it has its address
-    front-next : a ≡ Clear → (i : ℕ) → i < h .walk + 1 → (b : Bool) → eqb (h .walk) i ≡ b → Placed (suc i) (at ms i .settings) (at ms i .addressed)
+    front-next : a ≡ Clear → (i : ℕ) → i < h .walk + 1 → (b : Bool) → eqb (h .walk) i ≡ b → PlacedAt ms i
     front-next e i p true f =
-        subst (λ (j : ℕ). Placed (suc j) (at ms j .settings) (at ms j .addressed)) (eqb-true (h .walk) i f)
+        subst (λ (j : ℕ). PlacedAt ms j) (eqb-true (h .walk) i f)
         (rw (settings-walk true (did-walk e), addressed-walk true (did-walk e)) (refl, omega arith))
     front-next e i p false f =
         let d = eqb-false (h .walk) i f in
@@ -143,7 +143,7 @@ module _ (h : Session) (ns : List Node) (inv : Invariant h ns) (l : h .walk < h 
         (λ i p. rw (x .settings i (omega (arith, inv .long)), x .marked e i) refl) (λ i p. rw (x .addressed i (omega (arith, inv .long)), x .marked e i) refl) fits
 
     -- unconfirmed: it may have it, and the host is in doubt
-    edge-if : (b : Bool) → x .did (h .walk) ≡ b → Edge (doubted (given h) (entryAt h (h .walk))) (at ms (h .walk) .settings) (at ms (h .walk) .addressed) (h .walk + 1)
+    edge-if : (b : Bool) → x .did (h .walk) ≡ b → EdgeAt (doubted (given h) (entryAt h (h .walk))) ms (h .walk)
     edge-if true e = inr (refl, ap (λ (z : Settings). z .place) (settings-walk true e), addressed-walk true e)
     edge-if false e = inl (rw (settings-walk false e, addressed-walk false e) u)
 
@@ -165,7 +165,7 @@ pub next-step : (h t : Session) (ns ms : List Node) (inv : Invariant h ns) → (
     → Concluded h a (nodeAt (h .walk + 1)) (given h) (walked (gives (h .walk + 1)) a (h .walk)) t → Invariant t ms
 next-step h t ns ms inv l known a x fits k = go a x k
   where
-    u : Unplaced (at ns (h .walk) .settings) (at ns (h .walk) .addressed)
+    u : UnplacedAt ns (h .walk)
     u = not-come (entryAt h (h .walk)) (at ns (h .walk) .settings) (at ns (h .walk) .addressed) (h .walk + 1) (inv .edge l) known
 
     go : (a : Answer) → Exchanged (nodeAt 0) (given h) ns ms a
@@ -176,12 +176,12 @@ next-step h t ns ms inv l known a x fits k = go a x k
 
 -- ---- "ask"
 
--- a node that has a place already
+-- a node that has a place already is given it again: nothing changes
 again : (x : Settings) (p : Place) → x .place ≡ p → settingsAfter (SetAddress p) x ≡ x
-again x p e i = record { place = sym e i; mask = x .mask; outputs = x .outputs; pwm = x .pwm; held = x .held; timer = x .timer }
+again x p e = ap (λ (q : Place). settingsAfter (SetAddress q) x) (sym e)
 
 -- before the node that the walk is at has its new address nobody has it, and so nobody answers
-pub nobody : (h : Session) (ns : List Node) (inv : Invariant h ns) → h .walk < h .n → Unplaced (at ns (h .walk) .settings) (at ns (h .walk) .addressed)
+pub nobody : (h : Session) (ns : List Node) (inv : Invariant h ns) → h .walk < h .n → UnplacedAt ns (h .walk)
     → {did : ℕ → Bool} → Answered (nodeAt (h .walk + 1)) ns did → ⊥
 nobody h ns inv l u o = go (ltb (o .index) (h .walk)) refl
   where
@@ -202,7 +202,7 @@ module _ (h t : Session) (ns ms : List Node) (inv : Invariant h ns) (l : h .walk
   addressed-ask : (i : ℕ) → i < h .n → at ms i .addressed ≡ at ns i .addressed
   addressed-ask i p = x .addressed i (omega (arith, inv .long)) ∙ same (x .did i) (at ns i .addressed)
 
-  found : a ≡ Clear → Edge (entryAt h (h .walk)) (at ns (h .walk) .settings) (at ns (h .walk) .addressed) (h .walk + 1)
+  found : a ≡ Clear → EdgeAt (entryAt h (h .walk)) ns (h .walk)
       → (at ns (h .walk) .settings .place ≡ givenPlace (h .walk + 1)) × (at ns (h .walk) .addressed ≡ true)
   found e (inl u) = absurd (nobody h ns inv l u (x .clear e))
   found e (inr p) = (p .1, p .2)
@@ -222,13 +222,13 @@ module _ (h t : Session) (ns ms : List Node) (inv : Invariant h ns) (l : h .walk
         (noted-sound Clear (cond b Hits Misses) (given h) (entryAt h i) (at ns i .settings) b (told Clear (cond b Hits Misses) b (λ e. absurd (true≢false (cc e))) (λ e. hits-test b))
         (fits-test b b (λ e. e)) (inv .held i p))
 
-    front-found : (i : ℕ) → i < h .walk + 1 → (b : Bool) → eqb (h .walk) i ≡ b → Placed (suc i) (at ns i .settings) (at ns i .addressed)
+    front-found : (i : ℕ) → i < h .walk + 1 → (b : Bool) → eqb (h .walk) i ≡ b → PlacedAt ns i
     front-found i p true e =
         let q : h .walk ≡ i = eqb-true (h .walk) i e in
-        subst (λ (j : ℕ). Placed (suc j) (at ns j .settings) (at ns j .addressed)) q (f .1, ap (λ (z : Place). z .address .0) (f .0) ∙ omega arith)
+        subst (λ (j : ℕ). PlacedAt ns j) q (f .1, ap (λ (z : Place). z .address .0) (f .0) ∙ omega arith)
     front-found i p false e = let d = eqb-false (h .walk) i e in inv .front i (omega arith)
 
-    alone-ask : (g i j : ℕ) → i < h .n → j < h .n → leads g (at ms i .settings) ≡ true → leads g (at ms j .settings) ≡ true → i ≡ j
+    alone-ask : Alone (h .n) ms
     alone-ask g i j p q e d = inv .alone g i j p q (rw (settings-ask i p) at e) (rw (settings-ask j q) at d)
 
     ask-clear : a ≡ Clear → Concluded h a (nodeAt (h .walk + 1)) (given h) (h .walk + 1) t → Invariant t ms

@@ -3,7 +3,7 @@ use Prim.Native.Nat.{ℕ, suc, _+_, _≤_, _<_}
 use mathlib.Core.Bool.{Bool, true, false, cond, _&&_}
 use mathlib.Core.List.{List}
 use mathlib.Core.Logic.{_⊎_}
-use mathlib.Core.Path.{_≡_}
+use mathlib.Core.Path.{_≡_, refl}
 use lib.Dec.{eqb}
 use lib.ListN.{length, getD}
 use Rattle.wire.specs.declared.address.Address.{Address}
@@ -78,6 +78,10 @@ pub record Invariant (h : Session) (ns : List Node) : Type 0 where
 -- the node of index i acts on a command to this address, if it comes to it whole
 abbrev pub acts : Address → List Node → ℕ → Bool
 acts to ns i = hearsAt ns i && meant to (at ns i)
+
+-- of two neighbours that are not addressed the second doesn't hear
+pub deaf : (ns : List Node) (i : ℕ) → at ns i .addressed ≡ false → at ns (suc i) .addressed ≡ false → hearsAt ns (suc i) ≡ false
+deaf ns i u v = rw (u, v) refl
 
 -- the node of index i replies to this address, and acted on the command
 pub record Answered (line : Address) (ns : List Node) (did : ℕ → Bool) : Type 0 where

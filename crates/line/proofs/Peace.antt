@@ -1,6 +1,6 @@
 -- No two nodes reply at once.
 use Prim.Native.Nat.{ℕ, zero, suc, _≤_, _<_}
-use mathlib.Core.Bool.{Bool, true, false, _||_, false≢true}
+use mathlib.Core.Bool.{Bool, true, false, false≢true}
 use mathlib.Core.List.{List}
 use mathlib.Core.Logic.{_⊎_, inl, inr}
 use mathlib.Core.Path.{_≡_, refl, sym, ap, subst, _∙_}
@@ -17,7 +17,7 @@ use Rattle.chain.specs.Chain.{clash, said, hearsAt, repliesAt}
 use Rattle.chain.proofs.Clashes.{clash-two}
 use Rattle.session.specs.declared.Session.{Session}
 use Rattle.line.proofs.Closing.{entryAt}
-use Rattle.line.proofs.Invariant.{at, UnplacedAt, EdgeAt, Invariant}
+use Rattle.line.proofs.Invariant.{at, UnplacedAt, EdgeAt, Invariant, deaf}
 
 -- a node of its own address, or one at 0x00 that the walk has not come to
 abbrev Own : Session → List Node → ℕ → Type 0
@@ -43,21 +43,21 @@ module _ (h : Session) (ns : List Node) (inv : Invariant h ns) where
       unplaced i m (inv .back i (omega arith) l)
 
   -- of two nodes at 0x00 the later doesn't hear
-  deaf : (i j : ℕ) → i < j → j < h .n → h .walk ≤ i → at ns i .addressed ≡ false → at ns j .addressed ≡ false → hearsAt ns j ≡ true → ⊥
-  deaf i zero l m w u v e = omega arith
-  deaf i (suc j) l m w u v e = false≢true (sym (near (eqb i j) refl) ∙ (rw v at e))
+  later : (i j : ℕ) → i < j → j < h .n → h .walk ≤ i → at ns i .addressed ≡ false → at ns j .addressed ≡ false → hearsAt ns j ≡ true → ⊥
+  later i zero l m w u v e = omega arith
+  later i (suc j) l m w u v e = false≢true (sym (deaf ns j (near (eqb i j) refl) v) ∙ e)
     where
-      near : (b : Bool) → eqb i j ≡ b → (at ns j .addressed || false) ≡ false
-      near true f = rw (← (eqb-true i j f), u) refl
-      near false f = let d = eqb-false i j f in rw (inv .back j (omega arith) (omega arith) .0) refl
+      near : (b : Bool) → eqb i j ≡ b → at ns j .addressed ≡ false
+      near true f = rw (← (eqb-true i j f)) u
+      near false f = let d = eqb-false i j f in inv .back j (omega arith) (omega arith) .0
 
   only-address : (a i j : ℕ) → i < h .n → j < h .n → Own h ns i → Own h ns j → a ≡ at ns i .settings .place .address .0 → a ≡ at ns j .settings .place .address .0
       → hearsAt ns i ≡ true → hearsAt ns j ≡ true → (b c : Bool) → ltb i j ≡ b → ltb j i ≡ c → i ≡ j
   only-address a i j l m (inl p) (inl q) e f x y b c g k = omega arith
   only-address a i j l m (inl p) (inr q) e f x y b c g k = absurd (omega (arith, q .0))
   only-address a i j l m (inr p) (inl q) e f x y b c g k = absurd (omega (arith, p .0))
-  only-address a i j l m (inr p) (inr q) e f x y true c g k = absurd (deaf i j (ltb-true i j g) m (p .2) (p .1) (q .1) y)
-  only-address a i j l m (inr p) (inr q) e f x y false true g k = absurd (deaf j i (ltb-true j i k) l (q .2) (q .1) (p .1) x)
+  only-address a i j l m (inr p) (inr q) e f x y true c g k = absurd (later i j (ltb-true i j g) m (p .2) (p .1) (q .1) y)
+  only-address a i j l m (inr p) (inr q) e f x y false true g k = absurd (later j i (ltb-true j i k) l (q .2) (q .1) (p .1) x)
   only-address a i j l m (inr p) (inr q) e f x y false false g k = omega (arith, ltb-false i j g, ltb-false j i k)
 
   -- at most one node replies to an address

@@ -32,7 +32,7 @@ use Rattle.session.specs.Session.{nodeAt}
 use Rattle.line.specs.History.{gives, asks}
 use Rattle.line.proofs.Closing.{entryAt, walked, settles, Concluded}
 use Rattle.line.proofs.Sound.{Sound, told, fits-test, hits-test, noted-sound}
-use Rattle.line.proofs.Invariant.{at, PlacedAt, Unplaced, UnplacedAt, Edge, EdgeAt, Alone, Invariant, acts, Answered, Exchanged}
+use Rattle.line.proofs.Invariant.{at, PlacedAt, Unplaced, UnplacedAt, Edge, EdgeAt, Alone, Invariant, acts, deaf, Answered, Exchanged}
 use Rattle.line.proofs.Step.{held-step, shrinks, stepped}
 
 -- what "next" sends
@@ -65,7 +65,7 @@ module _ (h : Session) (ns : List Node) (inv : Invariant h ns) (l : h .walk < h 
   last : (i : ℕ) → h .walk < i → i < h .n → hearsAt ns i ≡ false
   last zero m p = absurd (omega arith)
   last (suc j) m p =
-      rw (unplaced j (omega arith) (omega arith) (eqb (h .walk) j) refl .0, unplaced (suc j) (omega arith) p (eqb (h .walk) (suc j)) refl .0) refl
+      deaf ns j (unplaced j (omega arith) (omega arith) (eqb (h .walk) j) refl .0) (unplaced (suc j) (omega arith) p (eqb (h .walk) (suc j)) refl .0)
 
   -- so nobody else acts on "next": those before it have their addresses
   only : (i : ℕ) → i < h .n → acts (nodeAt 0) ns i ≡ true → h .walk ≡ i

@@ -36,7 +36,8 @@ ordinary-fits SynchInput h = refl
 ordinary-fits Nop h = refl
 ordinary-fits HardReset h = refl
 
-to-fits : (n : ℕ) (to : Address) → n ≤ 31 → badGroup to ≡ false → offChain n to ≡ false → inRange to ≡ true
+-- what an order may go to is of its range
+pub to-fits : (n : ℕ) (to : Address) → n ≤ 31 → badGroup to ≡ false → offChain n to ≡ false → inRange to ≡ true
 to-fits n (address.Individual i) f p q = node-fits n (i .0) f (on-chain n i q .high)
 to-fits n (address.Group g) f p q = not-false (isGroup (g .0)) p
 

@@ -47,7 +47,8 @@ module _ (ns : List Node) (j : ℕ) (b : Bench) where
 
 pub benched-exchange : {line : Address} {c : Command} {ls ns ms : List Node} {a : Answer} → Benched ns ms → Exchanged line c ls ns a → Exchanged line c ls ms a
 benched-exchange b x = record {
-  whole = x .whole;
+  did = x .did;
+  acting = x .acting;
   alike = x .alike;
   long = b .long ∙ x .long;
   settings = λ i l. b .settings i (omega (arith, x .long)) ∙ x .settings i l;

@@ -1,10 +1,9 @@
 -- What holds all along any course of events, from power-up to the next Hard Reset.
 use Prim.Native.Nat.{ℕ}
-use mathlib.Core.Bool.{Bool, true, false, cond, false≢true}
+use mathlib.Core.Bool.{Bool, true, false, cond, true≢false, false≢true}
 use mathlib.Core.List.{List, _∷_}
 use mathlib.Core.Option.{Option, none, some}
 use mathlib.Core.Path.{_≡_, refl, sym, ap, subst, _∙_}
-use native.Mathlib.Omega.{arith}
 use lib.ListN.{length, take}
 use Rattle.wire.specs.Numbers.{done}
 use Rattle.wire.specs.Address.{inRange}
@@ -92,7 +91,7 @@ Stands h ns past (late p) = Late h ns past p
 -- ---- a call that sends
 
 not-idle : {h : Session} {ns : List Node} {past : List Sent} {what : Sending} → Opened h ns past what → h .exchange ≡ Idle → ⊥
-not-idle o e = let z : _≡_ {A = ℕ} 0 1 = cc (sym (ap (λ (s : Session). s .exchange) (o .now)) ∙ e) in omega arith
+not-idle o e = true≢false (cc (ap (λ (s : Session). s .exchange) (o .now), e))
 
 call-goes : (h t : Session) (ns : List Node) (past : List Sent) (k : Call) (p : List ℕ) → Settled h ns past → Accepted h k p t → Going t ns past (whatOf k p) p
 call-goes h t ns past k p s a = record {
@@ -124,7 +123,7 @@ arrives h ns past what p g q r a b =
       exchange = exchanged (o .line) (o .command) ns (o .range) (o .fits) (o .typed) (no-clash (o .before) ns (o .inv)) (rw (g .packet) at a) b;
     }
 
-pub settles-again : (h : Session) (ns : List Node) (past : List Sent) (what : Sending) (r : Option (List ℕ)) → Coming h ns past what r
+settles-again : (h : Session) (ns : List Node) (past : List Sent) (what : Sending) (r : Option (List ℕ)) → Coming h ns past what r
     → Settled (reportedOf h r .session) ns (record { what = what; heard = heardIn r } ∷ past)
 settles-again h ns past what r c =
     let o = c .opened in

@@ -1,10 +1,9 @@
 -- The courses, step by step.
 use Prim.Native.Nat.{ℕ, _+_}
-use mathlib.Core.Bool.{Bool, true, false}
+use mathlib.Core.Bool.{Bool, true, false, true≢false}
 use mathlib.Core.List.{List, [], _∷_}
 use mathlib.Core.Option.{Option, none, some}
 use mathlib.Core.Path.{_≡_, refl, ap, _∙_}
-use native.Mathlib.Omega.{arith}
 use lib.ListN.{getD, replicate}
 use Rattle.buffer.specs.Sum.{total, endsInSum}
 use Rattle.buffer.specs.Buffer.{place}
@@ -240,7 +239,7 @@ late = record {
   bench = zeros ∷ zeros ∷ [];
   told = refl;
   known = refl;
-  differs = λ e. let z : _≡_ {A = ℕ} 0 1 = ap (λ (p : Place). p .address .0) (e ∙ ap (λ (ns : List Node). getD ns 0 blank .settings .place) takes-1) in omega arith;
+  differs = λ e. true≢false (cc (ap (λ (p : Place). p .address .0) (e ∙ ap (λ (ns : List Node). getD ns 0 blank .settings .place) takes-1)));
 }
 
 pub courses : Courses

@@ -1,14 +1,15 @@
 -- From the sending of a packet to its report: what the line does to bytes, as what it does to nodes and what the answer tells.
 use Prim.Native.Nat.{ℕ}
-use mathlib.Core.Bool.{Bool, true, false, cond}
+use mathlib.Core.Bool.{Bool, true, false, cond, true≢false, false≢true}
 use mathlib.Core.List.{List}
 use mathlib.Core.Option.{Option, some}
 use mathlib.Core.Path.{_≡_, refl, sym, ap, subst, _∙_}
-use native.Mathlib.Omega.{arith}
 use lib.ListN.{getD}
 use Rattle.wire.specs.Address.{inRange, addressOf}
 use Rattle.buffer.specs.Change.{Altered, Damaged}
 use Rattle.wire.specs.declared.address.Address.{Address}
+use Rattle.wire.specs.declared.address.Address.the-variants as address
+use Rattle.wire.proofs.Choice.{both}
 use Rattle.packet.specs.Packet.{frameOf}
 use Rattle.packet.specs.declared.Framed.the-variants.{Whole}
 use Rattle.packet.proofs.Packets.{read-says, damaged-frames, damaged-spoilt}
@@ -25,8 +26,8 @@ use Rattle.node.specs.Effect.{settingsAfter}
 use Rattle.node.specs.Node.{acted, addressedAfter}
 use Rattle.reply.specs.Reply.{statusByte}
 use Rattle.reply.proofs.Replies.{reply-judged, altered-silent}
-use Rattle.chain.specs.One.{heardAs}
-use Rattle.chain.specs.Chain.{after, Said, silence, clash, said}
+use Rattle.chain.specs.One.{heardAs, meant, answers}
+use Rattle.chain.specs.Chain.{after, Said, silence, clash, said, hearsAt, repliesAt}
 use Rattle.chain.proofs.Meaning.{length-after, after-at, spoilt-stays, Replying, said-says}
 use Rattle.line.specs.Line.{Arrives, Nothing, Returns, nodesAfter, saidAfter, heardIn}
 use Rattle.line.specs.Line as line
@@ -64,14 +65,12 @@ module _ (ns : List Node) (q : List ℕ) (to : Address) (k n : ℕ) (heard : Hea
   said-is : saidAfter (some q) ns ≡ said to heard ns
   said-is = rw (f, e) refl
 
-silent-not-clear : Silent ≡ Clear → ⊥
-silent-not-clear e = let z : _≡_ {A = ℕ} 0 1 = cc in omega arith
-
-silent-not-marked : Silent ≡ Marked → ⊥
-silent-not-marked e = let z : _≡_ {A = ℕ} 0 1 = cc in omega arith
-
-clear-not-marked : Clear ≡ Marked → ⊥
-clear-not-marked e = let z : _≡_ {A = ℕ} 0 1 = cc in omega arith
+-- whoever is called to reply to an address is one that acts on it
+replies-acts : (to : Address) (ns : List Node) (i : ℕ) → repliesAt to ns i ≡ true → acts to ns i ≡ true
+replies-acts (address.Individual j) ns i e = e
+replies-acts (address.Group g) ns i e =
+    let p = both (hearsAt ns i) (answers (address.Group g) (at ns i)) e in
+    rw (p .0) (both (at ns i .settings .place .leader) (meant (address.Group g) (at ns i)) (p .1) .1)
 
 module _ (to : Address) (c : Command) (ns : List Node) where
   -- it came whole
@@ -84,17 +83,18 @@ module _ (to : Address) (c : Command) (ns : List Node) where
   addressed-if false x = refl
 
   not-marked : {a : Answer} → Voice to (Intact c) ns a → a ≡ Marked → ⊥
-  not-marked silent e = silent-not-marked e
-  not-marked (spoke r p) e = clear-not-marked e
+  not-marked silent e = true≢false (cc e)
+  not-marked (spoke r p) e = true≢false (cc e)
 
-  answered : {a : Answer} → Voice to (Intact c) ns a → a ≡ Clear → Answered to ns (λ i. true)
-  answered silent e = absurd (silent-not-clear e)
-  answered (spoke r p) e = record { index = p .at; inside = p .inside; replies = p .calling; had = refl }
+  answered : {a : Answer} → Voice to (Intact c) ns a → a ≡ Clear → Answered to ns (acts to ns)
+  answered silent e = absurd (true≢false (cc e))
+  answered (spoke r p) e = record { index = p .at; inside = p .inside; replies = p .calling; acted = replies-acts to ns (p .at) (p .calling) }
 
   came-whole : {a : Answer} → Voice to (Intact c) ns a → Exchanged to c ns (after to (Intact c) ns) a
   came-whole v = record {
-    whole = λ i. true;
-    alike = λ i j. refl;
+    did = acts to ns;
+    acting = λ i e. e;
+    alike = λ i j e f. f;
     long = length-after to (Intact c) ns;
     settings = λ i l. ap (λ (x : Node). x .settings) (after-at to (Intact c) ns i l) ∙ settings-if (acts to ns i) (at ns i);
     addressed = λ i l. ap (λ (x : Node). x .addressed) (after-at to (Intact c) ns i l) ∙ addressed-if (acts to ns i) (at ns i);
@@ -105,8 +105,9 @@ module _ (to : Address) (c : Command) (ns : List Node) where
   -- it came with a wrong sum, or not at all: nothing changes
   unchanged : {a : Answer} → (a ≡ Clear → ⊥) → Exchanged to c ns ns a
   unchanged n = record {
-    whole = λ i. false;
-    alike = λ i j. refl;
+    did = λ i. false;
+    acting = λ i e. absurd (false≢true e);
+    alike = λ i j e f. e;
     long = refl;
     settings = λ i l. refl;
     addressed = λ i l. refl;
@@ -115,15 +116,15 @@ module _ (to : Address) (c : Command) (ns : List Node) where
   }
 
   spoilt-not-clear : {b : Address} {a : Answer} → Voice b Spoilt ns a → a ≡ Clear → ⊥
-  spoilt-not-clear silent e = silent-not-clear e
-  spoilt-not-clear (spoke r p) e = clear-not-marked (sym e)
+  spoilt-not-clear silent e = true≢false (cc e)
+  spoilt-not-clear (spoke r p) e = true≢false (cc e)
 
   lost-not-clear : {r : Option (List ℕ)} {s : Said} → s ≡ silence → Returns s r → heardIn r ≡ Clear → ⊥
-  lost-not-clear q (line.quietly o) e = silent-not-clear (sym (nothing-silent o) ∙ e)
-  lost-not-clear q line.whole e = let z : _≡_ {A = ℕ} 0 1 = cc q in omega arith
-  lost-not-clear q (line.altered a) e = let z : _≡_ {A = ℕ} 0 1 = cc q in omega arith
-  lost-not-clear q (line.lost o) e = silent-not-clear (sym (nothing-silent o) ∙ e)
-  lost-not-clear q line.mixed e = let z : _≡_ {A = ℕ} 0 1 = cc q in omega arith
+  lost-not-clear q (line.quietly o) e = true≢false (cc (nothing-silent o, e))
+  lost-not-clear q line.whole e = true≢false (cc q)
+  lost-not-clear q (line.altered a) e = true≢false (cc q)
+  lost-not-clear q (line.lost o) e = true≢false (cc (nothing-silent o, e))
+  lost-not-clear q line.mixed e = true≢false (cc q)
 
   module _ (range : inRange to ≡ true) (fits : fitsOf c ≡ true) (typed : Typed c) where
     -- what a packet of ours says, as it was sent and damaged

@@ -1,6 +1,6 @@
 -- Demand 3, proved; with it that no two nodes lead a group or reply at once, and that the chain's call delivers.
 use Prim.Native.Nat.{ℕ, suc, _-_, _≤_}
-use mathlib.Core.Bool.{false, not}
+use mathlib.Core.Bool.{false, not, true≢false}
 use mathlib.Core.List.{List}
 use mathlib.Core.Option.{Option}
 use mathlib.Core.Logic.{_↔_}
@@ -66,7 +66,7 @@ peace h ns past what p g q a c = go (rw (g .packet) at a) c
     go : {q : Option (List ℕ)} → Arrives (packetFor (o .line) (o .command)) q → saidAfter q ns ≡ clash → ⊥
     go line.whole c = no-clash (o .before) ns (o .inv) _ _ (sym (whole-means (o .line) (o .command) ns (o .range) (o .fits) (o .typed) .speaks) ∙ c)
     go (line.damaged {q = q} d) c = no-clash (o .before) ns (o .inv) _ _ (sym (damaged-means (o .line) (o .command) ns (o .range) (o .fits) (o .typed) q d .speaks) ∙ c)
-    go line.lost c = let z : _≡_ {A = ℕ} 0 1 = cc c in omega arith
+    go line.lost c = true≢false (cc c)
 
 pub no-collision : promised.NoCollision
 no-collision w comes up p o = go o (holds comes up)

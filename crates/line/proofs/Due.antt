@@ -1,15 +1,14 @@
 -- What may be sent while a session is open: by whom it is heard, whose record it is, and the command.
-use Prim.Native.Nat.{ℕ, _+_, _≤_, _<_}
+use Prim.Native.Nat.{ℕ, _+_, _<_}
 use mathlib.Core.Bool.{Bool, true, false, true≢false}
 use mathlib.Core.List.{List, _++_}
 use mathlib.Core.Path.{_≡_, refl, sym, ap, _∙_}
 use native.Mathlib.Omega.{arith}
 use lib.ListN.{length, take, drop}
 use lib.Seq.{take-append-seam}
-use borrow.Author.Tests.{lt-ltb, not-false}
 use Rattle.wire.specs.Numbers.{done}
 use Rattle.wire.specs.Promise.{Outcome}
-use Rattle.wire.specs.Address.{isIndividual, isGroup, inRange}
+use Rattle.wire.specs.Address.{inRange}
 use Rattle.wire.specs.declared.address.Individual.{Individual}
 use Rattle.wire.specs.declared.address.Group.{Group}
 use Rattle.wire.specs.declared.address.Address.{Address}
@@ -28,14 +27,13 @@ use Rattle.session.specs.declared.Step.{Step}
 use Rattle.placing.specs.Placing.{isPlacing, givenPlace}
 use Rattle.session.specs.Session.{offChain, entryOf, nodeAt, endNumber, stepNumber}
 use Rattle.sending.specs.Sending.{isReset, opened}
-use Rattle.host.specs.Calls.{badGroup}
-use Rattle.session.proofs.Sessions.{OnChain, on-chain}
+use Rattle.session.proofs.Sessions.{OnChain}
 use Rattle.sending.proofs.Clear.{Ready}
 use Rattle.walk.proofs.Clear.{next-says, ask-says}
 use Rattle.host.proofs.Clear.{order-says, regroup-says, wish-free}
-use Rattle.sending.proofs.Sent.{sending}
+use Rattle.sending.proofs.Sent.{sending, node-fits}
 use Rattle.walk.proofs.Sent.{next-went, ask-went}
-use Rattle.host.proofs.Sent.{order-went, regroup-went}
+use Rattle.host.proofs.Sent.{to-fits, order-went, regroup-went}
 use Rattle.walk.proofs.Stands.{next-stands, ask-stands}
 use Rattle.host.proofs.Stands.{order-stands, regroup-stands}
 use Rattle.line.specs.History.{Sending, gives, asks, sends}
@@ -67,14 +65,6 @@ order-sends (SetTimerMode m) e f = (refl, refl, tt)
 order-sends SynchInput e f = (refl, refl, tt)
 order-sends Nop e f = (refl, refl, tt)
 order-sends HardReset e f = absurd (true≢false f)
-
--- a node 1 to n has an individual address, and what an order may go to is of its range
-node-range : (n k : ℕ) → n ≤ 31 → k ≤ n → isIndividual k ≡ true
-node-range n k f l = lt-ltb k 0x80 (omega arith)
-
-order-range : (n : ℕ) (to : Address) → n ≤ 31 → badGroup to ≡ false → offChain n to ≡ false → inRange to ≡ true
-order-range n (address.Individual i) f g o = node-range n (i .0) f (on-chain n i o .high)
-order-range n (address.Group g) f b o = not-false (isGroup (g .0)) b
 
 -- a command was put on the line
 pub record Goes (s : Session) (line to : Address) (c : Command) (p : List ℕ) (t : Session) : Type 0 where
@@ -108,7 +98,7 @@ accepted calls.next t o s out n e =
     let w = next-went s out (ap endNumber e) in
     let k = next-says s (w .clear) in
     let l = k .walking in
-    let f = node-range (s .n) (s .walk + 1) (k .session .valid .few) (omega arith) in
+    let f = node-fits (s .n) (s .walk + 1) (k .session .valid .few) (omega arith) in
     let g = goes s _ _ _ out _ n (w .result) e refl (rw f refl) in
     record {
       line = nodeAt 0x00;
@@ -123,7 +113,7 @@ accepted calls.ask t o s out n e =
     let w = ask-went s out (ap endNumber e) in
     let k = ask-says s (w .clear) in
     let l = k .walking in
-    let g = goes s _ _ _ out _ n (w .result) e (node-range (s .n) (s .walk + 1) (k .session .valid .few) (omega arith)) refl in
+    let g = goes s _ _ _ out _ n (w .result) e (node-fits (s .n) (s .walk + 1) (k .session .valid .few) (omega arith)) refl in
     record {
       line = nodeAt (s .walk + 1);
       to = nodeAt (s .walk + 1);
@@ -144,12 +134,12 @@ accepted (calls.order to c) t o s out n e =
       ready = k .session;
       due = order (k .ended) (k .node) (r .0);
       typed = r .2;
-      goes = goes s to to c out _ n (w .result) e (order-range (s .n) to (k .session .valid .few) (k .group) (k .node)) (r .1);
+      goes = goes s to to c out _ n (w .result) e (to-fits (s .n) to (k .session .valid .few) (k .group) (k .node)) (r .1);
     }
 accepted (calls.regroup i g leader) t o s out n e =
     let w = regroup-went s out i g leader (ap endNumber e) in
     let k = regroup-says s i g leader (w .clear) in
-    let f = node-range (s .n) (i .0) (k .session .valid .few) (k .node .high) in
+    let f = node-fits (s .n) (i .0) (k .session .valid .few) (k .node .high) in
     record {
       line = address.Individual i;
       to = address.Individual i;
@@ -162,7 +152,7 @@ accepted (calls.regroup i g leader) t o s out n e =
 
 -- a call that doesn't send is refused, and leaves the session as it was
 sent-not-done : {e : End} {n : ℕ} → e ≡ Sent n → e ≡ Done → ⊥
-sent-not-done p q = let z : _≡_ {A = ℕ} 0 1 = cc (sym p ∙ q) in omega arith
+sent-not-done p q = true≢false (cc (p, q))
 
 endOf : Outcome Step (List ℕ) → End
 endOf o = o .answer .end

@@ -1,6 +1,6 @@
 -- One entry against what was sent and heard: a command that counts keeps them together.
 use Prim.Native.Nat.{ℕ}
-use mathlib.Core.Bool.{Bool, true, false, cond, not, _&&_, _||_, true≢false}
+use mathlib.Core.Bool.{Bool, true, false, cond, not, _&&_, _||_, and-false, true≢false}
 use mathlib.Core.List.{List, _∷_}
 use mathlib.Core.Path.{_≡_, refl, _∙_}
 use lib.Dec.{eqb}
@@ -19,8 +19,7 @@ use Rattle.entry.specs.declared.Reach.the-variants.{Misses, Hits, May}
 use Rattle.entry.specs.Entry.{knows, shows, noted, notedFlag, notedValue}
 use Rattle.entry.proofs.Entries.{knows-noted, shows-noted}
 use Rattle.ledger.specs.Ledger.{reachOf}
-use Rattle.line.specs.History.{Counted, toGroup, placeIn, lastPlace, copied, goes, inDoubt}
-use Rattle.line.proofs.Bools.{and-false}
+use Rattle.line.specs.History.{Counted, groupLost, placeIn, lastPlace, copied, goes, inDoubt}
 
 -- the entry of node k says what the history says
 pub record Exact (e : Entry) (past : List Counted) (k : ℕ) : Type 0 where
@@ -72,7 +71,7 @@ way-group g e p true k q = rw k (refl, refl)
 way-group g e p false k q = rw (k, q) (way-test (eqb (p .group .0) g))
 
 way : (to : Address) (k : ℕ) (e : Entry) (past : List Counted) → Exact e past k
-    → Way (reachOf to k e) (goes to k (inDoubt past k place) (lastPlace past k)) (toGroup to && inDoubt past k place)
+    → Way (reachOf to k e) (goes to k (inDoubt past k place) (lastPlace past k)) (groupLost to (inDoubt past k place))
 way (address.Individual i) k e past x = way-test (eqb (i .0) k)
 way (address.Group g) k e past x = way-group (g .0) e (lastPlace past k) (inDoubt past k place) (x .known place) (x .place)
 
@@ -125,7 +124,7 @@ pub exact-step : (a : Answer) → Counts a → (to : Address) (c : Command) → 
     → Exact (noted a (reachOf to k e) c e) (record { to = to; command = c; confirmed = confirms a } ∷ past) k
 exact-step a u to c s e past k x = record {
   known = λ t. knows-noted a (reachOf to k e) c e t
-      ∙ flag-exact a u (reachOf to k e) (effect c t) e (goes to k (inDoubt past k place) (lastPlace past k)) (toGroup to && inDoubt past k place)
+      ∙ flag-exact a u (reachOf to k e) (effect c t) e (goes to k (inDoubt past k place) (lastPlace past k)) (groupLost to (inDoubt past k place))
       (inDoubt past k) (way to k e past x) (x .known);
   place = place-exact a u to c s e past k x;
 }

@@ -3,7 +3,7 @@ use Prim.Native.Nat.{ℕ, suc, _+_, _≤_, _<_}
 use mathlib.Core.Bool.{Bool, true, false, cond, _&&_}
 use mathlib.Core.List.{List}
 use mathlib.Core.Logic.{_⊎_}
-use mathlib.Core.Path.{_≡_}
+use mathlib.Core.Path.{_≡_, refl}
 use lib.Dec.{eqb}
 use lib.ListN.{length, getD}
 use Rattle.wire.specs.declared.address.Address.{Address}
@@ -40,9 +40,23 @@ Unplaced x addressed = (addressed ≡ false) × (x .place .address .0 ≡ 0)
 abbrev pub Edge : Entry → Settings → Bool → ℕ → Type 0
 Edge e x addressed k = Unplaced x addressed ⊎ ((knows e place ≡ false) × (x .place ≡ givenPlace k) × (addressed ≡ true))
 
+-- the same of the node of index i
+abbrev pub PlacedAt : List Node → ℕ → Type 0
+PlacedAt ns i = Placed (suc i) (at ns i .settings) (at ns i .addressed)
+
+abbrev pub UnplacedAt : List Node → ℕ → Type 0
+UnplacedAt ns i = Unplaced (at ns i .settings) (at ns i .addressed)
+
+abbrev pub EdgeAt : Entry → List Node → ℕ → Type 0
+EdgeAt e ns i = Edge e (at ns i .settings) (at ns i .addressed) (i + 1)
+
 -- it really leads group g
 abbrev pub leads : ℕ → Settings → Bool
 leads g x = x .place .leader && eqb g (x .place .group .0)
+
+-- of the first n nodes at most one leads a group
+abbrev pub Alone : ℕ → List Node → Type 0
+Alone n ns = (g i j : ℕ) → i < n → j < n → leads g (at ns i .settings) ≡ true → leads g (at ns j .settings) ≡ true → i ≡ j
 
 pub record Invariant (h : Session) (ns : List Node) : Type 0 where
   pub begun : h .started ≡ true
@@ -54,11 +68,10 @@ pub record Invariant (h : Session) (ns : List Node) : Type 0 where
   -- what is known is held
   pub held : (i : ℕ) → i < h .n → Sound (entryAt h i) (at ns i .settings)
   -- where the walk is
-  pub front : (i : ℕ) → i < h .walk → Placed (suc i) (at ns i .settings) (at ns i .addressed)
-  pub back : (i : ℕ) → h .walk < i → i < h .n → Unplaced (at ns i .settings) (at ns i .addressed)
-  pub edge : h .walk < h .n → Edge (entryAt h (h .walk)) (at ns (h .walk) .settings) (at ns (h .walk) .addressed) (h .walk + 1)
-  -- at most one node leads a group
-  pub alone : (g i j : ℕ) → i < h .n → j < h .n → leads g (at ns i .settings) ≡ true → leads g (at ns j .settings) ≡ true → i ≡ j
+  pub front : (i : ℕ) → i < h .walk → PlacedAt ns i
+  pub back : (i : ℕ) → h .walk < i → i < h .n → UnplacedAt ns i
+  pub edge : h .walk < h .n → EdgeAt (entryAt h (h .walk)) ns (h .walk)
+  pub alone : Alone (h .n) ns
   -- every place is of its range
   pub fit : (i : ℕ) → i < h .n → placeFits (at ns i .settings .place) ≡ true
 
@@ -66,21 +79,27 @@ pub record Invariant (h : Session) (ns : List Node) : Type 0 where
 abbrev pub acts : Address → List Node → ℕ → Bool
 acts to ns i = hearsAt ns i && meant to (at ns i)
 
--- one that answered, and had the command whole
-pub record Answered (line : Address) (ns : List Node) (whole : ℕ → Bool) : Type 0 where
+-- of two neighbours that are not addressed the second doesn't hear
+pub deaf : (ns : List Node) (i : ℕ) → at ns i .addressed ≡ false → at ns (suc i) .addressed ≡ false → hearsAt ns (suc i) ≡ false
+deaf ns i u v = rw (u, v) refl
+
+-- the node of index i replies to this address, and acted on the command
+pub record Answered (line : Address) (ns : List Node) (did : ℕ → Bool) : Type 0 where
   pub index : ℕ
   pub inside : index < length ns
   pub replies : repliesAt line ns index ≡ true
-  pub had : whole index ≡ true
+  pub acted : did index ≡ true
 
--- what the line and the nodes make of a command, from its sending to the report; whole i: it came whole to the node of index i
+-- what the line and the nodes make of a command, from its sending to the report
 pub record Exchanged (line : Address) (c : Command) (ns ms : List Node) (a : Answer) : Type 0 where
-  pub whole : ℕ → Bool
-  -- "A command reaches all nodes alike"
-  pub alike : (i j : ℕ) → whole i ≡ whole j
+  -- the command came whole to the node of index i, which acted on it
+  pub did : ℕ → Bool
+  pub acting : (i : ℕ) → did i ≡ true → acts line ns i ≡ true
+  -- "A command reaches all nodes alike": where one acted on it, all did that act on such a command
+  pub alike : (i j : ℕ) → did i ≡ true → acts line ns j ≡ true → did j ≡ true
   pub long : length ms ≡ length ns
-  pub settings : (i : ℕ) → i < length ns → at ms i .settings ≡ cond (whole i && acts line ns i) (settingsAfter c (at ns i .settings)) (at ns i .settings)
-  pub addressed : (i : ℕ) → i < length ns → at ms i .addressed ≡ cond (whole i && acts line ns i) (addressedAfter c (at ns i .addressed)) (at ns i .addressed)
+  pub settings : (i : ℕ) → i < length ns → at ms i .settings ≡ cond (did i) (settingsAfter c (at ns i .settings)) (at ns i .settings)
+  pub addressed : (i : ℕ) → i < length ns → at ms i .addressed ≡ cond (did i) (addressedAfter c (at ns i .addressed)) (at ns i .addressed)
   -- what the answer tells
-  pub marked : a ≡ Marked → (i : ℕ) → whole i ≡ false
-  pub clear : a ≡ Clear → Answered line ns whole
+  pub marked : a ≡ Marked → (i : ℕ) → did i ≡ false
+  pub clear : a ≡ Clear → Answered line ns did

@@ -1,4 +1,3 @@
-pub mod Bools
 pub mod Words
 pub mod Exact
 pub mod Due

@@ -1,15 +1,13 @@
 -- A Set Address that never arrived: "ask" alone is sent, nobody replies as the new node would, and all stays as it was.
 use Prim.Native.Nat.{ℕ, _+_, _-_, _<_}
-use mathlib.Core.Bool.{Bool, true, false, cond, _&&_, true≢false}
+use mathlib.Core.Bool.{Bool, false, true≢false}
 use mathlib.Core.List.{List}
 use mathlib.Core.Logic.{inl, inr}
 use mathlib.Core.Option.{Option}
-use mathlib.Core.Path.{_≡_, refl, sym, ap, subst, _∙_}
+use mathlib.Core.Path.{_≡_, refl, sym, ap, _∙_}
 use native.Mathlib.Omega.{arith}
-use lib.Dec.{eqb, ltb}
 use lib.ListN.{length, take}
-use borrow.Author.Tests.{eqb-true}
-use Rattle.wire.proofs.Choice.{both}
+use Rattle.wire.proofs.Choice.{same}
 use Rattle.wire.specs.declared.address.Address.{Address}
 use Rattle.command.specs.declared.Command.{Command}
 use Rattle.command.specs.declared.Command.the-variants.{Nop}
@@ -17,8 +15,6 @@ use Rattle.status.specs.declared.Answer.{Answer}
 use Rattle.status.specs.declared.Answer.the-variants.{Clear, Marked, Silent}
 use Rattle.node.specs.declared.state.Node.{Node}
 use Rattle.node.specs.Setting.{place}
-use Rattle.chain.specs.One.{answers}
-use Rattle.chain.specs.Chain.{hearsAt}
 use Rattle.entry.specs.Entry.{knows, nop}
 use Rattle.session.specs.declared.Exchange.the-variants.{Idle}
 use Rattle.session.specs.declared.Session.{Session}
@@ -39,46 +35,26 @@ use Rattle.line.specs.Missed.{Left, OnlyPowerUp}
 use Rattle.line.proofs.Due.{Due, next, ask, order, regroup, accepted}
 use Rattle.line.proofs.Closing.{waitingAt, entryAt, due-opens, reported-concludes}
 use Rattle.line.proofs.Returning.{marked-returns, quiet-returns}
-use Rattle.line.proofs.Invariant.{at, acts, Edge, Invariant, Answered, Exchanged}
-use Rattle.line.proofs.Peace.{Own, own, no-clash}
+use Rattle.line.proofs.Invariant.{at, EdgeAt, Invariant, Answered, Exchanged}
+use Rattle.line.proofs.Peace.{no-clash}
+use Rattle.line.proofs.Walk.{nobody}
 use Rattle.line.proofs.Delivery.{exchanged}
 use Rattle.line.proofs.Course.{when-idle, holds}
 
-same : {A : Type 0} (t : Bool) (a : A) → cond t a a ≡ a
-same true a = refl
-same false a = refl
-
 module _ (h : Session) (ns : List Node) (inv : Invariant h ns) (l : h .walk < h .n) (u : at ns (h .walk) .addressed ≡ false) where
-  -- the node that the walk is at isn't at its new address
-  elsewhere : at ns (h .walk) .settings .place .address .0 ≡ h .walk + 1 → ⊥
-  elsewhere e = go (inv .edge l)
+  -- nobody replies to "ask" as the node that the walk is at would
+  unanswered : {did : ℕ → Bool} → Answered (nodeAt (h .walk + 1)) ns did → ⊥
+  unanswered o = go (inv .edge l)
     where
-      go : Edge (entryAt h (h .walk)) (at ns (h .walk) .settings) (at ns (h .walk) .addressed) (h .walk + 1) → ⊥
-      go (inl p) = omega (arith, p .1)
+      go : EdgeAt (entryAt h (h .walk)) ns (h .walk) → ⊥
+      go (inl p) = nobody h ns inv l p o
       go (inr p) = true≢false (sym (p .2) ∙ u)
 
-  -- so nobody replies to "ask" as that node would
-  nobody : {whole : ℕ → Bool} → Answered (nodeAt (h .walk + 1)) ns whole → ⊥
-  nobody a = go (own h ns inv i b (ltb i (h .walk)) (eqb (h .walk) i) refl refl)
-    where
-      i : ℕ
-      i = a .index
-
-      b : i < h .n
-      b = omega (arith, a .inside, inv .long)
-
-      e : h .walk + 1 ≡ at ns i .settings .place .address .0
-      e = eqb-true (h .walk + 1) _ (both (hearsAt ns i) (answers (nodeAt (h .walk + 1)) (at ns i)) (a .replies) .1)
-
-      go : Own h ns i → ⊥
-      go (inl p) = let f : i ≡ h .walk = omega (arith, e) in elsewhere (subst (λ (j : ℕ). at ns j .settings .place .address .0 ≡ h .walk + 1) f (sym e))
-      go (inr p) = omega (arith, e, p .0)
-
-  pub stays-out : {ms : List Node} {a : Answer} → Exchanged (nodeAt (h .walk + 1)) Nop ns ms a → (a ≡ Clear → ⊥) × Left (at ns (h .walk)) (at ms (h .walk))
+  stays-out : {ms : List Node} {a : Answer} → Exchanged (nodeAt (h .walk + 1)) Nop ns ms a → (a ≡ Clear → ⊥) × Left (at ns (h .walk)) (at ms (h .walk))
   stays-out x =
-      let b : Bool = x .whole (h .walk) && acts (nodeAt (h .walk + 1)) ns (h .walk) in
+      let b : Bool = x .did (h .walk) in
       let m : h .walk < length ns = omega (arith, inv .long) in (
-        (λ e. nobody (x .clear e)),
+        (λ e. unanswered (x .clear e)),
         record {
           settings = x .settings (h .walk) m ∙ same b (at ns (h .walk) .settings);
           unreached = x .addressed (h .walk) m ∙ same b (at ns (h .walk) .addressed) ∙ u;
@@ -104,9 +80,9 @@ asked s t ns ms p inv idle u d f r x = go d refl f x
         let d : Due s (asks (s .walk + 1)) (nodeAt (s .walk + 1)) (nodeAt (s .walk + 1)) Nop = ask l k in
         let g : t ≡ waitingAt s (nodeAt (s .walk + 1)) Nop = f ∙ due-opens d in
         (rw g (reported-concludes d (inv .few) (inv .walked) (inv .full) (inv .begun) r ∙ unconfirmed s idle (heardIn r) (o .0)), o .1)
-    go (next l k) e f x = absurd (let z : _≡_ {A = ℕ} 0 1 = cc e in omega arith)
-    go (order w o n) e f x = absurd (let z : _≡_ {A = ℕ} 0 1 = cc e in omega arith)
-    go (regroup w o n) e f x = absurd (let z : _≡_ {A = ℕ} 0 1 = cc e in omega arith)
+    go (next l k) e f x = absurd (true≢false (cc e))
+    go (order w o n) e f x = absurd (true≢false (cc e))
+    go (regroup w o n) e f x = absurd (true≢false (cc e))
 
 -- no other call sends
 alone : (s : Session) → s .walk < s .n → knows (entryOf s (s .walk + 1)) place ≡ false → (c : Call) (out : List ℕ) (n : ℕ)

@@ -1,6 +1,6 @@
 -- No two nodes reply at once.
-use Prim.Native.Nat.{ℕ, zero, suc, _+_, _≤_, _<_}
-use mathlib.Core.Bool.{Bool, true, false, _||_, false≢true}
+use Prim.Native.Nat.{ℕ, zero, suc, _≤_, _<_}
+use mathlib.Core.Bool.{Bool, true, false, false≢true}
 use mathlib.Core.List.{List}
 use mathlib.Core.Logic.{_⊎_, inl, inr}
 use mathlib.Core.Path.{_≡_, refl, sym, ap, subst, _∙_}
@@ -17,24 +17,24 @@ use Rattle.chain.specs.Chain.{clash, said, hearsAt, repliesAt}
 use Rattle.chain.proofs.Clashes.{clash-two}
 use Rattle.session.specs.declared.Session.{Session}
 use Rattle.line.proofs.Closing.{entryAt}
-use Rattle.line.proofs.Invariant.{at, Unplaced, Edge, Invariant}
+use Rattle.line.proofs.Invariant.{at, UnplacedAt, EdgeAt, Invariant, deaf}
 
 -- a node of its own address, or one at 0x00 that the walk has not come to
-abbrev pub Own : Session → List Node → ℕ → Type 0
+abbrev Own : Session → List Node → ℕ → Type 0
 Own h ns i = (at ns i .settings .place .address .0 ≡ suc i) ⊎ ((at ns i .settings .place .address .0 ≡ 0) × (at ns i .addressed ≡ false) × (h .walk ≤ i))
 
 module _ (h : Session) (ns : List Node) (inv : Invariant h ns) where
-  unplaced : (i : ℕ) → h .walk ≤ i → Unplaced (at ns i .settings) (at ns i .addressed) → Own h ns i
+  unplaced : (i : ℕ) → h .walk ≤ i → UnplacedAt ns i → Own h ns i
   unplaced i l u = inr (u .1, u .0, l)
 
   edge-own : (i : ℕ) → h .walk ≡ i → i < h .n → Own h ns i
   edge-own i e l = subst (Own h ns) e (go (inv .edge (omega arith)))
     where
-      go : Edge (entryAt h (h .walk)) (at ns (h .walk) .settings) (at ns (h .walk) .addressed) (h .walk + 1) → Own h ns (h .walk)
+      go : EdgeAt (entryAt h (h .walk)) ns (h .walk) → Own h ns (h .walk)
       go (inl u) = unplaced (h .walk) (omega arith) u
       go (inr p) = inl (ap (λ q. q .address .0) (p .1) ∙ omega arith)
 
-  pub own : (i : ℕ) → i < h .n → (b c : Bool) → ltb i (h .walk) ≡ b → eqb (h .walk) i ≡ c → Own h ns i
+  own : (i : ℕ) → i < h .n → (b c : Bool) → ltb i (h .walk) ≡ b → eqb (h .walk) i ≡ c → Own h ns i
   own i l true c e f = inl (inv .front i (ltb-true i (h .walk) e) .1)
   own i l false true e f = edge-own i (eqb-true (h .walk) i f) l
   own i l false false e f =
@@ -43,25 +43,25 @@ module _ (h : Session) (ns : List Node) (inv : Invariant h ns) where
       unplaced i m (inv .back i (omega arith) l)
 
   -- of two nodes at 0x00 the later doesn't hear
-  deaf : (i j : ℕ) → i < j → j < h .n → h .walk ≤ i → at ns i .addressed ≡ false → at ns j .addressed ≡ false → hearsAt ns j ≡ true → ⊥
-  deaf i zero l m w u v e = omega arith
-  deaf i (suc j) l m w u v e = false≢true (sym (near (eqb i j) refl) ∙ (rw v at e))
+  later : (i j : ℕ) → i < j → j < h .n → h .walk ≤ i → at ns i .addressed ≡ false → at ns j .addressed ≡ false → hearsAt ns j ≡ true → ⊥
+  later i zero l m w u v e = omega arith
+  later i (suc j) l m w u v e = false≢true (sym (deaf ns j (near (eqb i j) refl) v) ∙ e)
     where
-      near : (b : Bool) → eqb i j ≡ b → (at ns j .addressed || false) ≡ false
-      near true f = rw (← (eqb-true i j f), u) refl
-      near false f = let d = eqb-false i j f in rw (inv .back j (omega arith) (omega arith) .0) refl
+      near : (b : Bool) → eqb i j ≡ b → at ns j .addressed ≡ false
+      near true f = rw (← (eqb-true i j f)) u
+      near false f = let d = eqb-false i j f in inv .back j (omega arith) (omega arith) .0
 
   only-address : (a i j : ℕ) → i < h .n → j < h .n → Own h ns i → Own h ns j → a ≡ at ns i .settings .place .address .0 → a ≡ at ns j .settings .place .address .0
       → hearsAt ns i ≡ true → hearsAt ns j ≡ true → (b c : Bool) → ltb i j ≡ b → ltb j i ≡ c → i ≡ j
   only-address a i j l m (inl p) (inl q) e f x y b c g k = omega arith
   only-address a i j l m (inl p) (inr q) e f x y b c g k = absurd (omega (arith, q .0))
   only-address a i j l m (inr p) (inl q) e f x y b c g k = absurd (omega (arith, p .0))
-  only-address a i j l m (inr p) (inr q) e f x y true c g k = absurd (deaf i j (ltb-true i j g) m (p .2) (p .1) (q .1) y)
-  only-address a i j l m (inr p) (inr q) e f x y false true g k = absurd (deaf j i (ltb-true j i k) l (q .2) (q .1) (p .1) x)
+  only-address a i j l m (inr p) (inr q) e f x y true c g k = absurd (later i j (ltb-true i j g) m (p .2) (p .1) (q .1) y)
+  only-address a i j l m (inr p) (inr q) e f x y false true g k = absurd (later j i (ltb-true j i k) l (q .2) (q .1) (p .1) x)
   only-address a i j l m (inr p) (inr q) e f x y false false g k = omega (arith, ltb-false i j g, ltb-false j i k)
 
   -- at most one node replies to an address
-  pub one-replies : (to : Address) (i j : ℕ) → i < h .n → j < h .n → repliesAt to ns i ≡ true → repliesAt to ns j ≡ true → i ≡ j
+  one-replies : (to : Address) (i j : ℕ) → i < h .n → j < h .n → repliesAt to ns i ≡ true → repliesAt to ns j ≡ true → i ≡ j
   one-replies (address.Individual a) i j l m p q =
       let x = both (hearsAt ns i) (answers (address.Individual a) (at ns i)) p in
       let y = both (hearsAt ns j) (answers (address.Individual a) (at ns j)) q in

@@ -1,6 +1,6 @@
 -- Power-up: the invariant, and a record that says what the empty history says.
 use Prim.Native.Nat.{ℕ, zero, suc, _≤_, _<_}
-use mathlib.Core.Bool.{Bool, true, false, cond, _||_, false≢true}
+use mathlib.Core.Bool.{Bool, true, false, cond, _||_, true≢false, false≢true}
 use mathlib.Core.List.{List, [], _∷_, map}
 use mathlib.Core.Logic.{inl}
 use mathlib.Core.Path.{_≡_, refl, ap}
@@ -42,7 +42,7 @@ unfolding poweredOf
 accepted-power s n e = go (ltb n 1 || ltb 31 n) refl e
   where
     go : (b : Bool) → (ltb n 1 || ltb 31 n) ≡ b → powering b s n .end ≡ Done → Powered s n
-    go true f e = let z : _≡_ {A = ℕ} 0 1 = cc e in absurd (omega arith)
+    go true f e = absurd (true≢false (cc e))
     go false f e =
         let p = neither (ltb n 1) (ltb 31 n) f in
         record { some = ltb-false n 1 (p .0); few = ltb-false 31 n (p .1); session = rw f refl }

@@ -1,85 +1,98 @@
 -- A command once the session is ready: to a node or a group, and "regroup".
 use Prim.Native.Nat.{ℕ, zero, suc, _<_}
-use mathlib.Core.Bool.{Bool, true, false, cond, _&&_, false≢true}
+use mathlib.Core.Bool.{Bool, true, false, cond, _&&_, or-true, true≢false, false≢true}
 use mathlib.Core.List.{List}
 use mathlib.Core.Logic.{_⊎_, inl, inr}
-use mathlib.Core.Path.{_≡_, refl, sym, _∙_}
+use mathlib.Core.Path.{_≡_, refl, sym, ap, _∙_}
 use native.Mathlib.Omega.{arith}
 use lib.Dec.{eqb}
-use borrow.Author.Tests.{eqb-true, eqb-false}
+use borrow.Author.Tests.{eqb-true, eqb-false, eq-eqb}
 use Rattle.wire.specs.declared.address.Individual.{Individual}
 use Rattle.wire.specs.declared.address.Group.{Group}
 use Rattle.wire.specs.declared.address.Address.{Address}
 use Rattle.wire.specs.declared.address.Address.the-variants as address
-use Rattle.wire.proofs.Choice.{both}
+use Rattle.wire.proofs.Choice.{chose-first, both}
+use Rattle.command.specs.declared.Place.{Place}
 use Rattle.command.specs.declared.Command.{Command}
 use Rattle.command.specs.declared.Command.the-variants.{SetAddress}
 use Rattle.command.specs.Build.{fitsOf}
 use Rattle.status.specs.declared.Answer.{Answer}
-use Rattle.node.specs.declared.state.Settings.{Settings}
 use Rattle.node.specs.declared.state.Node.{Node}
 use Rattle.node.specs.Setting.{place}
 use Rattle.node.specs.Effect.{effect, writes, settingsAfter}
 use Rattle.node.specs.Node.{addressedAfter}
 use Rattle.node.proofs.Laws.{addressed-stays, unwritten-stays}
+use Rattle.chain.specs.One.{meant}
 use Rattle.chain.specs.Chain.{hearsAt}
-use Rattle.entry.specs.declared.Entry.{Entry}
 use Rattle.entry.specs.declared.Reach.the-variants.{Misses, Hits, May}
 use Rattle.entry.specs.Entry.{knows, shows}
 use Rattle.ledger.specs.Ledger.{blank, reachOf, isLed}
 use Rattle.ledger.proofs.Ledgers.{free-says}
 use Rattle.session.specs.declared.Session.{Session}
-use Rattle.line.proofs.Bools.{or-true, eqb-sym}
 use Rattle.line.proofs.Closing.{entryAt, Concluded}
-use Rattle.line.proofs.Sound.{Sound, Fits, fits-test}
-use Rattle.line.proofs.Invariant.{at, Placed, leads, Invariant, acts, Exchanged}
+use Rattle.line.proofs.Sound.{Fits, fits-test, hits-test}
+use Rattle.line.proofs.Invariant.{at, Placed, PlacedAt, leads, Alone, Invariant, acts, Answered, Exchanged}
 use Rattle.line.proofs.Step.{held-step, shrinks, stepped}
 
 hears-addressed : (ns : List Node) (i : ℕ) → at ns i .addressed ≡ true → hearsAt ns i ≡ true
 hears-addressed ns zero e = refl
 hears-addressed ns (suc i) e = rw e (or-true (at ns i .addressed))
 
--- an individual address reaches the one node that has it, a group its members
-module _ (ns : List Node) (i : ℕ) (p : Placed (suc i) (at ns i .settings) (at ns i .addressed)) where
-  acts-node : (j : Individual) → acts (address.Individual j) ns i ≡ eqb (j .0) (suc i)
-  acts-node j = rw (hears-addressed ns i (p .0), p .1) refl
-
-  acts-group : (g : Group) → acts (address.Group g) ns i ≡ eqb (g .0) (at ns i .settings .place .group .0)
-  acts-group g = rw (hears-addressed ns i (p .0)) refl
-
-fits-group : (g : ℕ) (e : Entry) (x : Settings) → Sound e x → (b : Bool) → knows e place ≡ b
-    → Fits (cond b (cond (eqb (shows e place .group .0) g) Hits Misses) May) (eqb g (x .place .group .0))
-fits-group g e x ok true k = rw (ok place k, eqb-sym (x .place .group .0) g) (fits-test (eqb g (x .place .group .0)))
-fits-group g e x ok false k = tt
-
--- the host knows whom a command reaches, unless the place is in doubt
+-- the host knows whom a command misses, unless the place is in doubt
 module _ (h : Session) (ns : List Node) (inv : Invariant h ns) (ended : h .walk ≡ h .n) where
-  fits-ready : (to : Address) (i : ℕ) → i < h .n → Fits (reachOf to (suc i) (entryAt h i)) (acts to ns i)
-  fits-ready (address.Individual j) i l = rw (acts-node ns i (inv .front i (omega arith)) j) (fits-test (eqb (j .0) (suc i)))
-  fits-ready (address.Group g) i l =
-      rw (acts-group ns i (inv .front i (omega arith)) g) (fits-group (g .0) (entryAt h i) (at ns i .settings) (inv .held i l) (knows (entryAt h i) place) refl)
+  -- the node's number is its address
+  numbered : (i : ℕ) → i < h .n → at ns i .settings .place .address .0 ≡ suc i
+  numbered i l = inv .front i (omega arith) .1
+
+  -- whoever acts is the one node with that number, or in that group
+  acts-node : (j : Individual) (i : ℕ) → i < h .n → acts (address.Individual j) ns i ≡ true → j .0 ≡ suc i
+  acts-node j i l e = eqb-true (j .0) _ (both (hearsAt ns i) (meant (address.Individual j) (at ns i)) e .1) ∙ numbered i l
+
+  acts-group : (g : Group) (i : ℕ) → acts (address.Group g) ns i ≡ true → at ns i .settings .place .group .0 ≡ g .0
+  acts-group g i e = sym (eqb-true (g .0) _ (both (hearsAt ns i) (meant (address.Group g) (at ns i)) e .1))
+
+  fits-group : (g : Group) (i : ℕ) → i < h .n → (b : Bool) → (b ≡ true → acts (address.Group g) ns i ≡ true) → (k : Bool) → knows (entryAt h i) place ≡ k
+      → Fits (cond k (cond (eqb (shows (entryAt h i) place .group .0) (g .0)) Hits Misses) May) b
+  fits-group g i l b f true k = rw (inv .held i l place k) (fits-test _ b (λ e. eq-eqb _ (g .0) (acts-group g i (f e))))
+  fits-group g i l b f false k = tt
+
+  fits-ready : (to : Address) (i : ℕ) → i < h .n → (b : Bool) → (b ≡ true → acts to ns i ≡ true) → Fits (reachOf to (suc i) (entryAt h i)) b
+  fits-ready (address.Individual j) i l b f = fits-test (eqb (j .0) (suc i)) b (λ e. eq-eqb (j .0) (suc i) (acts-node j i l (f e)))
+  fits-ready (address.Group g) i l b f = fits-group g i l b f (knows (entryAt h i) place) refl
+
+  -- a node known to be in a group acts on a command to it
+  member-acts : (g : Group) (i : ℕ) → i < h .n → reachOf (address.Group g) (suc i) (entryAt h i) ≡ Hits → acts (address.Group g) ns i ≡ true
+  member-acts g i l r =
+      let k = chose-first (knows (entryAt h i) place) r (λ e. true≢false (cc e)) in
+      let m = eqb-true _ (g .0) (hits-test _ (k .1)) in
+      rw (hears-addressed ns i (inv .front i (omega arith) .0), eq-eqb (g .0) _ (sym m ∙ ap (λ (p : Place). p .group .0) (inv .held i l place (k .0)))) refl
+
+  -- a clear answer: whom the host counts as reached has acted. By its number it is the node that answered; in a group, all nodes are alike
+  reached : {c : Command} {ms : List Node} {a : Answer} (to : Address) (x : Exchanged to c ns ms a) → Answered to ns (x .did)
+      → (i : ℕ) → i < h .n → reachOf to (suc i) (entryAt h i) ≡ Hits → x .did i ≡ true
+  reached (address.Individual j) x o i l r =
+      let m = acts-node j (o .index) (omega (arith, o .inside, inv .long)) (x .acting (o .index) (o .acted)) in
+      let e : i ≡ o .index = omega (arith, eqb-true (j .0) (suc i) (hits-test (eqb (j .0) (suc i)) r)) in
+      ap (x .did) e ∙ o .acted
+  reached (address.Group g) x o i l r = x .alike (o .index) i (o .acted) (member-acts g i l r)
 
   module _ (ms : List Node) (t : Session) (to : Address) (c : Command) (a : Answer) (x : Exchanged to c ns ms a) (k : Concluded h a to c (h .walk) t) where
-    placed-if : (i : ℕ) (b : Bool) → Placed (suc i) (at ns i .settings) (at ns i .addressed)
+    placed-if : (i : ℕ) (b : Bool) → PlacedAt ns i
         → (b ≡ true → Placed (suc i) (settingsAfter c (at ns i .settings)) (addressedAfter c (at ns i .addressed)))
         → Placed (suc i) (cond b (settingsAfter c (at ns i .settings)) (at ns i .settings)) (cond b (addressedAfter c (at ns i .addressed)) (at ns i .addressed))
     placed-if i true p q = q refl
     placed-if i false p q = p
 
-    acts-if : (i : ℕ) (b : Bool) → x .whole i ≡ b → (b && acts to ns i) ≡ true → acts to ns i ≡ true
-    acts-if i true e f = f
-    acts-if i false e f = absurd (false≢true f)
-
     -- if every node that acts keeps its number
     ready-step : fitsOf c ≡ true
         → ((i : ℕ) → i < h .n → acts to ns i ≡ true → Placed (suc i) (settingsAfter c (at ns i .settings)) (addressedAfter c (at ns i .addressed)))
-        → ((g i j : ℕ) → i < h .n → j < h .n → leads g (at ms i .settings) ≡ true → leads g (at ms j .settings) ≡ true → i ≡ j)
+        → Alone (h .n) ms
         → Invariant t ms
     ready-step fits numbers alone =
         stepped h ns ms inv to c a x t to c (h .walk) k fits (inv .walked)
-        (λ i l. held-step h ns ms inv to c a x to i l (fits-ready to i l))
+        (λ i l. held-step h ns ms inv to c a x to i l (fits-ready to i l (x .did i) (x .acting i)) (λ e. reached to x (x .clear e) i l))
         (λ i l. rw (x .settings i (omega (arith, inv .long)), x .addressed i (omega (arith, inv .long)))
-        (placed-if i (x .whole i && acts to ns i) (inv .front i l) (λ e. numbers i (omega arith) (acts-if i (x .whole i) refl e))))
+        (placed-if i (x .did i) (inv .front i l) (λ e. numbers i (omega arith) (x .acting i e))))
         (λ i l m. absurd (omega arith)) (λ l. absurd (omega arith)) alone
 
     -- a command that writes no place
@@ -96,25 +109,22 @@ module _ (h : Session) (ns ms : List Node) (inv : Invariant h ns) (ended : h .wa
   Led : ℕ → ℕ → Type 0
   Led r i = (leads r (at ns i .settings) ≡ true) ⊎ ((leader ≡ true) × (suc i ≡ n .0) × (r ≡ g .0))
 
-  led-if : (r i : ℕ) (whole acting : Bool) → (acting ≡ true → suc i ≡ n .0)
-      → leads r (cond (whole && acting) (settingsAfter (SetAddress (record { address = n; group = g; leader = leader })) (at ns i .settings)) (at ns i .settings)) ≡ true → Led r i
+  led-if : (r i : ℕ) (did : Bool) → (did ≡ true → n .0 ≡ suc i)
+      → leads r (cond did (settingsAfter (SetAddress (record { address = n; group = g; leader = leader })) (at ns i .settings)) (at ns i .settings)) ≡ true → Led r i
   unfolding Led
-  led-if r i true true s e = let p = both leader (eqb r (g .0)) e in inr (p .0, s refl, eqb-true r (g .0) (p .1))
-  led-if r i true false s e = inl e
-  led-if r i false acting s e = inl e
+  led-if r i true s e = let p = both leader (eqb r (g .0)) e in inr (p .0, sym (s refl), eqb-true r (g .0) (p .1))
+  led-if r i false s e = inl e
 
   led : (r i : ℕ) → i < h .n → leads r (at ms i .settings) ≡ true → Led r i
-  led r i l e =
-      led-if r i (x .whole i) (acts (address.Individual n) ns i)
-      (λ f. sym (eqb-true (n .0) (suc i) (sym (acts-node ns i (inv .front i (omega arith)) n) ∙ f)))
-      (rw (x .settings i (omega (arith, inv .long))) at e)
+  led r i l e = led-if r i (x .did i) (λ d. acts-node h ns inv ended n i l (x .acting i d)) (rw (x .settings i (omega (arith, inv .long))) at e)
 
   -- 11 has kept another leader away
   rival : (r i : ℕ) → i < h .n → leader ≡ true → r ≡ g .0 → (suc i ≡ n .0 → ⊥) → leads r (at ns i .settings) ≡ true → ⊥
   rival r i l w e o f =
       let b = free-says (n .0) g (h .n) (h .entries) blank (inv .few) (free w) i l (omega (arith, inv .few, inv .full)) o in
       let s : (at ns i .settings .place .leader && eqb (at ns i .settings .place .group .0) (g .0)) ≡ false = rw (inv .held i l place (b .known)) at (b .follows) in
-      false≢true (sym s ∙ (rw (e, eqb-sym (g .0) (at ns i .settings .place .group .0)) at f))
+      let p = both (at ns i .settings .place .leader) (eqb r (at ns i .settings .place .group .0)) f in
+      false≢true (sym s ∙ rw (p .0, eq-eqb _ (g .0) (sym (eqb-true r _ (p .1)) ∙ e)) refl)
 
   only : (r i j : ℕ) → i < h .n → j < h .n → Led r i → Led r j → (b : Bool) → eqb i j ≡ b → i ≡ j
   unfolding Led
@@ -128,5 +138,5 @@ module _ (h : Session) (ns ms : List Node) (inv : Invariant h ns) (ended : h .wa
       → Concluded h a (address.Individual n) (SetAddress (record { address = n; group = g; leader = leader })) (h .walk) t → Invariant t ms
   regroup-step fits k =
       ready-step h ns inv ended ms t (address.Individual n) (SetAddress (record { address = n; group = g; leader = leader })) a x k fits
-      (λ i l e. (refl, eqb-true (n .0) (suc i) (sym (acts-node ns i (inv .front i (omega arith)) n) ∙ e)))
+      (λ i l e. (refl, acts-node h ns inv ended n i l e))
       (λ r i j l m p q. only r i j l m (led r i l p) (led r j m q) (eqb i j) refl)

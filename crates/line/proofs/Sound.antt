@@ -1,5 +1,5 @@
 -- One entry and the node that it is about: an exchange keeps what is known true, for all six settings at once.
-use mathlib.Core.Bool.{Bool, true, false, cond, _&&_, true≢false, false≢true}
+use mathlib.Core.Bool.{Bool, true, false, cond, true≢false, false≢true}
 use mathlib.Core.Path.{_≡_, refl, sym, ap, _∙_}
 use Rattle.command.specs.declared.Command.{Command}
 use Rattle.status.specs.declared.Answer.{Answer}
@@ -17,23 +17,36 @@ use Rattle.entry.proofs.Entries.{knows-confirmed, shows-confirmed, knows-doubte
 abbrev pub Sound : Entry → Settings → Type 0
 Sound e x = (s : Setting) → knows e s ≡ true → shows e s ≡ get x s
 
--- what the host believes of the way, against what happened; acts: the node acts on the command if it comes to it whole
+-- what the host takes for certain of a command's way, against what happened: only whom it misses. did: the command came whole to the node, which acted on it
 abbrev pub Fits : Reach → Bool → Type 0
-Fits Misses acts = acts ≡ false
-Fits Hits acts = acts ≡ true
-Fits May acts = Unit {0}
+Fits Misses did = did ≡ false
+Fits Hits did = Unit {0}
+Fits May did = Unit {0}
 
-pub fits-test : (b : Bool) → Fits (cond b Hits Misses) b
-fits-test true = refl
-fits-test false = refl
-
--- what an answer tells of the command; whole: it came to the node whole
+-- what an answer tells: a clear one of a node that the host counts as reached, that it acted; a marked one, that no node did
 abbrev pub Told : Answer → Reach → Bool → Type 0
-Told Clear Misses whole = Unit {0}
-Told Clear Hits whole = whole ≡ true
-Told Clear May whole = Unit {0}
-Told Marked r whole = whole ≡ false
-Told Silent r whole = Unit {0}
+Told Clear Misses did = Unit {0}
+Told Clear Hits did = did ≡ true
+Told Clear May did = Unit {0}
+Told Marked r did = did ≡ false
+Told Silent r did = Unit {0}
+
+pub told : (a : Answer) (r : Reach) (did : Bool) → (a ≡ Marked → did ≡ false) → (a ≡ Clear → r ≡ Hits → did ≡ true) → Told a r did
+told Clear Misses did m c = tt
+told Clear Hits did m c = c refl refl
+told Clear May did m c = tt
+told Marked r did m c = m refl
+told Silent r did m c = tt
+
+-- where a test says whom the command reaches: whoever acts must pass it, and whoever is reached has passed it
+pub fits-test : (b did : Bool) → (did ≡ true → b ≡ true) → Fits (cond b Hits Misses) did
+fits-test true did f = tt
+fits-test false true f = sym (f refl)
+fits-test false false f = refl
+
+pub hits-test : (b : Bool) → cond b Hits Misses ≡ Hits → b ≡ true
+hits-test true e = refl
+hits-test false e = absurd (true≢false (cc e))
 
 known-applied : {s : Setting} (f : Effect s) (e : Entry) (x : Settings) → Sound e x → newFlag f e ≡ true → newValue f e ≡ applied f x
 known-applied {s} keeps e x ok k = ok s k
@@ -51,30 +64,23 @@ kept (stores v) x b k = absurd (false≢true k)
 kept (copies t f) x b k = absurd (false≢true k)
 
 -- put in doubt, whether or not the node acted
-doubted-sound : (c : Command) (e : Entry) (x : Settings) (acts : Bool) → Sound e x → Sound (doubted c e) (cond acts (settingsAfter c x) x)
-doubted-sound c e x acts ok s k = go acts
+doubted-sound : (c : Command) (e : Entry) (x : Settings) (did : Bool) → Sound e x → Sound (doubted c e) (cond did (settingsAfter c x) x)
+doubted-sound c e x did ok s k = go did
   where
     same : (applied (effect c s) x ≡ get x s) × (knows e s ≡ true)
     same = kept (effect c s) x (knows e s) (sym (knows-doubted c e s) ∙ k)
 
-    go : (acts : Bool) → shows e s ≡ get (cond acts (settingsAfter c x) x) s
+    go : (did : Bool) → shows e s ≡ get (cond did (settingsAfter c x) x) s
     go true = ok s (same .1) ∙ sym (get-after c x s ∙ same .0)
     go false = ok s (same .1)
 
 -- one exchange at one node
-pub noted-sound : (a : Answer) (r : Reach) (c : Command) (e : Entry) (x : Settings) (whole acts : Bool)
-    → Told a r whole → Fits r acts → Sound e x → Sound (noted a r c e) (cond (whole && acts) (settingsAfter c x) x)
-noted-sound Marked r c e x true acts t f ok = absurd (true≢false t)
-noted-sound Marked r c e x false acts t f ok = ok
-noted-sound Clear Misses c e x whole true t f ok = absurd (true≢false f)
-noted-sound Clear Misses c e x true false t f ok = ok
-noted-sound Clear Misses c e x false false t f ok = ok
-noted-sound Clear Hits c e x true true t f ok = confirmed-sound c e x ok
-noted-sound Clear Hits c e x true false t f ok = absurd (false≢true f)
-noted-sound Clear Hits c e x false acts t f ok = absurd (false≢true t)
-noted-sound Clear May c e x whole acts t f ok = doubted-sound c e x (whole && acts) ok
-noted-sound Silent Misses c e x whole true t f ok = absurd (true≢false f)
-noted-sound Silent Misses c e x true false t f ok = ok
-noted-sound Silent Misses c e x false false t f ok = ok
-noted-sound Silent Hits c e x whole acts t f ok = doubted-sound c e x (whole && acts) ok
-noted-sound Silent May c e x whole acts t f ok = doubted-sound c e x (whole && acts) ok
+pub noted-sound : (a : Answer) (r : Reach) (c : Command) (e : Entry) (x : Settings) (did : Bool)
+    → Told a r did → Fits r did → Sound e x → Sound (noted a r c e) (cond did (settingsAfter c x) x)
+noted-sound Marked r c e x did t f ok = rw t ok
+noted-sound Clear Misses c e x did t f ok = rw f ok
+noted-sound Clear Hits c e x did t f ok = rw t (confirmed-sound c e x ok)
+noted-sound Clear May c e x did t f ok = doubted-sound c e x did ok
+noted-sound Silent Misses c e x did t f ok = rw f ok
+noted-sound Silent Hits c e x did t f ok = doubted-sound c e x did ok
+noted-sound Silent May c e x did t f ok = doubted-sound c e x did ok

@@ -1,6 +1,6 @@
 -- One exchange, for every kind of command: what the invariant asks of it, node by node.
-use Prim.Native.Nat.{ℕ, suc, _+_, _≤_, _<_}
-use mathlib.Core.Bool.{Bool, true, false, cond, _&&_}
+use Prim.Native.Nat.{ℕ, suc, _≤_, _<_}
+use mathlib.Core.Bool.{Bool, true, false, cond}
 use mathlib.Core.List.{List}
 use mathlib.Core.Path.{_≡_, refl, sym, _∙_}
 use native.Mathlib.Omega.{arith}
@@ -9,18 +9,17 @@ use Rattle.command.specs.declared.Command.{Command}
 use Rattle.command.specs.declared.Command.the-variants.{SetAddress, DefineStatus, ReadStatus, SetPwm, SynchOutput, SetOutputs, SetSynchOutput, SetTimerMode, SynchInput, Nop, HardReset}
 use Rattle.command.specs.Build.{placeFits, fitsOf}
 use Rattle.status.specs.declared.Answer.{Answer}
-use Rattle.status.specs.declared.Answer.the-variants.{Clear, Marked, Silent}
+use Rattle.status.specs.declared.Answer.the-variants.{Clear}
 use Rattle.node.specs.declared.state.Settings.{Settings}
 use Rattle.node.specs.declared.state.Node.{Node}
 use Rattle.node.specs.Effect.{settingsAfter}
-use Rattle.entry.specs.declared.Reach.{Reach}
-use Rattle.entry.specs.declared.Reach.the-variants.{Misses, Hits, May}
+use Rattle.entry.specs.declared.Reach.the-variants.{Hits}
 use Rattle.entry.specs.Entry.{noted}
 use Rattle.ledger.specs.Ledger.{reachOf}
 use Rattle.session.specs.declared.Session.{Session}
 use Rattle.line.proofs.Closing.{entryAt, Concluded}
-use Rattle.line.proofs.Sound.{Sound, Fits, Told, noted-sound}
-use Rattle.line.proofs.Invariant.{at, Placed, Unplaced, Edge, leads, Invariant, acts, Exchanged}
+use Rattle.line.proofs.Sound.{Sound, Fits, told, noted-sound}
+use Rattle.line.proofs.Invariant.{at, PlacedAt, UnplacedAt, EdgeAt, leads, Alone, Invariant, Exchanged}
 
 -- a command whose values are of their range leaves every place of its range
 fit-after : (c : Command) → fitsOf c ≡ true → (x : Settings) → placeFits (x .place) ≡ true → placeFits (settingsAfter c x .place) ≡ true
@@ -36,25 +35,15 @@ fit-after SynchInput f x h = h
 fit-after Nop f x h = h
 fit-after HardReset f x h = refl
 
-told : (a : Answer) (r : Reach) (whole : Bool) → (a ≡ Marked → whole ≡ false) → (a ≡ Clear → whole ≡ true) → Told a r whole
-told Clear Misses whole m c = tt
-told Clear Hits whole m c = c refl
-told Clear May whole m c = tt
-told Marked r whole m c = m refl
-told Silent r whole m c = tt
-
 module _ (h : Session) (ns ms : List Node) (inv : Invariant h ns) (line : Address) (c : Command) (a : Answer) (x : Exchanged line c ns ms a) where
-  -- a clear answer: since all nodes are alike, each had the command whole
-  pub clear-whole : a ≡ Clear → (i : ℕ) → x .whole i ≡ true
-  clear-whole e i = let o = x .clear e in x .alike i (o .index) ∙ o .had
-
-  -- what is known is held, also afterwards
-  pub held-step : (to : Address) (i : ℕ) → i < h .n → Fits (reachOf to (suc i) (entryAt h i)) (acts line ns i)
+  -- what is known is held, also afterwards: whom the host counts as missed has not acted, whom it counts as reached has, if the answer is clear
+  pub held-step : (to : Address) (i : ℕ) → i < h .n → Fits (reachOf to (suc i) (entryAt h i)) (x .did i)
+      → (a ≡ Clear → reachOf to (suc i) (entryAt h i) ≡ Hits → x .did i ≡ true)
       → Sound (noted a (reachOf to (suc i) (entryAt h i)) c (entryAt h i)) (at ms i .settings)
-  held-step to i l f =
+  held-step to i l f g =
+      let r = reachOf to (suc i) (entryAt h i) in
       rw (x .settings i (omega (arith, inv .long)))
-      (noted-sound a (reachOf to (suc i) (entryAt h i)) c (entryAt h i) (at ns i .settings) (x .whole i) (acts line ns i)
-      (told a (reachOf to (suc i) (entryAt h i)) (x .whole i) (λ e. x .marked e i) (λ e. clear-whole e i)) f (inv .held i l))
+      (noted-sound a r c (entryAt h i) (at ns i .settings) (x .did i) (told a r (x .did i) (λ e. x .marked e i) g) f (inv .held i l))
 
   -- each node's place is of its range
   fit-if : fitsOf c ≡ true → (b : Bool) (i : ℕ) → i < h .n
@@ -64,7 +53,7 @@ module _ (h : Session) (ns ms : List Node) (inv : Invariant h ns) (line : Addres
 
   -- no node has come to lead a group
   pub shrinks : ((g i : ℕ) → leads g (settingsAfter c (at ns i .settings)) ≡ true → leads g (at ns i .settings) ≡ true)
-      → (g i j : ℕ) → i < h .n → j < h .n → leads g (at ms i .settings) ≡ true → leads g (at ms j .settings) ≡ true → i ≡ j
+      → Alone (h .n) ms
   shrinks s g i j l m p q = inv .alone g i j l m (led i l p) (led j m q)
     where
       led-if : (i : ℕ) (b : Bool) → leads g (cond b (settingsAfter c (at ns i .settings)) (at ns i .settings)) ≡ true → leads g (at ns i .settings) ≡ true
@@ -72,16 +61,16 @@ module _ (h : Session) (ns ms : List Node) (inv : Invariant h ns) (line : Addres
       led-if i false p = p
 
       led : (i : ℕ) → i < h .n → leads g (at ms i .settings) ≡ true → leads g (at ns i .settings) ≡ true
-      led i l p = led-if i (x .whole i && acts line ns i) (rw (x .settings i (omega (arith, inv .long))) at p)
+      led i l p = led-if i (x .did i) (rw (x .settings i (omega (arith, inv .long))) at p)
 
   -- the invariant after the report, from what each kind of command must show; the walk then stands at w
   module _ (t : Session) (to : Address) (m : Command) (w : ℕ) (k : Concluded h a to m w t) where
     pub stepped : fitsOf c ≡ true → w ≤ h .n
         → ((i : ℕ) → i < h .n → Sound (noted a (reachOf to (suc i) (entryAt h i)) m (entryAt h i)) (at ms i .settings))
-        → ((i : ℕ) → i < w → Placed (suc i) (at ms i .settings) (at ms i .addressed))
-        → ((i : ℕ) → w < i → i < h .n → Unplaced (at ms i .settings) (at ms i .addressed))
-        → (w < h .n → Edge (noted a (reachOf to (suc w) (entryAt h w)) m (entryAt h w)) (at ms w .settings) (at ms w .addressed) (w + 1))
-        → ((g i j : ℕ) → i < h .n → j < h .n → leads g (at ms i .settings) ≡ true → leads g (at ms j .settings) ≡ true → i ≡ j)
+        → ((i : ℕ) → i < w → PlacedAt ms i)
+        → ((i : ℕ) → w < i → i < h .n → UnplacedAt ms i)
+        → (w < h .n → EdgeAt (noted a (reachOf to (suc w) (entryAt h w)) m (entryAt h w)) ms w)
+        → Alone (h .n) ms
         → Invariant t ms
     stepped fits walked held front back edge alone =
         let n = k .nodes in
@@ -97,5 +86,5 @@ module _ (h : Session) (ns ms : List Node) (inv : Invariant h ns) (line : Addres
           back = λ i l e. back i (omega (arith, k .walk)) (omega arith);
           edge = λ l. rw (k .walk, k .entry w (omega (arith, k .walk))) (edge (omega (arith, k .walk)));
           alone = λ g i j l e. alone g i j (omega arith) (omega arith);
-          fit = λ i l. rw (x .settings i (omega (arith, inv .long))) (fit-if fits (x .whole i && acts line ns i) i (omega arith));
+          fit = λ i l. rw (x .settings i (omega (arith, inv .long))) (fit-if fits (x .did i) i (omega arith));
         }

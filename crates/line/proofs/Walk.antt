@@ -1,14 +1,14 @@
 -- The walk: "next" and "ask".
 use Prim.Native.Nat.{ℕ, zero, suc, _+_, _≤_, _<_}
-use mathlib.Core.Bool.{Bool, true, false, cond, _&&_, false≢true}
+use mathlib.Core.Bool.{Bool, true, false, cond, true≢false, false≢true}
 use mathlib.Core.List.{List}
 use mathlib.Core.Logic.{inl, inr}
 use mathlib.Core.Path.{_≡_, refl, sym, ap, subst, _∙_}
 use native.Mathlib.Omega.{arith}
 use lib.Dec.{eqb, ltb}
-use borrow.Author.Tests.{ltb-true, ltb-false, eqb-true, eqb-false, eq-eqb, ne-eqb}
+use borrow.Author.Tests.{ltb-true, ltb-false, eqb-true, eqb-false, eq-eqb}
 use Rattle.wire.specs.declared.address.Address.{Address}
-use Rattle.wire.proofs.Choice.{both}
+use Rattle.wire.proofs.Choice.{both, same}
 use Rattle.command.specs.declared.Place.{Place}
 use Rattle.command.specs.declared.Command.{Command}
 use Rattle.command.specs.declared.Command.the-variants.{SetAddress, Nop}
@@ -19,7 +19,7 @@ use Rattle.node.specs.declared.state.Settings.{Settings}
 use Rattle.node.specs.declared.state.Node.{Node}
 use Rattle.node.specs.Setting.{place}
 use Rattle.node.specs.Effect.{settingsAfter}
-use Rattle.chain.specs.One.{answers}
+use Rattle.chain.specs.One.{meant, answers}
 use Rattle.chain.specs.Chain.{hearsAt}
 use Rattle.entry.specs.declared.Entry.{Entry}
 use Rattle.entry.specs.declared.Reach.the-variants.{Misses, Hits}
@@ -30,11 +30,14 @@ use Rattle.session.specs.declared.Session.{Session}
 use Rattle.placing.specs.Placing.{givenPlace}
 use Rattle.session.specs.Session.{nodeAt}
 use Rattle.line.specs.History.{gives, asks}
-use Rattle.line.proofs.Bools.{and-false}
 use Rattle.line.proofs.Closing.{entryAt, walked, settles, Concluded}
-use Rattle.line.proofs.Sound.{Sound, fits-test, Told, noted-sound}
-use Rattle.line.proofs.Invariant.{at, Placed, Unplaced, Edge, leads, Invariant, acts, Exchanged}
-use Rattle.line.proofs.Step.{clear-whole, held-step, shrinks, stepped}
+use Rattle.line.proofs.Sound.{Sound, told, fits-test, hits-test, noted-sound}
+use Rattle.line.proofs.Invariant.{at, PlacedAt, Unplaced, UnplacedAt, Edge, EdgeAt, Alone, Invariant, acts, deaf, Answered, Exchanged}
+use Rattle.line.proofs.Step.{held-step, shrinks, stepped}
+
+-- what "next" sends
+abbrev given : Session → Command
+given h = SetAddress (givenPlace (h .walk + 1))
 
 -- nothing was learnt and nothing changed
 module _ (h t : Session) (ns ms : List Node) (inv : Invariant h ns) (line to : Address) (c : Command) (a : Answer) (x : Exchanged line c ns ms a)
@@ -53,103 +56,103 @@ module _ (h t : Session) (ns ms : List Node) (inv : Invariant h ns) (line to : A
       (λ g i j l m p q. inv .alone g i j l m (rw (settings i l) at p) (rw (settings j m) at q))
 
 -- the walk is at a node that it has not come to
-module _ (h : Session) (ns : List Node) (inv : Invariant h ns) (l : h .walk < h .n) (u : Unplaced (at ns (h .walk) .settings) (at ns (h .walk) .addressed)) where
-  unplaced : (i : ℕ) → h .walk ≤ i → i < h .n → (b : Bool) → eqb (h .walk) i ≡ b → Unplaced (at ns i .settings) (at ns i .addressed)
+module _ (h : Session) (ns : List Node) (inv : Invariant h ns) (l : h .walk < h .n) (u : UnplacedAt ns (h .walk)) where
+  unplaced : (i : ℕ) → h .walk ≤ i → i < h .n → (b : Bool) → eqb (h .walk) i ≡ b → UnplacedAt ns i
   unplaced i m p true e = rw (eqb-true (h .walk) i e) at u
   unplaced i m p false e = let d = eqb-false (h .walk) i e in inv .back i (omega arith) p
 
-  -- it is the first that hears, and the last
-  first : (i : ℕ) → i ≡ h .walk → hearsAt ns i ≡ true
-  first zero e = refl
-  first (suc j) e = rw (inv .front j (omega arith) .0) refl
-
+  -- it is the last that hears
   last : (i : ℕ) → h .walk < i → i < h .n → hearsAt ns i ≡ false
   last zero m p = absurd (omega arith)
   last (suc j) m p =
-      rw (unplaced j (omega arith) (omega arith) (eqb (h .walk) j) refl .0, unplaced (suc j) (omega arith) p (eqb (h .walk) (suc j)) refl .0) refl
+      deaf ns j (unplaced j (omega arith) (omega arith) (eqb (h .walk) j) refl .0) (unplaced (suc j) (omega arith) p (eqb (h .walk) (suc j)) refl .0)
 
-  -- so "next" reaches it alone
-  acts-next : (i : ℕ) → i < h .n → (b c : Bool) → ltb i (h .walk) ≡ b → eqb (h .walk) i ≡ c → acts (nodeAt 0) ns i ≡ eqb (h .walk + 1) (suc i)
-  acts-next i p true c e f =
-      let q : i < h .walk = ltb-true i (h .walk) e in
-      rw (inv .front i q .1, ne-eqb 0 (suc i) (λ z. omega arith), and-false (hearsAt ns i), ne-eqb (h .walk + 1) (suc i) (λ z. omega arith)) refl
-  acts-next i p false true e f =
-      let q : h .walk ≡ i = eqb-true (h .walk) i f in
-      rw (first i (sym q), unplaced i (omega arith) p true f .1, eq-eqb (h .walk + 1) (suc i) (omega arith)) refl
-  acts-next i p false false e f =
-      let d = eqb-false (h .walk) i f in
-      let q : h .walk < i = omega (arith, ltb-false i (h .walk) e) in
-      rw (last i q p, ne-eqb (h .walk + 1) (suc i) (λ z. omega arith)) refl
+  -- so nobody else acts on "next": those before it have their addresses
+  only : (i : ℕ) → i < h .n → acts (nodeAt 0) ns i ≡ true → h .walk ≡ i
+  only i p e = go (ltb i (h .walk)) (eqb (h .walk) i) refl refl
+    where
+      called : (hearsAt ns i ≡ true) × (meant (nodeAt 0) (at ns i) ≡ true)
+      called = both (hearsAt ns i) (meant (nodeAt 0) (at ns i)) e
 
-  only : (i : ℕ) → i < h .n → acts (nodeAt 0) ns i ≡ eqb (h .walk + 1) (suc i)
-  only i p = acts-next i p (ltb i (h .walk)) (eqb (h .walk) i) refl refl
+      go : (b c : Bool) → ltb i (h .walk) ≡ b → eqb (h .walk) i ≡ c → h .walk ≡ i
+      go true c f k = absurd (omega (arith, inv .front i (ltb-true i (h .walk) f) .1, eqb-true 0 (at ns i .settings .place .address .0) (called .1)))
+      go false true f k = eqb-true (h .walk) i k
+      go false false f k =
+          let d = eqb-false (h .walk) i k in
+          absurd (false≢true (sym (last i (omega (arith, ltb-false i (h .walk) f)) p) ∙ called .0))
 
-  module _ (ms : List Node) (t : Session) (a : Answer) (x : Exchanged (nodeAt 0) (SetAddress (givenPlace (h .walk + 1))) ns ms a) where
-    settings-next : (i : ℕ) → i < h .n → (b : Bool) → x .whole i ≡ b
-        → at ms i .settings ≡ cond (b && eqb (h .walk + 1) (suc i)) (settingsAfter (SetAddress (givenPlace (h .walk + 1))) (at ns i .settings)) (at ns i .settings)
-    settings-next i p b e = rw (x .settings i (omega (arith, inv .long)), e, only i p) refl
-
-    addressed-next : (i : ℕ) → i < h .n → (b : Bool) → x .whole i ≡ b → at ms i .addressed ≡ cond (b && eqb (h .walk + 1) (suc i)) true (at ns i .addressed)
-    addressed-next i p b e = rw (x .addressed i (omega (arith, inv .long)), e, only i p) refl
+  module _ (ms : List Node) (t : Session) (a : Answer) (x : Exchanged (nodeAt 0) (given h) ns ms a) where
+    at-walk : (i : ℕ) → i < h .n → x .did i ≡ true → h .walk ≡ i
+    at-walk i p e = only i p (x .acting i e)
 
     -- every other node is as it was
-    other : (i : ℕ) → (h .walk ≡ i → ⊥) → eqb (h .walk + 1) (suc i) ≡ false
-    other i z = ne-eqb (h .walk + 1) (suc i) (λ e. z (omega arith))
+    undone : (i : ℕ) → i < h .n → (h .walk ≡ i → ⊥) → x .did i ≡ false
+    undone i p z = go (x .did i) refl
+      where
+        go : (b : Bool) → x .did i ≡ b → b ≡ false
+        go true e = absurd (z (at-walk i p e))
+        go false e = refl
 
     settings-other : (i : ℕ) → i < h .n → (h .walk ≡ i → ⊥) → at ms i .settings ≡ at ns i .settings
-    settings-other i p z = settings-next i p (x .whole i) refl ∙ rw (other i z, and-false (x .whole i)) refl
+    settings-other i p z = rw (x .settings i (omega (arith, inv .long)), undone i p z) refl
 
     addressed-other : (i : ℕ) → i < h .n → (h .walk ≡ i → ⊥) → at ms i .addressed ≡ at ns i .addressed
-    addressed-other i p z = addressed-next i p (x .whole i) refl ∙ rw (other i z, and-false (x .whole i)) refl
+    addressed-other i p z = rw (x .addressed i (omega (arith, inv .long)), undone i p z) refl
 
-    self : eqb (h .walk + 1) (suc (h .walk)) ≡ true
-    self = eq-eqb (h .walk + 1) (suc (h .walk)) (omega arith)
+    -- the node itself, by whether it acted
+    settings-walk : (b : Bool) → x .did (h .walk) ≡ b → at ms (h .walk) .settings ≡ cond b (settingsAfter (given h) (at ns (h .walk) .settings)) (at ns (h .walk) .settings)
+    settings-walk b e = rw (x .settings (h .walk) (omega (arith, inv .long)), e) refl
+
+    addressed-walk : (b : Bool) → x .did (h .walk) ≡ b → at ms (h .walk) .addressed ≡ cond b true (at ns (h .walk) .addressed)
+    addressed-walk b e = rw (x .addressed (h .walk) (omega (arith, inv .long)), e) refl
+
+    -- a clear answer is its own
+    did-walk : a ≡ Clear → x .did (h .walk) ≡ true
+    did-walk e = let o = x .clear e in ap (x .did) (at-walk (o .index) (omega (arith, o .inside, inv .long)) (o .acted)) ∙ o .acted
 
     -- nobody comes to lead
-    alone-next : (g i j : ℕ) → i < h .n → j < h .n → leads g (at ms i .settings) ≡ true → leads g (at ms j .settings) ≡ true → i ≡ j
-    alone-next = shrinks h ns ms inv (nodeAt 0) (SetAddress (givenPlace (h .walk + 1))) a x (λ g i e. absurd (false≢true e))
+    alone-next : Alone (h .n) ms
+    alone-next = shrinks h ns ms inv (nodeAt 0) (given h) a x (λ g i e. absurd (false≢true e))
 
-    held-next : (i : ℕ) → i < h .n
-        → Sound (noted a (reachOf (nodeAt (h .walk + 1)) (suc i) (entryAt h i)) (SetAddress (givenPlace (h .walk + 1))) (entryAt h i)) (at ms i .settings)
-    held-next i p = held-step h ns ms inv (nodeAt 0) (SetAddress (givenPlace (h .walk + 1))) a x (nodeAt (h .walk + 1)) i p (rw (only i p) (fits-test (eqb (h .walk + 1) (suc i))))
+    held-next : (i : ℕ) → i < h .n → Sound (noted a (reachOf (nodeAt (h .walk + 1)) (suc i) (entryAt h i)) (given h) (entryAt h i)) (at ms i .settings)
+    held-next i p =
+        held-step h ns ms inv (nodeAt 0) (given h) a x (nodeAt (h .walk + 1)) i p
+        (fits-test (eqb (h .walk + 1) (suc i)) (x .did i) (λ e. eq-eqb (h .walk + 1) (suc i) (omega (arith, at-walk i p e))))
+        (λ e r. let j : i ≡ h .walk = omega (arith, eqb-true (h .walk + 1) (suc i) (hits-test (eqb (h .walk + 1) (suc i)) r)) in ap (x .did) j ∙ did-walk e)
 
     -- confirmed: it has its address
-    front-if : (i : ℕ) → i < h .walk + 1 → (b : Bool) → eqb (h .walk + 1) (suc i) ≡ b
-        → Placed (suc i) (cond b (settingsAfter (SetAddress (givenPlace (h .walk + 1))) (at ns i .settings)) (at ns i .settings)) (cond b true (at ns i .addressed))
-    front-if i p true e = (refl, eqb-true (h .walk + 1) (suc i) e)
-    front-if i p false e = let d = eqb-false (h .walk + 1) (suc i) e in inv .front i (omega arith)
+    front-next : a ≡ Clear → (i : ℕ) → i < h .walk + 1 → (b : Bool) → eqb (h .walk) i ≡ b → PlacedAt ms i
+    front-next e i p true f =
+        subst (λ (j : ℕ). PlacedAt ms j) (eqb-true (h .walk) i f)
+        (rw (settings-walk true (did-walk e), addressed-walk true (did-walk e)) (refl, omega arith))
+    front-next e i p false f =
+        let d = eqb-false (h .walk) i f in
+        rw (settings-other i (omega arith) d, addressed-other i (omega arith) d) (inv .front i (omega arith))
 
-    next-clear : a ≡ Clear → fitsOf (SetAddress (givenPlace (h .walk + 1))) ≡ true
-        → Concluded h a (nodeAt (h .walk + 1)) (SetAddress (givenPlace (h .walk + 1))) (h .walk + 1) t → Invariant t ms
+    next-clear : a ≡ Clear → fitsOf (given h) ≡ true → Concluded h a (nodeAt (h .walk + 1)) (given h) (h .walk + 1) t → Invariant t ms
     next-clear e fits k =
-        let c : Command = SetAddress (givenPlace (h .walk + 1)) in
-        let whole = clear-whole h ns ms inv (nodeAt 0) c a x e in
-        stepped h ns ms inv (nodeAt 0) c a x t (nodeAt (h .walk + 1)) c (h .walk + 1) k fits (omega arith) held-next
-        (λ i p. rw (settings-next i (omega arith) true (whole i), addressed-next i (omega arith) true (whole i)) (front-if i p (eqb (h .walk + 1) (suc i)) refl))
+        stepped h ns ms inv (nodeAt 0) (given h) a x t (nodeAt (h .walk + 1)) (given h) (h .walk + 1) k fits (omega arith) held-next
+        (λ i p. front-next e i p (eqb (h .walk) i) refl)
         (λ i p q. rw (settings-other i q (λ z. omega arith), addressed-other i q (λ z. omega arith)) (inv .back i (omega arith) q))
         (λ p. inl (rw (settings-other (h .walk + 1) p (λ z. omega arith), addressed-other (h .walk + 1) p (λ z. omega arith)) (inv .back (h .walk + 1) (omega arith) p)))
         alone-next
 
-    next-marked : a ≡ Marked → fitsOf (SetAddress (givenPlace (h .walk + 1))) ≡ true
-        → Concluded h a (nodeAt (h .walk + 1)) (SetAddress (givenPlace (h .walk + 1))) (h .walk) t → Invariant t ms
+    next-marked : a ≡ Marked → fitsOf (given h) ≡ true → Concluded h a (nodeAt (h .walk + 1)) (given h) (h .walk) t → Invariant t ms
     next-marked e fits k =
-        still-step h t ns ms inv (nodeAt 0) (nodeAt (h .walk + 1)) (SetAddress (givenPlace (h .walk + 1))) a x k (λ i. rw e refl)
-        (λ i p. settings-next i p false (x .marked e i)) (λ i p. addressed-next i p false (x .marked e i)) fits
+        still-step h t ns ms inv (nodeAt 0) (nodeAt (h .walk + 1)) (given h) a x k (λ i. rw e refl)
+        (λ i p. rw (x .settings i (omega (arith, inv .long)), x .marked e i) refl) (λ i p. rw (x .addressed i (omega (arith, inv .long)), x .marked e i) refl) fits
 
     -- unconfirmed: it may have it, and the host is in doubt
-    edge-if : (b : Bool) → x .whole (h .walk) ≡ b
-        → Edge (doubted (SetAddress (givenPlace (h .walk + 1))) (entryAt h (h .walk))) (at ms (h .walk) .settings) (at ms (h .walk) .addressed) (h .walk + 1)
-    edge-if true e = inr (refl, ap (λ (z : Settings). z .place) (settings-next (h .walk) l true e) ∙ rw self refl, addressed-next (h .walk) l true e ∙ rw self refl)
-    edge-if false e = inl (rw (settings-next (h .walk) l false e, addressed-next (h .walk) l false e) u)
+    edge-if : (b : Bool) → x .did (h .walk) ≡ b → EdgeAt (doubted (given h) (entryAt h (h .walk))) ms (h .walk)
+    edge-if true e = inr (refl, ap (λ (z : Settings). z .place) (settings-walk true e), addressed-walk true e)
+    edge-if false e = inl (rw (settings-walk false e, addressed-walk false e) u)
 
-    next-silent : a ≡ Silent → fitsOf (SetAddress (givenPlace (h .walk + 1))) ≡ true
-        → Concluded h a (nodeAt (h .walk + 1)) (SetAddress (givenPlace (h .walk + 1))) (h .walk) t → Invariant t ms
+    next-silent : a ≡ Silent → fitsOf (given h) ≡ true → Concluded h a (nodeAt (h .walk + 1)) (given h) (h .walk) t → Invariant t ms
     next-silent e fits k =
-        let c : Command = SetAddress (givenPlace (h .walk + 1)) in
-        stepped h ns ms inv (nodeAt 0) c a x t (nodeAt (h .walk + 1)) c (h .walk) k fits (inv .walked) held-next
+        stepped h ns ms inv (nodeAt 0) (given h) a x t (nodeAt (h .walk + 1)) (given h) (h .walk) k fits (inv .walked) held-next
         (λ i p. rw (settings-other i (omega arith) (λ z. omega arith), addressed-other i (omega arith) (λ z. omega arith)) (inv .front i p))
         (λ i p q. rw (settings-other i q (λ z. omega arith), addressed-other i q (λ z. omega arith)) (inv .back i p q))
-        (λ p. rw (e, self) (edge-if (x .whole (h .walk)) refl))
+        (λ p. rw (e, eq-eqb (h .walk + 1) (suc (h .walk)) (omega arith)) (edge-if (x .did (h .walk)) refl))
         alone-next
 
 -- "next" is due only where the place is known, so the walk has not come to the node
@@ -158,84 +161,79 @@ not-come e x b n (inl u) k = u
 not-come e x b n (inr p) k = absurd (false≢true (sym (p .0) ∙ k))
 
 pub next-step : (h t : Session) (ns ms : List Node) (inv : Invariant h ns) → (l : h .walk < h .n) → knows (entryAt h (h .walk)) place ≡ true
-    → (a : Answer) → Exchanged (nodeAt 0) (SetAddress (givenPlace (h .walk + 1))) ns ms a → fitsOf (SetAddress (givenPlace (h .walk + 1))) ≡ true
-    → Concluded h a (nodeAt (h .walk + 1)) (SetAddress (givenPlace (h .walk + 1))) (walked (gives (h .walk + 1)) a (h .walk)) t → Invariant t ms
+    → (a : Answer) → Exchanged (nodeAt 0) (given h) ns ms a → fitsOf (given h) ≡ true
+    → Concluded h a (nodeAt (h .walk + 1)) (given h) (walked (gives (h .walk + 1)) a (h .walk)) t → Invariant t ms
 next-step h t ns ms inv l known a x fits k = go a x k
   where
-    u : Unplaced (at ns (h .walk) .settings) (at ns (h .walk) .addressed)
+    u : UnplacedAt ns (h .walk)
     u = not-come (entryAt h (h .walk)) (at ns (h .walk) .settings) (at ns (h .walk) .addressed) (h .walk + 1) (inv .edge l) known
 
-    go : (a : Answer) → Exchanged (nodeAt 0) (SetAddress (givenPlace (h .walk + 1))) ns ms a
-        → Concluded h a (nodeAt (h .walk + 1)) (SetAddress (givenPlace (h .walk + 1))) (walked (gives (h .walk + 1)) a (h .walk)) t → Invariant t ms
+    go : (a : Answer) → Exchanged (nodeAt 0) (given h) ns ms a
+        → Concluded h a (nodeAt (h .walk + 1)) (given h) (walked (gives (h .walk + 1)) a (h .walk)) t → Invariant t ms
     go Clear x k = next-clear h ns inv l u ms t Clear x refl fits k
     go Marked x k = next-marked h ns inv l u ms t Marked x refl fits k
     go Silent x k = next-silent h ns inv l u ms t Silent x refl fits k
 
 -- ---- "ask"
 
-same : {A : Type 0} (b : Bool) (x : A) → cond b x x ≡ x
-same true x = refl
-same false x = refl
-
--- a node that has a place already
+-- a node that has a place already is given it again: nothing changes
 again : (x : Settings) (p : Place) → x .place ≡ p → settingsAfter (SetAddress p) x ≡ x
-again x p e i = record { place = sym e i; mask = x .mask; outputs = x .outputs; pwm = x .pwm; held = x .held; timer = x .timer }
+again x p e = ap (λ (q : Place). settingsAfter (SetAddress q) x) (sym e)
+
+-- before the node that the walk is at has its new address nobody has it, and so nobody answers
+pub nobody : (h : Session) (ns : List Node) (inv : Invariant h ns) → h .walk < h .n → UnplacedAt ns (h .walk)
+    → {did : ℕ → Bool} → Answered (nodeAt (h .walk + 1)) ns did → ⊥
+nobody h ns inv l u o = go (ltb (o .index) (h .walk)) refl
+  where
+    inside : o .index < h .n
+    inside = omega (arith, o .inside, inv .long)
+
+    at-it : h .walk + 1 ≡ at ns (o .index) .settings .place .address .0
+    at-it = eqb-true (h .walk + 1) _ (both (hearsAt ns (o .index)) (answers (nodeAt (h .walk + 1)) (at ns (o .index))) (o .replies) .1)
+
+    go : (b : Bool) → ltb (o .index) (h .walk) ≡ b → ⊥
+    go true f = let q = ltb-true (o .index) (h .walk) f in omega (arith, at-it, inv .front (o .index) q .1)
+    go false f = let q = ltb-false (o .index) (h .walk) f in omega (arith, at-it, unplaced h ns inv l u (o .index) q inside (eqb (h .walk) (o .index)) refl .1)
 
 module _ (h t : Session) (ns ms : List Node) (inv : Invariant h ns) (l : h .walk < h .n) (a : Answer) (x : Exchanged (nodeAt (h .walk + 1)) Nop ns ms a) where
   settings-ask : (i : ℕ) → i < h .n → at ms i .settings ≡ at ns i .settings
-  settings-ask i p = x .settings i (omega (arith, inv .long)) ∙ same (x .whole i && acts (nodeAt (h .walk + 1)) ns i) (at ns i .settings)
+  settings-ask i p = x .settings i (omega (arith, inv .long)) ∙ same (x .did i) (at ns i .settings)
 
   addressed-ask : (i : ℕ) → i < h .n → at ms i .addressed ≡ at ns i .addressed
-  addressed-ask i p = x .addressed i (omega (arith, inv .long)) ∙ same (x .whole i && acts (nodeAt (h .walk + 1)) ns i) (at ns i .addressed)
+  addressed-ask i p = x .addressed i (omega (arith, inv .long)) ∙ same (x .did i) (at ns i .addressed)
 
-  -- the node that answers has the new address: it is the one that the walk is at
-  answering : a ≡ Clear → (i : ℕ) × (i < h .n) × (h .walk + 1 ≡ at ns i .settings .place .address .0)
-  answering e =
-      let o = x .clear e in
-      let p = both (hearsAt ns (o .index)) (answers (nodeAt (h .walk + 1)) (at ns (o .index))) (o .replies) in
-      (o .index, omega (arith, o .inside, inv .long), eqb-true (h .walk + 1) _ (p .1))
-
-  nobody : Unplaced (at ns (h .walk) .settings) (at ns (h .walk) .addressed) → (i : ℕ) → i < h .n → h .walk + 1 ≡ at ns i .settings .place .address .0
-      → (b : Bool) → ltb i (h .walk) ≡ b → ⊥
-  nobody u i p e true f = let q = ltb-true i (h .walk) f in omega (arith, inv .front i q .1)
-  nobody u i p e false f = let q = ltb-false i (h .walk) f in omega (arith, unplaced h ns inv l u i q p (eqb (h .walk) i) refl .1)
-
-  found : a ≡ Clear → Edge (entryAt h (h .walk)) (at ns (h .walk) .settings) (at ns (h .walk) .addressed) (h .walk + 1)
+  found : a ≡ Clear → EdgeAt (entryAt h (h .walk)) ns (h .walk)
       → (at ns (h .walk) .settings .place ≡ givenPlace (h .walk + 1)) × (at ns (h .walk) .addressed ≡ true)
-  found e (inl u) = let o = answering e in absurd (nobody u (o .0) (o .1) (o .2) (ltb (o .0) (h .walk)) refl)
+  found e (inl u) = absurd (nobody h ns inv l u (x .clear e))
   found e (inr p) = (p .1, p .2)
 
   module _ (f : (at ns (h .walk) .settings .place ≡ givenPlace (h .walk + 1)) × (at ns (h .walk) .addressed ≡ true)) where
     settings-found : (i : ℕ) → i < h .n → (b : Bool) → eqb (h .walk + 1) (suc i) ≡ b
-        → at ms i .settings ≡ cond b (settingsAfter (SetAddress (givenPlace (h .walk + 1))) (at ns i .settings)) (at ns i .settings)
+        → at ms i .settings ≡ cond b (settingsAfter (given h) (at ns i .settings)) (at ns i .settings)
     settings-found i p true e =
         let q : h .walk ≡ i = omega (arith, eqb-true (h .walk + 1) (suc i) e) in
         settings-ask i p ∙ sym (again (at ns i .settings) (givenPlace (h .walk + 1)) (subst (λ (j : ℕ). at ns j .settings .place ≡ givenPlace (h .walk + 1)) q (f .0)))
     settings-found i p false e = settings-ask i p
 
-    held-found : (i : ℕ) → i < h .n
-        → Sound (noted Clear (reachOf (nodeAt (h .walk + 1)) (suc i) (entryAt h i)) (SetAddress (givenPlace (h .walk + 1))) (entryAt h i)) (at ms i .settings)
+    held-found : (i : ℕ) → i < h .n → Sound (noted Clear (reachOf (nodeAt (h .walk + 1)) (suc i) (entryAt h i)) (given h) (entryAt h i)) (at ms i .settings)
     held-found i p =
-        rw (settings-found i p (eqb (h .walk + 1) (suc i)) refl)
-        (noted-sound Clear (reachOf (nodeAt (h .walk + 1)) (suc i) (entryAt h i)) (SetAddress (givenPlace (h .walk + 1))) (entryAt h i) (at ns i .settings) true
-        (eqb (h .walk + 1) (suc i)) (told (eqb (h .walk + 1) (suc i))) (fits-test (eqb (h .walk + 1) (suc i))) (inv .held i p))
-      where
-        told : (b : Bool) → Told Clear (cond b Hits Misses) true
-        told true = refl
-        told false = tt
+        let b = eqb (h .walk + 1) (suc i) in
+        rw (settings-found i p b refl)
+        (noted-sound Clear (cond b Hits Misses) (given h) (entryAt h i) (at ns i .settings) b (told Clear (cond b Hits Misses) b (λ e. absurd (true≢false (cc e))) (λ e. hits-test b))
+        (fits-test b b (λ e. e)) (inv .held i p))
 
-    front-found : (i : ℕ) → i < h .walk + 1 → (b : Bool) → eqb (h .walk) i ≡ b → Placed (suc i) (at ns i .settings) (at ns i .addressed)
+    front-found : (i : ℕ) → i < h .walk + 1 → (b : Bool) → eqb (h .walk) i ≡ b → PlacedAt ns i
     front-found i p true e =
         let q : h .walk ≡ i = eqb-true (h .walk) i e in
-        subst (λ (j : ℕ). Placed (suc j) (at ns j .settings) (at ns j .addressed)) q (f .1, ap (λ (z : Place). z .address .0) (f .0) ∙ omega arith)
+        subst (λ (j : ℕ). PlacedAt ns j) q (f .1, ap (λ (z : Place). z .address .0) (f .0) ∙ omega arith)
     front-found i p false e = let d = eqb-false (h .walk) i e in inv .front i (omega arith)
 
-    alone-ask : (g i j : ℕ) → i < h .n → j < h .n → leads g (at ms i .settings) ≡ true → leads g (at ms j .settings) ≡ true → i ≡ j
+    alone-ask : Alone (h .n) ms
     alone-ask g i j p q e d = inv .alone g i j p q (rw (settings-ask i p) at e) (rw (settings-ask j q) at d)
 
-    ask-clear : a ≡ Clear → Concluded h a (nodeAt (h .walk + 1)) (SetAddress (givenPlace (h .walk + 1))) (h .walk + 1) t → Invariant t ms
+    ask-clear : a ≡ Clear → Concluded h a (nodeAt (h .walk + 1)) (given h) (h .walk + 1) t → Invariant t ms
     ask-clear e k =
-        stepped h ns ms inv (nodeAt (h .walk + 1)) Nop a x t (nodeAt (h .walk + 1)) (SetAddress (givenPlace (h .walk + 1))) (h .walk + 1) k refl (omega arith)
+        stepped h ns ms inv (nodeAt (h .walk + 1)) Nop a x t (nodeAt (h .walk + 1)) (given h) (h .walk + 1) k refl (omega arith)
         (rw e held-found)
         (λ i p. rw (settings-ask i (omega arith), addressed-ask i (omega arith)) (front-found i p (eqb (h .walk) i) refl))
         (λ i p q. rw (settings-ask i q, addressed-ask i q) (inv .back i (omega arith) q))

@@ -54,11 +54,6 @@ abbrev pub counted : List Sent → List Counted
 counted [] = []
 counted (x ∷ past) = count (x .what) (x .heard) (counted past)
 
--- a command to a group
-abbrev pub toGroup : Address → Bool
-toGroup (address.Individual i) = false
-toGroup (address.Group g) = true
-
 -- a command to node k
 abbrev pub toNode : Address → ℕ → Bool
 toNode (address.Individual i) k = eqb (i .0) k
@@ -88,12 +83,17 @@ abbrev pub goes : Address → ℕ → Bool → Place → Bool
 goes (address.Individual i) k lost p = eqb (i .0) k
 goes (address.Group g) k lost p = lost || eqb (p .group .0) (g .0)
 
+-- "went to a group while the node's group was in doubt"
+abbrev pub groupLost : Address → Bool → Bool
+groupLost (address.Individual i) lost = false
+groupLost (address.Group g) lost = lost
+
 -- setting s of node k is in doubt; computed from the newest command that counts to the oldest
 abbrev pub inDoubt : List Counted → ℕ → Setting → Bool
 inDoubt [] k s = false
 inDoubt (x ∷ past) k s =
     cond (goes (x .to) k (inDoubt past k place) (lastPlace past k) && writes (effect (x .command) s))
-    (not (x .confirmed) || (toGroup (x .to) && inDoubt past k place) || copied (effect (x .command) s) (inDoubt past k))
+    (not (x .confirmed) || groupLost (x .to) (inDoubt past k place) || copied (effect (x .command) s) (inDoubt past k))
     (inDoubt past k s)
 
 -- The same in the demand's words. Command x, after what went before it, could have written setting s of node k
@@ -109,7 +109,7 @@ pub data Last (k : ℕ) (s : Setting) : List Counted → Counted → List Counte
 abbrev pub Unsure : Counted → List Counted → ℕ → Setting → Type 0
 Unsure x before k s =
     (x .confirmed ≡ false)
-    ⊎ ((toGroup (x .to) ≡ true) × (inDoubt before k place ≡ true))
+    ⊎ (groupLost (x .to) (inDoubt before k place) ≡ true)
     ⊎ (copied (effect (x .command) s) (inDoubt before k) ≡ true)
 
 -- "exactly if the last command that could have written it was unconfirmed, .."

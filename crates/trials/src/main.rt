@@ -1,21 +1,14 @@
 // Trials: one line in, one line out, so that any outside program can hold the proved code to its own reading of the paper.
-// The first byte of a line says what is tried; docs/TRIALS.md has the forms.
-mod calls;
-mod delivery;
-mod layout;
-mod packets;
-mod parts;
-mod state;
-
+// The first byte of a line says what is tried; docs/TRIALS.md has the forms. Each topic of lines is a crate of its own, and has a row here.
 use buffer::Built;
+use fields::Answer;
+use fields::byte;
+use fields::malformed;
 use hex::Parsed;
 use libc::STDIN_FILENO;
 use libc::STDOUT_FILENO;
-use parts::Answer;
-use parts::malformed;
-use parts::numbered;
 use session::Session;
-ghost use Prim.Native.Nat.{_≤_};
+use tryhost::Tried;
 ghost use mathlib.Core.Path.{_≡_};
 ghost use lib.ListN.{length};
 
@@ -23,10 +16,10 @@ ghost use lib.ListN.{length};
 const MOST: usize = 65536;
 
 // Room for the longest input, 64 KiB, and one byte more, which tells that it is longer.
-fn input_room() -> [u8; 65537]
+fn input_room() -> [u8; MOST + 1]
     ensures { λ r. ⌜ 65537 ≡ length r ⌝ }
 {
-    [0; 65537]
+    [0; MOST + 1]
 }
 
 // Room for the bytes of the longest line: each has two digits and a space or the line's end behind it.
@@ -36,18 +29,11 @@ fn bytes_room() -> [u8; 21846]
     [0; 21846]
 }
 
-// The largest lent buffer. It is filled with 55.
-fn lent_room() -> [u8; 64]
-    ensures { λ r. ⌜ 64 ≡ length r ⌝ }
-{
-    [0x55; 64]
-}
-
 // Room for the line of the longest answer.
-fn line_room() -> [u8; 3267]
+fn line_room() -> [u8; 3 * fields::MOST_BYTES]
     ensures { λ r. ⌜ 3267 ≡ length r ⌝ }
 {
-    [0; 3267]
+    [0; 3 * fields::MOST_BYTES]
 }
 
 // Writes an answer as a line.
@@ -63,54 +49,25 @@ fn show(a: Answer) {
 }
 
 // What a line is answered that leaves the session as it is.
-fn answer(s: Session, kind: u8, args: &[u8], lent: &mut [u8]) -> Answer {
+fn answer(kind: u8, args: &[u8]) -> Answer {
     match kind {
-        0x10 => packets::build(args, lent),
-        0x11 => packets::read(args),
-        0x12 => packets::read_status(args),
-        0x20 => delivery::deliver(args, lent),
-        0x37 => state::show(s, args),
+        0x10 => trypacket::build(args),
+        0x11 => trypacket::read(args),
+        0x12 => trypacket::read_status(args),
+        0x20 => trychain::deliver(args),
         _ => malformed(),
     }
 }
 
-// Makes the call of a line and shows its number and the lent buffer; the session after it.
-fn try_call(s: Session, kind: u8, args: &[u8], lent: &mut [u8]) -> Session {
-    let step = calls::call(s, kind, args, lent);
-    let how = step.end;
-    show(numbered(how.number(), lent));
-    step.session
-}
-
-// The room that a line lends, of so many bytes that there are to lend: its first byte, where its kind has a room.
-fn room(kind: u8, args: &[u8], most: usize) -> usize
-    ensures { λ r. ⌜ r ≤ most ⌝ }
-{
-    let room = match kind {
-        0x10 | 0x20 | 0x31..=0x34 => parts::byte(args, 0),
-        _ => 0,
-    };
-    if room as usize <= most {
-        return room as usize;
+// What a line makes: its answer, and the session after it.
+fn attempt(s: Session, kind: u8, args: &[u8]) -> Tried {
+    match kind {
+        0x30..=0x38 => tryhost::attempt(s, kind, args),
+        _ => Tried {
+            answer: answer(kind, args),
+            session: s,
+        },
     }
-    0
-}
-
-// Tries a line of this kind with the buffer that it lends; the session after it.
-fn try_kind(s: Session, kind: u8, args: &[u8], lent: &mut [u8]) -> Session {
-    if calls::is_call(kind, args) {
-        return try_call(s, kind, args, lent);
-    }
-    show(answer(s, kind, args, lent));
-    s
-}
-
-// The session after a line of these bytes.
-fn try_bytes(s: Session, bytes: &[u8], buffer: &mut [u8]) -> Session {
-    let kind = parts::byte(bytes, 0);
-    let args = text::rest(bytes, 1);
-    let room = room(kind, args, buffer.len());
-    try_kind(s, kind, args, &mut buffer[0..room])
 }
 
 // Reads a line's bytes; how many. A line that is not of the form has none: it is answered as an empty line is.
@@ -123,10 +80,13 @@ fn read_line(line: &[u8], bytes: &mut [u8]) -> usize {
 
 // Tries a line; the session after it.
 fn try_line(s: Session, line: &[u8]) -> Session {
-    let mut bytes = bytes_room();
-    let n = read_line(line, &mut bytes);
-    let mut buffer = lent_room();
-    try_bytes(s, text::first(&bytes, n), &mut buffer)
+    let mut room = bytes_room();
+    let n = read_line(line, &mut room);
+    let bytes = text::first(&room, n);
+    let tried = attempt(s, byte(bytes, 0), text::rest(bytes, 1));
+    let answer = tried.answer;
+    show(answer);
+    tried.session
 }
 
 // Tries each line, with one session from line to line.

@@ -1,0 +1,72 @@
+// ORDER: `kind target command-byte data..`, with as many data bytes as the command byte counts.
+use command::Command;
+use command::Reading;
+use fields::Answer;
+use fields::byte;
+use text::rest;
+use wire::Address;
+use wire::Group;
+use wire::Individual;
+ghost use Prim.Native.Nat.{_≤_};
+
+// How many bytes the order at the start of s has.
+pub(crate) fn order_length(s: &[u8]) -> usize
+    ensures { λ r. ⌜ r ≤ 18 ⌝ }
+{
+    3 + (byte(s, 2) / 16) as usize
+}
+
+// The command of s, where it is an order.
+fn read_order(s: &[u8]) -> Reading {
+    if s.len() < 3 {
+        return Reading::Other;
+    }
+    if s.len() != order_length(s) {
+        return Reading::Other;
+    }
+    if 1 < byte(s, 0) {
+        return Reading::Other;
+    }
+    command::read(byte(s, 2) % 16, rest(s, 3))
+}
+
+// Whether s is an order.
+pub fn is_order(s: &[u8]) -> bool {
+    match read_order(s) {
+        Reading::Known(_) => true,
+        Reading::Other => false,
+    }
+}
+
+// The command of an order.
+pub fn read_command(s: &[u8]) -> Command {
+    match read_order(s) {
+        Reading::Known(command) => command,
+        Reading::Other => Command::Nop,
+    }
+}
+
+// Whom it is for: a node (kind 00) or a group (kind 01).
+pub fn read_target(s: &[u8]) -> Address {
+    let number = byte(s, 1);
+    if byte(s, 0) < 1 {
+        return Address::Individual(Individual(number));
+    }
+    Address::Group(Group(number))
+}
+
+// 00 for a node, 01 for a group.
+fn target_kind(to: Address) -> u8 {
+    match to {
+        Address::Individual(_) => 0,
+        Address::Group(_) => 1,
+    }
+}
+
+// With an order more: the command byte is a packet's third, and its data bytes follow. The packet's address is no part of what is shown.
+pub(crate) fn put_order(a: Answer, to: Address, c: Command) -> Answer {
+    let mut packet = [0; 19];
+    command::build(Address::Individual(Individual(0)), c, &mut packet);
+    a.put_all(&[target_kind(to), to.byte(), packet[2]])
+        .put_all(packet::data_part(&packet))
+}

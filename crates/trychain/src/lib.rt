@@ -1,0 +1,59 @@
+// The line of `trials` that tries the chain: 20 delivers a packet to node records that are lent for that line alone.
+use chain::Delivery;
+use fields::Answer;
+use fields::byte;
+use fields::filled;
+use fields::is_lending;
+use fields::lent;
+use fields::malformed;
+use fields::nothing;
+use layout::are_nodes;
+use layout::behind_nodes;
+use layout::put_nodes;
+use layout::read_nodes;
+use table::Delivered;
+use table::Table;
+use text::rest;
+
+// The length of the reply: 0 for none, a collision or a refusal.
+fn reply_length(d: Delivery) -> u8 {
+    match d {
+        Delivery::Silent => 0,
+        Delivery::Replied(n) => { if n < 256 { n as u8 } else { 0 } }
+        Delivery::Collision => 0,
+        Delivery::Refused(_) => 0,
+    }
+}
+
+// `NN len buffer NODE*n`.
+fn put_delivered(d: Delivered, lent: &[u8], count: usize) -> Answer {
+    let answer = d.answer;
+    let table = d.table;
+    let a = nothing()
+        .put(answer.number())
+        .put(reply_length(answer))
+        .put_all(lent);
+    let nodes = table.nodes;
+    put_nodes(a, nodes, count)
+}
+
+// A packet behind so many node records.
+fn deliver_to(records: &[u8], count: usize, lent: &mut [u8]) -> Answer {
+    let nodes = read_nodes(records);
+    let packet = behind_nodes(records, count);
+    let delivered = table::deliver(Table { nodes, count }, packet, lent);
+    put_delivered(delivered, lent, count)
+}
+
+// `room n NODE*n packet..`: `NN len buffer NODE*n`.
+pub fn deliver(args: &[u8]) -> Answer {
+    let count = byte(args, 1) as usize;
+    let records = rest(args, 2);
+    if is_lending(args, 2) {
+        if are_nodes(records, count) {
+            let mut buffer = filled();
+            return deliver_to(records, count, lent(args, &mut buffer));
+        }
+    }
+    malformed()
+}

@@ -25,9 +25,9 @@ use Rattle.node.specs.Effect.{settingsAfter}
 use Rattle.node.specs.Node.{acted, addressedAfter}
 use Rattle.reply.specs.Reply.{statusByte}
 use Rattle.reply.proofs.Replies.{reply-judged, altered-silent}
-use Rattle.chain.specs.One.{heardAs}
-use Rattle.chain.specs.Chain.{after, Said, silence, clash, said}
-use Rattle.chain.proofs.Meaning.{length-after, after-at, spoilt-stays, Replying, said-says}
+use Rattle.survey.specs.One.{heardAs}
+use Rattle.survey.specs.Chain.{after, Said, silence, clash, said}
+use Rattle.survey.proofs.Meaning.{length-after, after-at, spoilt-stays, Replying, said-says}
 use Rattle.line.specs.Line.{Arrives, Nothing, Returns, nodesAfter, saidAfter, heardIn}
 use Rattle.line.specs.Line as line
 use Rattle.line.proofs.Invariant.{at, acts, Answered, Exchanged}

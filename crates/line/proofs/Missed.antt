@@ -1,6 +1,6 @@
 -- A Set Address that never arrived: "ask" alone is sent, nobody replies as the new node would, and all stays as it was.
 use Prim.Native.Nat.{ℕ, _+_, _-_, _<_}
-use mathlib.Core.Bool.{Bool, true, false, cond, _&&_, true≢false}
+use mathlib.Core.Bool.{Bool, true, false, _&&_, true≢false}
 use mathlib.Core.List.{List}
 use mathlib.Core.Logic.{inl, inr}
 use mathlib.Core.Option.{Option}
@@ -9,7 +9,7 @@ use native.Mathlib.Omega.{arith}
 use lib.Dec.{eqb, ltb}
 use lib.ListN.{length, take}
 use borrow.Author.Tests.{eqb-true}
-use Rattle.wire.proofs.Choice.{both}
+use Rattle.wire.proofs.Choice.{same, both}
 use Rattle.wire.specs.declared.address.Address.{Address}
 use Rattle.command.specs.declared.Command.{Command}
 use Rattle.command.specs.declared.Command.the-variants.{Nop}
@@ -17,8 +17,8 @@ use Rattle.status.specs.declared.Answer.{Answer}
 use Rattle.status.specs.declared.Answer.the-variants.{Clear, Marked, Silent}
 use Rattle.node.specs.declared.state.Node.{Node}
 use Rattle.node.specs.Setting.{place}
-use Rattle.chain.specs.One.{answers}
-use Rattle.chain.specs.Chain.{hearsAt}
+use Rattle.survey.specs.One.{answers}
+use Rattle.survey.specs.Chain.{hearsAt}
 use Rattle.entry.specs.Entry.{knows, nop}
 use Rattle.session.specs.declared.Exchange.the-variants.{Idle}
 use Rattle.session.specs.declared.Session.{Session}
@@ -44,10 +44,6 @@ use Rattle.line.proofs.Peace.{Own, own, no-clash}
 use Rattle.line.proofs.Delivery.{exchanged}
 use Rattle.line.proofs.Course.{when-idle, holds}
 
-same : {A : Type 0} (t : Bool) (a : A) → cond t a a ≡ a
-same true a = refl
-same false a = refl
-
 module _ (h : Session) (ns : List Node) (inv : Invariant h ns) (l : h .walk < h .n) (u : at ns (h .walk) .addressed ≡ false) where
   -- the node that the walk is at isn't at its new address
   elsewhere : at ns (h .walk) .settings .place .address .0 ≡ h .walk + 1 → ⊥
@@ -68,7 +64,7 @@ module _ (h : Session) (ns : List Node) (inv : Invariant h ns) (l : h .walk < h 
       b = omega (arith, a .inside, inv .long)
 
       e : h .walk + 1 ≡ at ns i .settings .place .address .0
-      e = eqb-true (h .walk + 1) _ (both (hearsAt ns i) (answers (nodeAt (h .walk + 1)) (at ns i)) (a .replies) .1)
+      e = eqb-true (h .walk + 1) _ (both (hearsAt ns i) (answers (nodeAt (h .walk + 1)) (at ns i .settings .place)) (a .replies) .1)
 
       go : Own h ns i → ⊥
       go (inl p) = let f : i ≡ h .walk = omega (arith, e) in elsewhere (subst (λ (j : ℕ). at ns j .settings .place .address .0 ≡ h .walk + 1) f (sym e))

@@ -22,7 +22,7 @@ use Rattle.node.specs.Setting.{place}
 use Rattle.node.specs.Effect.{effect, writes, settingsAfter}
 use Rattle.node.specs.Node.{addressedAfter}
 use Rattle.node.proofs.Laws.{addressed-stays, unwritten-stays}
-use Rattle.chain.specs.Chain.{hearsAt}
+use Rattle.survey.specs.Chain.{hearsAt}
 use Rattle.entry.specs.declared.Entry.{Entry}
 use Rattle.entry.specs.declared.Reach.the-variants.{Misses, Hits, May}
 use Rattle.entry.specs.Entry.{knows, shows}

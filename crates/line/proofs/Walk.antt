@@ -19,8 +19,8 @@ use Rattle.node.specs.declared.state.Settings.{Settings}
 use Rattle.node.specs.declared.state.Node.{Node}
 use Rattle.node.specs.Setting.{place}
 use Rattle.node.specs.Effect.{settingsAfter}
-use Rattle.chain.specs.One.{answers}
-use Rattle.chain.specs.Chain.{hearsAt}
+use Rattle.survey.specs.One.{answers}
+use Rattle.survey.specs.Chain.{hearsAt}
 use Rattle.entry.specs.declared.Entry.{Entry}
 use Rattle.entry.specs.declared.Reach.the-variants.{Misses, Hits}
 use Rattle.entry.specs.Entry.{knows, doubted, noted, nop}
@@ -192,7 +192,7 @@ module _ (h t : Session) (ns ms : List Node) (inv : Invariant h ns) (l : h .walk
   answering : a ≡ Clear → (i : ℕ) × (i < h .n) × (h .walk + 1 ≡ at ns i .settings .place .address .0)
   answering e =
       let o = x .clear e in
-      let p = both (hearsAt ns (o .index)) (answers (nodeAt (h .walk + 1)) (at ns (o .index))) (o .replies) in
+      let p = both (hearsAt ns (o .index)) (answers (nodeAt (h .walk + 1)) (at ns (o .index) .settings .place)) (o .replies) in
       (o .index, omega (arith, o .inside, inv .long), eqb-true (h .walk + 1) _ (p .1))
 
   nobody : Unplaced (at ns (h .walk) .settings) (at ns (h .walk) .addressed) → (i : ℕ) → i < h .n → h .walk + 1 ≡ at ns i .settings .place .address .0

@@ -25,3 +25,7 @@ numberOf Closed = 12
 -- "several nodes replied (not a refusal)"
 abbrev pub collision : ℕ
 collision = 13
+
+-- "1 to 31 nodes"
+abbrev pub mostNodes : ℕ
+mostNodes = 31

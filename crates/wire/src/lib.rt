@@ -10,3 +10,6 @@ pub use address::Individual;
 pub use refusal::COLLISION;
 pub use refusal::DONE;
 pub use refusal::Refusal;
+
+// The longest chain.
+pub const MOST_NODES: usize = 31;

@@ -5,11 +5,11 @@ use native.Mathlib.Nat.{not-suc-le-zero, le-of-suc-le-suc}
 use mathlib.Core.List.{List, [], _∷_}
 use lib.ListN.{length, getD, List·getD-eq-default}
 use Rattle.node.specs.declared.state.Node.{Node}
-use Rattle.chain.specs.declared.survey.Incoming.{Incoming}
-use Rattle.chain.specs.declared.survey.Plan.{Plan}
-use Rattle.chain.specs.declared.survey.Seen.{Seen}
-use Rattle.chain.specs.declared.survey.Survey.{Survey}
-use Rattle.chain.specs.Survey.{glanceOf, glancesOf, start, planOf, speakerOf, surveyWith, surveyAlone, surveyOf, nobody}
+use Rattle.survey.specs.declared.plan.Incoming.{Incoming}
+use Rattle.survey.specs.declared.plan.Plan.{Plan}
+use Rattle.survey.specs.declared.plan.Seen.{Seen}
+use Rattle.survey.specs.declared.plan.Survey.{Survey}
+use Rattle.survey.specs.Survey.{glanceOf, glancesOf, start, planOf, speakerOf, surveyWith, surveyAlone, surveyOf, nobody}
 
 module _ (c : Incoming) where
   -- the first i nodes are seen

@@ -12,13 +12,8 @@ use denote.Triple.Entry.{Args, Res}
 use denote.Triple.Clauses.{AtExit}
 use denote.Ref.{now}
 use Rattle.wire.specs.Promise.{Lending}
-use Rattle.wire.proofs.OneResult.{OneResult}
-use Rattle.chain.specs.Delivery.{Lent, deliveredOn, deliveryNumber}
-use Rattle.chain.proofs.lent.deliver as deliver
-use Rattle.chain.proofs.decision.Delivery.number.Reads as delivery-number
-
-pub delivery-number-unique : OneResult delivery-number.Post
-delivery-number-unique κs a r r′ s s′ p q = p ∙ sym q
+use Rattle.survey.specs.Delivery.{Lent, deliveredOn, deliveryNumber}
+use Rattle.chain.proofs.deliver as deliver
 
 module _ (κs : Lfts (deliver.ended .signature .lifetimes)) (a : Args (deliver.ended .signature) κs) where
   -- what the contract says of the result r and the parameters e at exit

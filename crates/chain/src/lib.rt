@@ -1,11 +1,74 @@
-// The bench model of the chain: who hears a packet, who acts on it, who replies.
+// The chain as node records side by side in a table that the caller lends.
 // Promised: for every lent table, packet and reply buffer the paper's number, the nodes as the packet leaves them and the one reply; any number but 0 and 13 changes nothing.
-// Left to others: what a node makes of a packet and sends back (node, reply), and who keeps the nodes (table).
-mod decision;
-mod lent;
-mod one;
-mod sets;
-mod survey;
+// Left to others: who hears, acts and replies (survey), and who keeps the nodes (table).
+use node::Node;
+use survey::Decided;
+pub use survey::Delivery;
+use survey::Incoming;
+use survey::Survey;
+ghost use mathlib.Core.Path.{_≡_};
+ghost use Rattle.wire.specs.Promise.{Lending};
+ghost use Rattle.survey.specs.Survey.{surveyOf};
+ghost use Rattle.survey.specs.Decision.{reachOf, visited};
+ghost use Rattle.survey.specs.Delivery.{deliveredOn, deliveryNumber};
 
-pub use decision::Delivery;
-pub use lent::deliver;
+// A look at every node, in order, and then at the one that replies.
+fn survey_all(table: &[Node], incoming: Incoming) -> Survey
+    ensures { λ r. ⌜ r ≡ surveyOf incoming (now (table .entry)) ⌝ }
+{
+    let n = table.len();
+    let mut seen = survey::start();
+    let mut i: usize = 0;
+    while i < n {
+        seen = survey::glance(seen, table[i], incoming);
+        i += 1;
+    }
+    let p = survey::plan_of(incoming, seen, n);
+    let k = survey::speaker(p);
+    if k < n {
+        return survey::survey_with(p, table[k]);
+    }
+    survey::survey_alone(p)
+}
+
+// How far a set of nodes reaches along a table of n.
+fn reach(n: usize) -> usize
+    ensures { λ r. ⌜ r ≡ reachOf n ⌝ }
+{
+    if 32 < n {
+        return 32;
+    }
+    n
+}
+
+// Every node that is to act acts once.
+fn act_all(table: &mut [Node], decided: Decided)
+    ensures { λ _. ⌜ now (table .exit) ≡ visited (decided .heard) (decided .acting) (now (table .entry)) ⌝ }
+{
+    let n = reach(table.len());
+    let mut rest = decided.acting;
+    let mut i = survey::first(rest);
+    while i < n {
+        table[i] = survey::act(table[i], decided);
+        rest = survey::without_first(rest);
+        i = survey::first(rest);
+    }
+}
+
+// The answer alone.
+fn answer_of(d: Decided) -> Delivery
+    ensures { λ r. ⌜ r ≡ d .answer ⌝ }
+{
+    d.answer
+}
+
+// A packet to the chain. 6 comes first, then 1, 2 and 3 as the packet is read, then 5, before any node acts.
+pub fn deliver(table: &mut [Node], packet: &[u8], reply: &mut [u8]) -> Delivery
+    ensures { λ r. ⌜ Lending deliveryNumber r (record { nodes = now (table .exit); reply = now (reply .exit) }) (deliveredOn (now (table .entry)) (now (packet .entry)) (now (reply .entry))) ⌝ }
+{
+    let incoming = survey::hear(packet);
+    let seen = survey_all(table, incoming);
+    let decided = survey::decide(seen, reply);
+    act_all(table, decided);
+    answer_of(decided)
+}

@@ -13,7 +13,7 @@ use Rattle.command.specs.declared.Command.{Command}
 use Rattle.status.specs.declared.Answer.{Answer}
 use Rattle.node.specs.declared.state.Bench.{Bench}
 use Rattle.node.specs.declared.state.Node.{Node}
-use Rattle.chain.specs.Chain.{blank}
+use Rattle.survey.specs.Chain.{blank}
 use Rattle.session.specs.declared.Session.{Session}
 use Rattle.line.specs.World.{benched}
 use Rattle.line.proofs.Invariant.{at, Invariant, Exchanged}

@@ -19,16 +19,16 @@ use Rattle.heard.specs.declared.Heard.{Heard}
 use Rattle.reply.specs.Reply.{maskFor}
 use Rattle.mask.proofs.Counts.{size-range}
 use Rattle.reply.proofs.Replies.{reply-length}
-use Rattle.chain.specs.declared.decision.Delivery.{Delivery}
-use Rattle.chain.specs.One.{heardAs, sound}
-use Rattle.chain.specs.Chain.{after, Said, silence, reply, clash, said, allSound}
-use Rattle.chain.specs.Delivery.{Lent, valid, onSaid, deliveredTo, onFrame, deliveredOn}
-use Rattle.chain.proofs.Meaning.{said-says}
+use Rattle.survey.specs.declared.decision.Delivery.{Delivery}
+use Rattle.survey.specs.One.{heardAs, sound}
+use Rattle.survey.specs.Chain.{after, Said, silence, reply, clash, said, allSound}
+use Rattle.survey.specs.Delivery.{Lent, valid, onSaid, deliveredTo, onFrame, deliveredOn}
+use Rattle.survey.proofs.Meaning.{said-says}
 use Rattle.line.specs.Line.{takenBy, spokenBy}
 use Rattle.line.specs.Demand3.{heardBy, Delivers}
 use Rattle.line.proofs.Invariant.{at}
 
-all-sound : (l : List Node) → ((i : ℕ) → i < length l → sound (at l i) ≡ true) → allSound l ≡ true
+all-sound : (l : List Node) → ((i : ℕ) → i < length l → sound (at l i .settings .place) ≡ true) → allSound l ≡ true
 all-sound [] f = refl
 all-sound (n ∷ ns) f = rw (f 0 (omega arith)) (all-sound ns (λ i l. f (suc i) (omega arith)))
 
@@ -52,7 +52,7 @@ module _ (ns : List Node) (out : List ℕ) (room : T + 2 ≤ length out) where
   does-frame (framed.Whole to k n) q = does to (heardAs k q) (said to (heardAs k q) ns) refl
   does-frame (framed.Refused why) q = record { nodes = refl; says = refl }
 
-  pub delivers : 1 ≤ length ns → length ns ≤ 31 → ((i : ℕ) → i < length ns → sound (at ns i) ≡ true) → (q : List ℕ) → Delivers ns q out
+  pub delivers : 1 ≤ length ns → length ns ≤ 31 → ((i : ℕ) → i < length ns → sound (at ns i .settings .place) ≡ true) → (q : List ℕ) → Delivers ns q out
   unfolding deliveredOn valid
   delivers least few f q =
       let d = does-frame (frameOf q) q in

@@ -24,7 +24,7 @@ use Rattle.session.specs.Session.{endNumber, stepNumber}
 use Rattle.start.specs.Start.{poweredOf}
 use Rattle.start.proofs.Starting.{power-up-stays}
 use Rattle.reports.specs.Report.{concluded, finished}
-use Rattle.chain.specs.Chain.{Said, silence, reply, clash}
+use Rattle.survey.specs.Chain.{Said, silence, reply, clash}
 use Rattle.reports.proofs.Soundness.{finished-stays, report-stays}
 use Rattle.line.specs.History.{Sending, Sent, counted}
 use Rattle.line.specs.Call.{Call, calledOf, whatOf, resets, Typed}

@@ -21,8 +21,8 @@ use Rattle.node.specs.Effect.{settingsUp}
 use Rattle.node.specs.Node.{powerUp, nothing}
 use Rattle.reply.specs.Items.{itemBytes}
 use Rattle.reply.specs.Reply.{replyOf}
-use Rattle.chain.specs.One.{acts, replies, turned}
-use Rattle.chain.specs.Chain.{blank, after, replierIn, reply, said}
+use Rattle.survey.specs.One.{acts, replies, turned}
+use Rattle.survey.specs.Chain.{blank, after, replierIn, reply, said}
 use Rattle.entry.specs.declared.Entry.{Entry}
 use Rattle.entry.specs.Entry.{entryUp}
 use Rattle.ledger.specs.Ledger.{ledgerUp, leastOf, eachFrom, settled}

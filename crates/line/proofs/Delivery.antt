@@ -26,9 +26,9 @@ use Rattle.node.specs.Effect.{settingsAfter}
 use Rattle.node.specs.Node.{acted, addressedAfter}
 use Rattle.reply.specs.Reply.{statusByte}
 use Rattle.reply.proofs.Replies.{reply-judged, altered-silent}
-use Rattle.chain.specs.One.{heardAs, meant, answers}
-use Rattle.chain.specs.Chain.{after, Said, silence, clash, said, hearsAt, repliesAt}
-use Rattle.chain.proofs.Meaning.{length-after, after-at, spoilt-stays, Replying, said-says}
+use Rattle.survey.specs.One.{heardAs, meant, answers}
+use Rattle.survey.specs.Chain.{after, Said, silence, clash, said, hearsAt, repliesAt}
+use Rattle.survey.proofs.Meaning.{length-after, after-at, spoilt-stays, Replying, said-says}
 use Rattle.line.specs.Line.{Arrives, Nothing, Returns, nodesAfter, saidAfter, heardIn}
 use Rattle.line.specs.Line as line
 use Rattle.line.proofs.Invariant.{at, acts, Answered, Exchanged}
@@ -69,8 +69,8 @@ module _ (ns : List Node) (q : List ℕ) (to : Address) (k n : ℕ) (heard : Hea
 replies-acts : (to : Address) (ns : List Node) (i : ℕ) → repliesAt to ns i ≡ true → acts to ns i ≡ true
 replies-acts (address.Individual j) ns i e = e
 replies-acts (address.Group g) ns i e =
-    let p = both (hearsAt ns i) (answers (address.Group g) (at ns i)) e in
-    rw (p .0) (both (at ns i .settings .place .leader) (meant (address.Group g) (at ns i)) (p .1) .1)
+    let p = both (hearsAt ns i) (answers (address.Group g) (at ns i .settings .place)) e in
+    rw (p .0) (both (at ns i .settings .place .leader) (meant (address.Group g) (at ns i .settings .place)) (p .1) .1)
 
 module _ (to : Address) (c : Command) (ns : List Node) where
   -- it came whole

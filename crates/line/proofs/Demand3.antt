@@ -10,8 +10,8 @@ use borrow.Author.Tests.{not-false}
 use Rattle.command.specs.Build.{packetFor}
 use Rattle.node.specs.declared.state.Node.{Node}
 use Rattle.node.specs.Setting.{Setting}
-use Rattle.chain.specs.One.{sound}
-use Rattle.chain.specs.Chain.{clash}
+use Rattle.survey.specs.One.{sound}
+use Rattle.survey.specs.Chain.{clash}
 use Rattle.entry.specs.Entry.{knows}
 use Rattle.session.specs.declared.Session.{Session}
 use Rattle.session.specs.Session.{entryOf}

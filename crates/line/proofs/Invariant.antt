@@ -16,8 +16,8 @@ use Rattle.node.specs.declared.state.Node.{Node}
 use Rattle.node.specs.Setting.{place}
 use Rattle.node.specs.Effect.{settingsAfter}
 use Rattle.node.specs.Node.{addressedAfter}
-use Rattle.chain.specs.One.{meant}
-use Rattle.chain.specs.Chain.{blank, hearsAt, repliesAt}
+use Rattle.survey.specs.One.{meant}
+use Rattle.survey.specs.Chain.{blank, hearsAt, repliesAt}
 use Rattle.entry.specs.declared.Entry.{Entry}
 use Rattle.entry.specs.Entry.{knows}
 use Rattle.session.specs.declared.Session.{Session}
@@ -77,7 +77,7 @@ pub record Invariant (h : Session) (ns : List Node) : Type 0 where
 
 -- the node of index i acts on a command to this address, if it comes to it whole
 abbrev pub acts : Address → List Node → ℕ → Bool
-acts to ns i = hearsAt ns i && meant to (at ns i)
+acts to ns i = hearsAt ns i && meant to (at ns i .settings .place)
 
 -- of two neighbours that are not addressed the second doesn't hear
 pub deaf : (ns : List Node) (i : ℕ) → at ns i .addressed ≡ false → at ns (suc i) .addressed ≡ false → hearsAt ns (suc i) ≡ false

@@ -22,8 +22,8 @@ use Rattle.node.specs.Setting.{place}
 use Rattle.node.specs.Effect.{effect, writes, settingsAfter}
 use Rattle.node.specs.Node.{addressedAfter}
 use Rattle.node.proofs.Laws.{addressed-stays, unwritten-stays}
-use Rattle.chain.specs.One.{meant}
-use Rattle.chain.specs.Chain.{hearsAt}
+use Rattle.survey.specs.One.{meant}
+use Rattle.survey.specs.Chain.{hearsAt}
 use Rattle.entry.specs.declared.Reach.the-variants.{Misses, Hits, May}
 use Rattle.entry.specs.Entry.{knows, shows}
 use Rattle.ledger.specs.Ledger.{blank, reachOf, isLed}
@@ -46,10 +46,10 @@ module _ (h : Session) (ns : List Node) (inv : Invariant h ns) (ended : h .walk 
 
   -- whoever acts is the one node with that number, or in that group
   acts-node : (j : Individual) (i : ℕ) → i < h .n → acts (address.Individual j) ns i ≡ true → j .0 ≡ suc i
-  acts-node j i l e = eqb-true (j .0) _ (both (hearsAt ns i) (meant (address.Individual j) (at ns i)) e .1) ∙ numbered i l
+  acts-node j i l e = eqb-true (j .0) _ (both (hearsAt ns i) (meant (address.Individual j) (at ns i .settings .place)) e .1) ∙ numbered i l
 
   acts-group : (g : Group) (i : ℕ) → acts (address.Group g) ns i ≡ true → at ns i .settings .place .group .0 ≡ g .0
-  acts-group g i e = sym (eqb-true (g .0) _ (both (hearsAt ns i) (meant (address.Group g) (at ns i)) e .1))
+  acts-group g i e = sym (eqb-true (g .0) _ (both (hearsAt ns i) (meant (address.Group g) (at ns i .settings .place)) e .1))
 
   fits-group : (g : Group) (i : ℕ) → i < h .n → (b : Bool) → (b ≡ true → acts (address.Group g) ns i ≡ true) → (k : Bool) → knows (entryAt h i) place ≡ k
       → Fits (cond k (cond (eqb (shows (entryAt h i) place .group .0) (g .0)) Hits Misses) May) b

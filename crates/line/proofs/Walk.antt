@@ -19,8 +19,8 @@ use Rattle.node.specs.declared.state.Settings.{Settings}
 use Rattle.node.specs.declared.state.Node.{Node}
 use Rattle.node.specs.Setting.{place}
 use Rattle.node.specs.Effect.{settingsAfter}
-use Rattle.chain.specs.One.{meant, answers}
-use Rattle.chain.specs.Chain.{hearsAt}
+use Rattle.survey.specs.One.{meant, answers}
+use Rattle.survey.specs.Chain.{hearsAt}
 use Rattle.entry.specs.declared.Entry.{Entry}
 use Rattle.entry.specs.declared.Reach.the-variants.{Misses, Hits}
 use Rattle.entry.specs.Entry.{knows, doubted, noted, nop}
@@ -71,8 +71,8 @@ module _ (h : Session) (ns : List Node) (inv : Invariant h ns) (l : h .walk < h 
   only : (i : ℕ) → i < h .n → acts (nodeAt 0) ns i ≡ true → h .walk ≡ i
   only i p e = go (ltb i (h .walk)) (eqb (h .walk) i) refl refl
     where
-      called : (hearsAt ns i ≡ true) × (meant (nodeAt 0) (at ns i) ≡ true)
-      called = both (hearsAt ns i) (meant (nodeAt 0) (at ns i)) e
+      called : (hearsAt ns i ≡ true) × (meant (nodeAt 0) (at ns i .settings .place) ≡ true)
+      called = both (hearsAt ns i) (meant (nodeAt 0) (at ns i .settings .place)) e
 
       go : (b c : Bool) → ltb i (h .walk) ≡ b → eqb (h .walk) i ≡ c → h .walk ≡ i
       go true c f k = absurd (omega (arith, inv .front i (ltb-true i (h .walk) f) .1, eqb-true 0 (at ns i .settings .place .address .0) (called .1)))
@@ -189,7 +189,7 @@ nobody h ns inv l u o = go (ltb (o .index) (h .walk)) refl
     inside = omega (arith, o .inside, inv .long)
 
     at-it : h .walk + 1 ≡ at ns (o .index) .settings .place .address .0
-    at-it = eqb-true (h .walk + 1) _ (both (hearsAt ns (o .index)) (answers (nodeAt (h .walk + 1)) (at ns (o .index))) (o .replies) .1)
+    at-it = eqb-true (h .walk + 1) _ (both (hearsAt ns (o .index)) (answers (nodeAt (h .walk + 1)) (at ns (o .index) .settings .place)) (o .replies) .1)
 
     go : (b : Bool) → ltb (o .index) (h .walk) ≡ b → ⊥
     go true f = let q = ltb-true (o .index) (h .walk) f in omega (arith, at-it, inv .front (o .index) q .1)

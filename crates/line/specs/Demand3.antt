@@ -11,11 +11,11 @@ use Rattle.wire.specs.declared.address.Address.the-variants as address
 use Rattle.status.specs.Status.{T}
 use Rattle.node.specs.declared.state.Node.{Node}
 use Rattle.node.specs.Setting.{Setting, get}
-use Rattle.chain.specs.declared.decision.Delivery.{Delivery}
-use Rattle.chain.specs.declared.decision.Delivery.the-variants.{Silent, Replied, Collision, Refused}
-use Rattle.chain.specs.One.{answers}
-use Rattle.chain.specs.Chain.{blank, Said, silence, reply, clash}
-use Rattle.chain.specs.Delivery.{valid, deliveredOn}
+use Rattle.survey.specs.declared.decision.Delivery.{Delivery}
+use Rattle.survey.specs.declared.decision.Delivery.the-variants.{Silent, Replied, Collision, Refused}
+use Rattle.survey.specs.One.{answers}
+use Rattle.survey.specs.Chain.{blank, Said, silence, reply, clash}
+use Rattle.survey.specs.Delivery.{valid, deliveredOn}
 use Rattle.entry.specs.Entry.{knows, shows}
 use Rattle.session.specs.declared.Exchange.the-variants.{Idle}
 use Rattle.session.specs.Session.{entryOf}
@@ -45,7 +45,7 @@ Demand3 = (w : World) → Comes w → w .up ≡ true → w .host .exchange ≡ I
 -- from a power-up to the next Hard Reset, also in mid-exchange, at most one node really leads a group
 abbrev pub OneLeader : Type 0
 OneLeader = (w : World) → Comes w → w .up ≡ true → (g : Group) (j k : ℕ) → 1 ≤ j → j ≤ w .host .n → 1 ≤ k → k ≤ w .host .n
-    → answers (address.Group g) (nodeOf (w .nodes) j) ≡ true → answers (address.Group g) (nodeOf (w .nodes) k) ≡ true → j ≡ k
+    → answers (address.Group g) (nodeOf (w .nodes) j .settings .place) ≡ true → answers (address.Group g) (nodeOf (w .nodes) k .settings .place) ≡ true → j ≡ k
 
 -- so no two nodes reply at once to a packet sent in that time, whatever becomes of it on its way
 abbrev pub NoCollision : Type 0

@@ -10,8 +10,8 @@ use Rattle.status.specs.Status.{judged}
 use Rattle.status.specs.declared.Answer.{Answer}
 use Rattle.status.specs.declared.Answer.the-variants.{Silent}
 use Rattle.node.specs.declared.state.Node.{Node}
-use Rattle.chain.specs.One.{heardAs}
-use Rattle.chain.specs.Chain.{after, Said, silence, reply, clash, said}
+use Rattle.survey.specs.One.{heardAs}
+use Rattle.survey.specs.Chain.{after, Said, silence, reply, clash, said}
 use Rattle.session.specs.declared.Session.{Session}
 use Rattle.session.specs.declared.Step.{Step}
 use Rattle.reports.specs.Report.{finished, reportOf}

@@ -9,7 +9,7 @@ use Rattle.wire.specs.declared.refusal.Refusal.{Refusal}
 use Rattle.node.specs.declared.state.Bench.{Bench}
 use Rattle.node.specs.declared.state.Node.{Node}
 use Rattle.node.specs.Node.{powerUp}
-use Rattle.chain.specs.Chain.{blank}
+use Rattle.survey.specs.Chain.{blank}
 use Rattle.session.specs.declared.Session.{Session}
 use Rattle.session.specs.declared.End.{End}
 use Rattle.session.specs.declared.End.the-variants.{Done, Sent, Refused}

@@ -19,10 +19,10 @@ use Rattle.text.specs.declared.digits.Decimal.the-variants.{Value, Malformed}
 use Rattle.hex.proofs.Puts.{length-line}
 use Rattle.hex.proofs.Meaning.{read-written}
 use Rattle.table.specs.declared.Table.{Table}
-use Rattle.chain.specs.declared.decision.Delivery.{Delivery}
-use Rattle.chain.specs.declared.decision.Delivery.the-variants.{Silent, Replied, Collision, Refused}
-use Rattle.chain.specs.Delivery.{Lent}
-use Rattle.chain.proofs.Lengths.{deliver-brief, deliver-left}
+use Rattle.survey.specs.declared.decision.Delivery.{Delivery}
+use Rattle.survey.specs.declared.decision.Delivery.the-variants.{Silent, Replied, Collision, Refused}
+use Rattle.survey.specs.Delivery.{Lent}
+use Rattle.survey.proofs.Lengths.{deliver-brief, deliver-left}
 use Rattle.table.specs.Table.{nodesOf, keptBy, deliveredOf}
 use Rattle.script.specs.Answers.{numberEnd, answerLine}
 use Rattle.script.specs.Bench.{heard, onContent, stepOf, played, wrong, onCount, onDecimal, onLines, benchOf, startOf}

@@ -8,7 +8,7 @@ use lib.Dec.{ltb}
 use lib.ListN.{length, getD, take, drop, drop-of-length-le}
 use lib.Seq.{length-take-le, take-at, take-all}
 use borrow.Author.Tests.{ltb-true, ltb-false}
-use Rattle.chain.proofs.Lengths.{deliver-long}
+use Rattle.survey.proofs.Lengths.{deliver-long}
 use Rattle.table.specs.declared.Table.{Table}
 use Rattle.table.specs.Table.{nodesOf, keptBy, deliveredOf}
 use Rattle.hex.specs.Hex.{over}

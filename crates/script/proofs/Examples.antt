@@ -10,9 +10,9 @@ use Rattle.hex.specs.Digits.{digitOf, charOf}
 use Rattle.hex.specs.Hex.{hexRest, pairBy, pairOf}
 use Rattle.reply.specs.Items.{itemBytes}
 use Rattle.reply.specs.Reply.{replyOf}
-use Rattle.chain.specs.One.{acts, replies, turned, sound}
-use Rattle.chain.specs.Chain.{after, replierIn, said}
-use Rattle.chain.specs.Delivery.{valid, deliveredTo, deliveredOn}
+use Rattle.survey.specs.One.{acts, replies, turned, sound}
+use Rattle.survey.specs.Chain.{after, replierIn, said}
+use Rattle.survey.specs.Delivery.{valid, deliveredTo, deliveredOn}
 use Rattle.table.specs.Table.{deliveredOf}
 use Rattle.script.specs.Answers.{numberEnd}
 use Rattle.script.specs.Bench.{startOf, stepOf, played, onCount, benchOf}

@@ -21,8 +21,8 @@ use Rattle.text.specs.Lines.{newline}
 use Rattle.text.specs.Digits.{decimalOf}
 use Rattle.hex.specs.Hex.{hexLine}
 use Rattle.hex.proofs.Puts.{length-line}
-use Rattle.chain.specs.declared.decision.Delivery.{Delivery}
-use Rattle.chain.specs.declared.decision.Delivery.the-variants.{Silent, Replied, Collision, Refused}
+use Rattle.survey.specs.declared.decision.Delivery.{Delivery}
+use Rattle.survey.specs.declared.decision.Delivery.the-variants.{Silent, Replied, Collision, Refused}
 use Rattle.script.specs.Answers.{silentLine, collisionLine, refusedWord, numberEnd, refusedLine, answerLine}
 use Rattle.buffer.specs.Wrote.{Wrote}
 use Rattle.script.specs.Line.{far, Line}

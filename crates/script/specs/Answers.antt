@@ -7,8 +7,8 @@ use Rattle.wire.specs.declared.refusal.Refusal.{Refusal}
 use Rattle.text.specs.Lines.{newline}
 use Rattle.text.specs.Digits.{decimalOf}
 use Rattle.hex.specs.Hex.{hexLine}
-use Rattle.chain.specs.declared.decision.Delivery.{Delivery}
-use Rattle.chain.specs.declared.decision.Delivery.the-variants.{Silent, Replied, Collision, Refused}
+use Rattle.survey.specs.declared.decision.Delivery.{Delivery}
+use Rattle.survey.specs.declared.decision.Delivery.the-variants.{Silent, Replied, Collision, Refused}
 
 -- "-"
 abbrev pub silentLine : List ℕ

@@ -11,8 +11,8 @@ use lib.Seq.{take-all}
 use Rattle.wire.specs.Promise.{Outcome, Lending, lent}
 use Rattle.node.specs.declared.state.Node.{Node}
 use Rattle.node.proofs.state.Node.{the-field}
-use Rattle.chain.specs.declared.decision.Delivery.{Delivery}
-use Rattle.chain.specs.Delivery.{deliveredOn, deliveryNumber}
+use Rattle.survey.specs.declared.decision.Delivery.{Delivery}
+use Rattle.survey.specs.Delivery.{deliveredOn, deliveryNumber}
 use Rattle.table.specs.declared.Table.{Table}
 use Rattle.table.specs.declared.Delivered.{Delivered}
 use Rattle.table.specs.Table.{leastOf, deliveredWith, keptBy, deliveredNumber, deliveredOf}

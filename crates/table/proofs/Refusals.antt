@@ -5,7 +5,7 @@ use mathlib.Core.Path.{_≡_, ap, _∙_}
 use lib.ListN.{take-append-drop}
 use Rattle.wire.specs.Numbers.{done, collision}
 use Rattle.node.specs.declared.state.Node.{Node}
-use Rattle.chain.proofs.Refusals as chain
+use Rattle.survey.proofs.Refusals as survey
 use Rattle.table.specs.declared.Table.{Table}
 use Rattle.table.specs.Table.{nodesOf, withNodes, deliveredNumber, deliveredOf}
 
@@ -14,6 +14,6 @@ pub deliver-spares : (t : Table) (p out : List ℕ)
     → (deliveredOf t p out .answer .table ≡ t) × (deliveredOf t p out .left ≡ out)
 unfolding deliveredOf
 deliver-spares t p out d k =
-    let s = chain.deliver-spares (nodesOf t) p out d k in
+    let s = survey.deliver-spares (nodesOf t) p out d k in
     let whole = take-append-drop (t .count) (t .nodes) in
     (ap (λ (ns : List Node). withNodes t ns) (s .0) ∙ ap (λ (l : List Node). record { nodes = l; count = t .count }) whole, s .1)

@@ -6,8 +6,8 @@ use lib.Dec.{ltb}
 use lib.ListN.{take, drop}
 use Rattle.wire.specs.Promise.{Outcome}
 use Rattle.node.specs.declared.state.Node.{Node}
-use Rattle.chain.specs.declared.decision.Delivery.{Delivery}
-use Rattle.chain.specs.Delivery.{Lent, deliveredOn, deliveryNumber}
+use Rattle.survey.specs.declared.decision.Delivery.{Delivery}
+use Rattle.survey.specs.Delivery.{Lent, deliveredOn, deliveryNumber}
 use Rattle.table.specs.declared.Table.{Table}
 use Rattle.table.specs.declared.Delivered.{Delivered}
 

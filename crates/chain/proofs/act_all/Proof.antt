@@ -1,0 +1,351 @@
+-- `chain::act_all` meets its contract: a walk of its MIR, by hand, with a loop over the nodes of a set. The borrow is opened once, before the loop, and closed once, after it.
+-- Assumes nothing.
+use mathlib.Core.Path.{_≡_, refl, sym, _∙_, ap, subst}
+use Prim.Native.Nat.{ℕ, _*_, _≤_, _<_, _^_}
+use native.Mathlib.Omega.{arith}
+use mathlib.Core.Bool.{Bool, true, false}
+use mathlib.Core.List.{List, [], _∷_}
+use lib.ListN.{length, getD, set, length-set}
+use lib.Dec.{ltb}
+use borrow.Author.Tests.{lt-ltb, le-ltb, ltb-true, ltb-false}
+use lib.WfN.{Nat·lt-wfRel}
+use mir.Syntax.{w32}
+use mir.Val.{vunit}
+use base.Fml.{fobs, fauth, fbor}
+use types.Kit.{feqI}
+use types.Run.{store-raw, unit-lit, land-last}
+use denote.Builtin.{u32}
+use denote.Lend.{Held}
+use denote.Index.{elem-put, opens-slice, closes-slice}
+use denote.Steps.{peeks}
+use denote.Struct.Laws as LL
+use denote.Triple.Call.{calls-at-last}
+use denote.Triple.Walked.{stay-slice, goes-slice}
+use Rattle.chain.proofs.Walk.{URA, fullShare, Ty, named, mut, w64, tyInt, tyBool, tyUnit, tyPtr, loop, spell, Val, vbool, vint, vptr, SProp, ent, emp, ex, guard, via, fst∗, snd∗, id⊢, exI, exE, guardI, guardE, Lft, Share, GName, ftrue, flft, fobor, Memory, Routine, Heap, Out, Env, afterSeq, afterBlock, afterTurn, Wp, atReturn, WpFn, Tables, Atoms, sem, Fun, fact, givenOf, tables, tablesOf, loop-rule, fmOf, WpFn-mono}
+use Rattle.chain.proofs.Walk.{Given, Item, ‵, raw, _⊛_, some, later, ⋆, anyQ, atRet, _$_, _∵_, !, qed, by, move, keep, let-go, use0, use1, split, join, pick, rewrite, fsplit, fjoin, suffices, frame, await, done, look, look-raw, store, init, forget, stop, hop, fld, from, load, lit, of-opd, bin, assigns, stays, leaves-loop, and-then, no-more, land, returns, enter, alloc1, alloc0, params1, pass1, pass0, free1, free0, exec, whole, sub, look-in}
+use Rattle.chain.proofs.Walk.{owns, pureI, Is, shows, uint-makes, uint-lawful, usize, pointee, RefT, sliceVal, MutSlice, Room, heres, codedHoleys, at-slice, slice-vals, mut-slice-tells, row, place-is, elem-out, only, owned, facts, heard, nothing}
+use Rattle.chain.proofs.Walk.{plain, Contract, Triple, calls-at, onEntry, Meets, tripleOf, entered, cited, ensured, lasts, says, Stays, stay-none, walkOf, goes-none, Walks, ends-at, walked, walk-meets, yes}
+use Rattle.chain.proofs.Walk.{word, sliceIn, room, has, dies}
+use Rattle.node.specs.Node.{taken}
+use Rattle.node.specs.declared.state.Node.{Node}
+use Rattle.chain.proofs.Record as T
+use Rattle.survey.specs.declared.decision.Decided.{Decided}
+use Rattle.survey.specs.Sets.{firstOf, withoutFirst}
+use Rattle.survey.specs.Survey.{nobody}
+use Rattle.survey.specs.Decision.{reachOf, visited}
+use Rattle.survey.proofs.decision.Decided as D
+use Rattle.survey.proofs.decision.Decided.Laws as D′
+use Rattle.survey.proofs.Visiting.{below-reach, visit-next, visit-end, fewer}
+use Rattle.chain.proofs.reach as reach′
+use Rattle.chain.proofs.reach.Symbol as reach-def
+use Rattle.chain.proofs.reach.Symbol.{name as #chain·reach}
+use Rattle.chain.proofs.reach.Met as reach-thm
+use Rattle.survey.proofs.first as first′
+use Rattle.survey.proofs.first.Symbol as first-def
+use Rattle.survey.proofs.first.Symbol.{name as #survey·first}
+use Rattle.survey.proofs.first.Met as first-thm
+use Rattle.survey.proofs.without_first as without
+use Rattle.survey.proofs.without_first.Symbol as without-first-def
+use Rattle.survey.proofs.without_first.Symbol.{name as #survey·without-first}
+use Rattle.survey.proofs.without_first.Met as without-first-thm
+use Rattle.survey.proofs.act as act′
+use Rattle.survey.proofs.act.Symbol as act-def
+use Rattle.survey.proofs.act.Symbol.{name as #survey·act}
+use Rattle.survey.proofs.act.Met as act-thm
+use Rattle.chain.proofs.act_all.Key.{name as #chain·act-all}
+use Rattle.chain.proofs.act_all as act-all
+use Rattle.chain.proofs.act_all.Statement as stated
+use Rattle.chain.proofs.act_all.Code as code
+use Rattle.chain.proofs.act_all.Code.Mir as body
+
+abbrev stayed : Stays (act-all.ended .signature .params) (act-all.ended .kept)
+stayed = (stay-slice (0 ∷ []) tt (plain (λ _. T.the-row)), (stay-none (λ _. D.the-row) yes, tt))
+
+-- the types of the locals, as the MIR has them
+abbrev Nd : Ty
+Nd = spell body.table T.pointed
+
+abbrev Dc : Ty
+Dc = spell body.table (pointee (D.the-row .written))
+
+abbrev set32 : Ty
+set32 = tyInt w32
+
+abbrev slice : Ty
+slice = sliceIn 0 mut T.pointed
+
+-- the machine value of what is decided, with its fields in sight
+abbrev low : Decided → Val
+low c = LL.tuple-val D.the-type D′.the-laws (D.the-type .to c)
+
+module _ {M : Type 1} (𝓤 : URA M) (H : Heap 𝓤) (A : Atoms 𝓤) (mem : Memory → SProp 𝓤) (run : Routine → Fun 𝓤) where
+  -- the contracts that the proof cites
+  abbrev Reach : Contract 𝓤
+  Reach = tripleOf 𝓤 H A reach′.signature (reach′.spec 𝓤 H A mem run)
+
+  abbrev First : Contract 𝓤
+  First = tripleOf 𝓤 H A first′.signature (first′.spec 𝓤 H A mem run)
+
+  abbrev Without : Contract 𝓤
+  Without = tripleOf 𝓤 H A without.signature (without.spec 𝓤 H A mem run)
+
+  abbrev Act : Contract 𝓤
+  Act = tripleOf 𝓤 H A act′.signature (act′.spec 𝓤 H A mem run)
+
+module _ {M : Type 1} (𝓤 : URA M) (H : Heap 𝓤) (A : Atoms 𝓤) (W : Given 𝓤 H A) (mem : Memory → SProp 𝓤) (run : Routine → Fun 𝓤) (κ : Lft) (q : Share) (b o : ℕ) (γ : GName) (ys : List Node) (c : Decided) (gc : Is D.the-row c (low c ∷ [])) (room₀ : Room T.the-row (length ys)) where
+  abbrev n : ℕ
+  n = length ys
+
+  abbrev x : List Node → RefT (List Node)
+  x l = record { ptr = (b, o); name = γ; now = l }
+
+  abbrev v₁ : Val
+  v₁ = sliceVal (b, o) n
+
+  abbrev a : RefT (List Node) × (Decided × Unit {0})
+  a = (x ys, (c, tt))
+
+  abbrev vals : List Val × (List Val × Unit {0})
+  vals = (v₁ ∷ [], (low c ∷ [], tt))
+
+  abbrev Post : Val → SProp 𝓤
+  Post = walkOf 𝓤 H A act-all.ended stayed (act-all.clauses 𝓤 H A mem run) .post (((κ, tt), (q, tt), tt, a, vals), tt)
+
+  -- what the table is to be
+  abbrev final : List Node
+  final = visited (c .heard) (c .acting) ys
+
+  exits : (zs : List Node) → length zs ≡ n → zs ≡ final → ent 𝓤 (⋆ 𝓤 H A (‵ (fobs γ (codedHoleys T.the-row .code (heres T.the-row zs))) ∷ ‵ (fbor κ (Held T.the-row (length zs) b o γ)) ∷ ‵ (flft κ q) ∷ [])) (Post vunit)
+  exits zs e is =
+      qed W (‵ (fobs γ (codedHoleys T.the-row .code (heres T.the-row zs))) ∷ ‵ (fbor κ (Held T.the-row (length zs) b o γ)) ∷ ‵ (flft κ q) ∷ []) ∵
+      suffices ! _ (ends-at 𝓤 H A act-all.ended stayed (act-all.clauses 𝓤 H A mem run) W (((κ, tt), (q, tt), tt, a, vals), tt) vunit tt (zs, (tt, tt)) (e, (tt, tt))) $ says ! is $
+      nothing ! $ move ! (3 ∷ 0 ∷ []) $ join ! $
+      frame ! $ fjoin ! $ pureI ! (at-slice T.the-row (x zs) (vals .0)) (tt, (tt, tt)) (ap (λ (m : ℕ). sliceVal (b, o) m ∷ []) (sym e), subst (Room T.the-row) (sym e) room₀) $ fjoin ! $
+      nothing ! $ owned ! D.the-row (Is D.the-row) (LL.makes D.the-type D′.the-plain 𝓤 H A) c _ gc $ fjoin ! $ move ! (1 ∷ 0 ∷ []) $ fjoin ! $
+      feqI ! (List Val) (vunit ∷ []) (vunit ∷ []) refl $ move ! (1 ∷ 0 ∷ []) $ done !
+
+  -- ---- the calls: what each callee's triple binds outside, that the caller has what it asks, and what it is told
+  abbrev to-reach : Reach 𝓤 H A mem run .Ghost
+  to-reach = ((tt, tt, tt, (n, tt), (vint w64 n ∷ [], tt)), tt)
+
+  goes-reach : ent 𝓤 (emp 𝓤) (Reach 𝓤 H A mem run .pre to-reach)
+  goes-reach = qed W [] ∵ nothing ! $ owned ! usize (Is usize) (uint-makes 𝓤 H A W w64) n _ (refl, room₀ .0) $ fjoin ! $ nothing ! $ join ! $ frame ! $ done !
+
+  reach-of : (r : ℕ) → ent 𝓤 (ensured 𝓤 H A reach′.ended (reach′.clauses 𝓤 H A mem run) tt (n, tt) tt r) (fact 𝓤 (r ≡ reachOf n))
+  reach-of r = exE 𝓤 _ (λ ws. snd∗ 𝓤 (sem 𝓤 H A (lasts reach′.ended tt (n, tt) ws)) (fact 𝓤 (r ≡ reachOf n)))
+
+  abbrev to-first : ℕ → First 𝓤 H A mem run .Ghost
+  to-first s = ((tt, tt, tt, (s, tt), (vint w32 s ∷ [], tt)), tt)
+
+  goes-first : (s : ℕ) → s < 2 ^ 32 → ent 𝓤 (emp 𝓤) (First 𝓤 H A mem run .pre (to-first s))
+  goes-first s fits = qed W [] ∵ nothing ! $ owned ! u32 (Is u32) (uint-makes 𝓤 H A W w32) s _ (refl, fits) $ fjoin ! $ nothing ! $ join ! $ frame ! $ done !
+
+  first-of : (s r : ℕ) → ent 𝓤 (ensured 𝓤 H A first′.ended (first′.clauses 𝓤 H A mem run) tt (s, tt) tt r) (fact 𝓤 (r ≡ firstOf s))
+  first-of s r = exE 𝓤 _ (λ ws. snd∗ 𝓤 (sem 𝓤 H A (lasts first′.ended tt (s, tt) ws)) (fact 𝓤 (r ≡ firstOf s)))
+
+  abbrev to-without : ℕ → Without 𝓤 H A mem run .Ghost
+  to-without s = ((tt, tt, tt, (s, tt), (vint w32 s ∷ [], tt)), tt)
+
+  goes-without : (s : ℕ) → s < 2 ^ 32 → ent 𝓤 (emp 𝓤) (Without 𝓤 H A mem run .pre (to-without s))
+  goes-without s fits = qed W [] ∵ nothing ! $ owned ! u32 (Is u32) (uint-makes 𝓤 H A W w32) s _ (refl, fits) $ fjoin ! $ nothing ! $ join ! $ frame ! $ done !
+
+  without-of : (s r : ℕ) → ent 𝓤 (ensured 𝓤 H A without.ended (without.clauses 𝓤 H A mem run) tt (s, tt) tt r) (fact 𝓤 (r ≡ withoutFirst s))
+  without-of s r = exE 𝓤 _ (λ ws. snd∗ 𝓤 (sem 𝓤 H A (lasts without.ended tt (s, tt) ws)) (fact 𝓤 (r ≡ withoutFirst s)))
+
+  abbrev to-act : Node → Val → Act 𝓤 H A mem run .Ghost
+  to-act d v = ((tt, tt, tt, (d, (c, tt)), (v ∷ [], (low c ∷ [], tt))), tt)
+
+  goes-act : (d : Node) (v : Val) → Is T.the-row d (v ∷ []) → ent 𝓤 (emp 𝓤) (Act 𝓤 H A mem run .pre (to-act d v))
+  goes-act d v gd =
+      qed W [] ∵ nothing ! $ owned ! D.the-row (Is D.the-row) (LL.makes D.the-type D′.the-plain 𝓤 H A) c _ gc $ fjoin ! $ owned ! T.the-row (Is T.the-row) (T.makes 𝓤 H A) d _ gd $ fjoin ! $ nothing ! $ join ! $ frame ! $ done !
+
+  act-of : (d r : Node) → ent 𝓤 (ensured 𝓤 H A act′.ended (act′.clauses 𝓤 H A mem run) tt (d, (c, tt)) tt r) (fact 𝓤 (r ≡ taken (c .heard) d))
+  act-of d r = exE 𝓤 _ (λ ws. snd∗ 𝓤 (sem 𝓤 H A (lasts act′.ended tt (d, (c, tt)) ws)) (fact 𝓤 (r ≡ taken (c .heard) d)))
+
+  module _ (𝓣 : Tables 𝓤 H) (known-reach : Triple 𝓤 (𝓣 .C #chain·reach) (Reach 𝓤 H A mem run)) (known-first : Triple 𝓤 (𝓣 .C #survey·first) (First 𝓤 H A mem run)) (known-without-first : Triple 𝓤 (𝓣 .C #survey·without-first) (Without 𝓤 H A mem run)) (known-act : Triple 𝓤 (𝓣 .C #survey·act) (Act 𝓤 H A mem run)) (l₀ l₁ l₂ l₃ l₄ l₅ l₆ l₇ l₈ l₉ l₁₀ l₁₁ l₁₂ l₁₃ : ℕ) where
+    abbrev En : Env 𝓤 H
+    En = (tyUnit, l₀) ∷ (slice, l₁) ∷ (Dc, l₂) ∷ (word, l₃) ∷ (set32, l₄) ∷ (word, l₅) ∷ (word, l₆) ∷ (tyBool, l₇) ∷ (Nd, l₈) ∷ (word, l₉) ∷ (tyPtr, l₁₀) ∷ (Nd, l₁₁) ∷ (word, l₁₂) ∷ (tyPtr, l₁₃) ∷ []
+
+    -- the locals, of which 3 to 5 are as given and those after hold nothing, and G
+    abbrev Locs : Item 𝓤 → Item 𝓤 → Item 𝓤 → List (Item 𝓤) → List (Item 𝓤)
+    Locs i₃ i₄ i₅ G = room tyPtr l₁₃ ∷ dies tyPtr l₁₃ ∷ room word l₁₂ ∷ dies word l₁₂ ∷ room Nd l₁₁ ∷ dies Nd l₁₁ ∷ room tyPtr l₁₀ ∷ dies tyPtr l₁₀ ∷ room word l₉ ∷ dies word l₉ ∷ room Nd l₈ ∷ dies Nd l₈ ∷ room tyBool l₇ ∷ dies tyBool l₇ ∷ room word l₆ ∷ dies word l₆ ∷ i₅ ∷ dies word l₅ ∷ i₄ ∷ dies set32 l₄ ∷ i₃ ∷ dies word l₃ ∷ has Dc l₂ (low c) ∷ dies Dc l₂ ∷ has slice l₁ v₁ ∷ dies slice l₁ ∷ room tyUnit l₀ ∷ dies tyUnit l₀ ∷ G
+
+    abbrev Left : Out → SProp 𝓤
+    Left = afterBlock 𝓤 H (afterSeq 𝓤 H (Wp 𝓤 H (𝓣 .C) (𝓣 .Λ) En body.t-6 (atReturn 𝓤 H En Post)) (atReturn 𝓤 H En Post))
+
+    -- m is how far a set reaches along the table
+    module _ (m : ℕ) (reached : m ≡ reachOf n) where
+      -- the nodes of s are to act yet, and the table is ws
+      abbrev At : ℕ → List Node → List (Item 𝓤)
+      At s ws = ‵ (row T.the-row fullShare ws b o) ∷ Locs (has word l₃ (vint w64 m)) (has set32 l₄ (vint w32 s)) (has word l₅ (vint w64 (firstOf s)))
+          (‵ (fobor κ q (Held T.the-row n b o γ)) ∷ ‵ (fobs γ (codedHoleys T.the-row .code (heres T.the-row ys))) ∷ ‵ (fauth γ (codedHoleys T.the-row .code (heres T.the-row ys))) ∷ [])
+
+      abbrev Facts : ℕ → List Node → Type 0
+      Facts s ws = (s < 2 ^ 32) × (length ws ≡ n) × (visited (c .heard) s ws ≡ final)
+
+      abbrev Inv : ℕ → SProp 𝓤
+      Inv s = ex 𝓤 (λ (ws : List Node). guard 𝓤 (Facts s ws) (⋆ 𝓤 H A (At s ws)))
+
+      abbrev Below : ℕ → SProp 𝓤
+      Below s = ex 𝓤 (λ (t : ℕ). guard 𝓤 (t < s) (Inv t))
+
+      -- a turn
+      more : (s : ℕ) (ws : List Node) (X : SProp 𝓤) → s < 2 ^ 32 → firstOf s < m → firstOf s < n → firstOf s < length ws → ((r : Node) → r ≡ taken (c .heard) (getD ws (firstOf s) nobody) → ent 𝓤 (⋆ 𝓤 H A (At (withoutFirst s) (set ws (firstOf s) r))) X) → ent 𝓤 (⋆ 𝓤 H A (At s ws)) (Wp 𝓤 H (𝓣 .C) (𝓣 .Λ) En body.turn-1 (afterTurn 𝓤 H X Left))
+      unfolding afterTurn
+      more s ws X s-fits small inside within k =
+          qed W (At s ws) ∵ exec ! (𝓣 .C) (𝓣 .Λ) En body.turn-1 (anyQ (afterTurn 𝓤 H X Left)) $
+          assigns ! (bin ! (load ! (from ! (stop !)) (look ! 17 refl)) (load ! (from ! (stop !)) (look ! 21 refl)) tt) (from ! (stop !)) (init ! 13 refl (tt, tt)) $
+          rewrite ! 13 (λ (t : Bool). has tyBool l₇ (vbool t)) (lt-ltb (firstOf s) m small) refl $
+          stays ! (load ! (from ! (stop !)) (look ! 13 refl)) $
+          assigns ! (bin ! (load ! (from ! (stop !)) (look ! 17 refl)) (lit ! tt) (record { fits = place-fits })) (from ! (stop !)) (init ! 9 refl (tt, record { fits = place-fits })) $
+          assigns ! (bin ! (load ! (from ! (fld ! refl (stop !))) (look-in ! 25 (sub ! 0 refl (whole !)))) (load ! (from ! (stop !)) (look ! 9 refl)) tt) (from ! (stop !)) (init ! 7 refl (tt, tt)) $
+          rewrite ! 7 (λ (z : ℕ). has tyPtr l₁₀ (vptr b z)) (sym (place-is T.size o (firstOf s))) refl $
+          elem-out ! T.the-row (Is T.the-row) (shows 𝓤 H A T.the-row) T.vals T.tells fullShare ws (firstOf s) nobody b o within (λ g.
+          -- [table[i]; what it owns; the others; _13; …; _0; the open borrow; obs; auth]
+          assigns ! (of-opd ! (load ! (from ! (hop ! (look ! 9 refl) (stop !))) (look-raw ! 0 refl))) (from ! (stop !)) (init ! 7 refl (T.lawful 𝓤 H A W .typed (getD ws (firstOf s) nobody) _ g .0)) $
+          use0 W (raw (Act 𝓤 H A mem run .pre (to-act (getD ws (firstOf s) nobody) (T.lowered (getD ws (firstOf s) nobody))))) (goes-act (getD ws (firstOf s) nobody) (T.lowered (getD ws (firstOf s) nobody)) g) $
+          calls-at ! (fmOf 𝓤 H (W .laws) 𝓣) (Act 𝓤 H A mem run) known-act (to-act (getD ws (firstOf s) nobody) (T.lowered (getD ws (firstOf s) nobody))) (and-then ! (load ! (from ! (stop !)) (look ! 8 refl)) (and-then ! (load ! (from ! (stop !)) (look ! 26 refl)) (no-more !))) (λ v.
+          use1 W (later (some (λ (r : Node). (‵ ftrue ⊛ ‵ (T.the-row .own r (v ∷ []))) ⊛ raw (ensured 𝓤 H A act′.ended (act′.clauses 𝓤 H A mem run) tt (getD ws (firstOf s) nobody, (c, tt)) tt r)))) (id⊢ 𝓤 _) $ await ! tt $ pick ! (λ r.
+          split ! $ move ! (1 ∷ []) $ use1 W (raw (fact 𝓤 (r ≡ taken (c .heard) (getD ws (firstOf s) nobody)))) (act-of (getD ws (firstOf s) nobody) r) $ heard ! (r ≡ taken (c .heard) (getD ws (firstOf s) nobody)) (λ e. split ! $ let-go ! $
+          peeks ! T.the-row (Is T.the-row) (shows 𝓤 H A T.the-row) r (v ∷ []) (λ is.
+          -- [what r owns; table[i]; what it owns; the others; _13; …]
+          land ! (from ! (stop !)) (init ! 14 refl (T.lawful 𝓤 H A W .typed r _ is .0)) $
+          assigns ! (bin ! (load ! (from ! (stop !)) (look ! 20 refl)) (lit ! tt) (record { fits = place-fits })) (from ! (stop !)) (init ! 6 refl (tt, record { fits = place-fits })) $
+          assigns ! (bin ! (load ! (from ! (fld ! refl (stop !))) (look-in ! 28 (sub ! 0 refl (whole !)))) (load ! (from ! (stop !)) (look ! 6 refl)) tt) (from ! (stop !)) (init ! 4 refl (tt, tt)) $
+          rewrite ! 4 (λ (z : ℕ). has tyPtr l₁₃ (vptr b z)) (sym (place-is T.size o (firstOf s))) refl $
+          assigns ! (of-opd ! (load ! (from ! (stop !)) (look ! 14 refl))) (from ! (hop ! (look ! 4 refl) (stop !))) (store-raw ! 1 refl (T.lawful 𝓤 H A W .typed r _ is .0)) $
+          move ! (2 ∷ []) $ let-go ! $ move ! (1 ∷ 0 ∷ []) $ elem-put ! T.the-row fullShare ws (firstOf s) r (v ∷ []) b o within $
+          -- [table; _13; …]: the set without its first, and the first of that
+          use0 W (raw (Without 𝓤 H A mem run .pre (to-without s))) (goes-without s s-fits) $
+          calls-at ! (fmOf 𝓤 H (W .laws) 𝓣) (Without 𝓤 H A mem run) known-without-first (to-without s) (and-then ! (load ! (from ! (stop !)) (look ! 20 refl)) (no-more !)) (λ v₂.
+          use1 W (later (some (λ (s₂ : ℕ). (‵ ftrue ⊛ ‵ (u32 .own s₂ (v₂ ∷ []))) ⊛ raw (ensured 𝓤 H A without.ended (without.clauses 𝓤 H A mem run) tt (s, tt) tt s₂)))) (id⊢ 𝓤 _) $ await ! tt $ pick ! (λ s₂.
+          split ! $ move ! (1 ∷ []) $ use1 W (raw (fact 𝓤 (s₂ ≡ withoutFirst s))) (without-of s s₂) $ heard ! (s₂ ≡ withoutFirst s) (λ e₂. split ! $ let-go ! $
+          facts ! u32 (Is u32) (shows 𝓤 H A u32) s₂ (v₂ ∷ []) (λ is₂.
+          land ! (from ! (stop !)) (store ! 19 refl (uint-lawful 𝓤 H A W w32 .typed s₂ _ is₂ .0)) $
+          rewrite ! 19 (λ (z : Val). has set32 l₄ z) (ap only (is₂ .0) ∙ ap (vint w32) e₂) refl $
+          use0 W (raw (First 𝓤 H A mem run .pre (to-first (withoutFirst s)))) (goes-first (withoutFirst s) (subst (λ (z : ℕ). z < 2 ^ 32) e₂ (is₂ .1))) $
+          calls-at-last ! (fmOf 𝓤 H (W .laws) 𝓣) (First 𝓤 H A mem run) known-first (to-first (withoutFirst s)) (and-then ! (load ! (from ! (stop !)) (look ! 20 refl)) (no-more !)) (λ v₃.
+          use1 W (later (some (λ (i₃ : ℕ). (‵ ftrue ⊛ ‵ (usize .own i₃ (v₃ ∷ []))) ⊛ raw (ensured 𝓤 H A first′.ended (first′.clauses 𝓤 H A mem run) tt (withoutFirst s, tt) tt i₃)))) (id⊢ 𝓤 _) $ await ! tt $ pick ! (λ i₃.
+          split ! $ move ! (1 ∷ []) $ use1 W (raw (fact 𝓤 (i₃ ≡ firstOf (withoutFirst s)))) (first-of (withoutFirst s) i₃) $ heard ! (i₃ ≡ firstOf (withoutFirst s)) (λ e₃. split ! $ let-go ! $
+          facts ! usize (Is usize) (shows 𝓤 H A usize) i₃ (v₃ ∷ []) (λ is₃.
+          land-last ! (from ! (stop !)) (store ! 17 refl (uint-lawful 𝓤 H A W w64 .typed i₃ _ is₃ .0)) $
+          rewrite ! 17 (λ (z : Val). has word l₅ z) (ap only (is₃ .0) ∙ ap (vint w64) e₃) refl $
+          forget ! 13 refl $ forget ! 11 refl $ forget ! 9 refl $ forget ! 7 refl $ forget ! 5 refl $ forget ! 3 refl $ forget ! 1 refl $ by ! (k r e))))))))))))))
+        where
+          place-fits : firstOf s * T.size < 2 ^ 64
+          place-fits = T.fits-place (firstOf s) n inside (room₀ .1)
+
+      -- the turn that leaves the loop, and the rest of the body
+      ends : (s : ℕ) (ws : List Node) (X : SProp 𝓤) → m ≤ firstOf s → length ws ≡ n → ws ≡ final → ent 𝓤 (⋆ 𝓤 H A (At s ws)) (Wp 𝓤 H (𝓣 .C) (𝓣 .Λ) En body.turn-1 (afterTurn 𝓤 H X Left))
+      unfolding afterTurn
+      ends s ws X past long is =
+          qed W (At s ws) ∵ exec ! (𝓣 .C) (𝓣 .Λ) En body.turn-1 (anyQ (afterTurn 𝓤 H X Left)) $
+          assigns ! (bin ! (load ! (from ! (stop !)) (look ! 17 refl)) (load ! (from ! (stop !)) (look ! 21 refl)) tt) (from ! (stop !)) (init ! 13 refl (tt, tt)) $
+          rewrite ! 13 (λ (t : Bool). has tyBool l₇ (vbool t)) (le-ltb (firstOf s) m past) refl $
+          leaves-loop ! (load ! (from ! (stop !)) (look ! 13 refl)) $ exec ! (𝓣 .C) (𝓣 .Λ) En body.t-6 (atRet En Post) $
+          assigns ! (of-opd ! (unit-lit !)) (from ! (stop !)) (init ! 27 refl (tt, tt)) $
+          move ! (0 ∷ 29 ∷ 30 ∷ 31 ∷ []) $ closes-slice ! tt T.the-row ys ws long b o $
+          -- [obs; the borrow; the token; _13; …; _0]
+          returns ! (look ! 29 refl) $ forget ! 29 refl $ forget ! 27 refl $ forget ! 25 refl $ forget ! 23 refl $ forget ! 21 refl $ forget ! 19 refl $ forget ! 15 refl $
+          move ! (29 ∷ 30 ∷ []) $ free1 ! $ move ! (27 ∷ 28 ∷ []) $ free1 ! $ move ! (25 ∷ 26 ∷ []) $ free1 ! $ move ! (23 ∷ 24 ∷ []) $ free1 ! $ move ! (21 ∷ 22 ∷ []) $ free1 ! $ move ! (19 ∷ 20 ∷ []) $ free1 ! $ move ! (17 ∷ 18 ∷ []) $ free1 ! $ move ! (15 ∷ 16 ∷ []) $ free1 ! $ move ! (13 ∷ 14 ∷ []) $ free1 ! $ move ! (11 ∷ 12 ∷ []) $ free1 ! $ move ! (9 ∷ 10 ∷ []) $ free1 ! $ move ! (7 ∷ 8 ∷ []) $ free1 ! $ move ! (5 ∷ 6 ∷ []) $ free1 ! $ move ! (3 ∷ 4 ∷ []) $ free1 ! $ free0 ! $
+          keep ! (0 ∷ 1 ∷ 2 ∷ []) $ by ! (exits ws long is)
+
+      into : (s : ℕ) (ws : List Node) → Facts s ws → ent 𝓤 (⋆ 𝓤 H A (At s ws)) (Inv s)
+      into s ws e =
+          via 𝓤 (guard 𝓤 (Facts s ws) (⋆ 𝓤 H A (At s ws))) (guardI 𝓤 (Facts s ws) (⋆ 𝓤 H A (At s ws)) e) (exI 𝓤 (λ (zs : List Node). guard 𝓤 (Facts s zs) (⋆ 𝓤 H A (At s zs))) ws)
+
+      turn-by : (s : ℕ) (ws : List Node) (t : Bool) → ltb (firstOf s) m ≡ t → Facts s ws → ent 𝓤 (⋆ 𝓤 H A (At s ws)) (Wp 𝓤 H (𝓣 .C) (𝓣 .Λ) En body.turn-1 (afterTurn 𝓤 H (Below s) Left))
+      turn-by s ws false by-test e =
+          ends s ws (Below s) past (e .1) (sym (visit-end (c .heard) s ws (subst (λ (z : ℕ). z ≤ firstOf s) (reached ∙ ap reachOf (sym (e .1))) past) (e .0)) ∙ e .2)
+        where
+          past : m ≤ firstOf s
+          past = ltb-false (firstOf s) m by-test
+      turn-by s ws true by-test e =
+          more s ws (Below s) (e .0) small (subst (λ (z : ℕ). firstOf s < z) (e .1) (both .1)) (both .1) (λ r is.
+          via 𝓤 (Inv (withoutFirst s)) (into (withoutFirst s) (set ws (firstOf s) r) (smaller (withoutFirst s) s (fewer s (both .0)) (e .0), length-set ws (firstOf s) r ∙ e .1, kept r is))
+          (via 𝓤 (guard 𝓤 (withoutFirst s < s) (Inv (withoutFirst s))) (guardI 𝓤 (withoutFirst s < s) (Inv (withoutFirst s)) (fewer s (both .0))) (exI 𝓤 (λ (t : ℕ). guard 𝓤 (t < s) (Inv t)) (withoutFirst s))))
+        where
+          small : firstOf s < m
+          small = ltb-true (firstOf s) m by-test
+
+          both : (firstOf s < 32) × (firstOf s < length ws)
+          both = below-reach (firstOf s) (length ws) (subst (λ (z : ℕ). firstOf s < z) (reached ∙ ap reachOf (sym (e .1))) small)
+
+          kept : (r : Node) → r ≡ taken (c .heard) (getD ws (firstOf s) nobody) → visited (c .heard) (withoutFirst s) (set ws (firstOf s) r) ≡ final
+          kept r is = ap (λ (z : Node). visited (c .heard) (withoutFirst s) (set ws (firstOf s) z)) is ∙ visit-next (c .heard) s ws nobody (both .0) (both .1) ∙ e .2
+
+          smaller : (t u : ℕ) → t < u → u < 2 ^ 32 → t < 2 ^ 32
+          smaller t u l h = omega arith
+
+      loops : c .acting < 2 ^ 32 → ent 𝓤 (⋆ 𝓤 H A (At (c .acting) ys)) (Wp 𝓤 H (𝓣 .C) (𝓣 .Λ) En (loop body.turn-1) Left)
+      loops fits =
+          via 𝓤 (Inv (c .acting)) (into (c .acting) ys (fits, refl, refl))
+          (loop-rule 𝓤 H (W .laws) 𝓣 _<_ (Nat·lt-wfRel .wf) En body.turn-1 Left Inv (λ s.
+          exE 𝓤 (λ (ws : List Node). guard 𝓤 (Facts s ws) (⋆ 𝓤 H A (At s ws))) (λ ws. guardE 𝓤 (Facts s ws) (⋆ 𝓤 H A (At s ws)) (λ e. turn-by s ws (ltb (firstOf s) m) refl e))) (c .acting))
+
+    acting-fits : c .acting < 2 ^ 32
+    acting-fits = LL.owed D.the-type D′.the-laws c (low c ∷ []) gc .1 .0 .1
+
+    -- where the parameters are passed, up to the loop: the borrow is opened once, before it
+    abbrev Passed : Item 𝓤 → Item 𝓤 → List (Item 𝓤)
+    Passed i₃ i₄ = Locs i₃ i₄ (room word l₅) ((‵ (flft κ q) ⊛ ‵ ftrue) ∷ ‵ (owns (MutSlice (named 0) κ T.the-row ∷ D.the-row ∷ []) a vals) ∷ [])
+
+    second : (m : ℕ) → m ≡ reachOf n → ent 𝓤 (⋆ 𝓤 H A (Passed (has word l₃ (vint w64 m)) (has set32 l₄ (vint w32 (c .acting))))) (Wp 𝓤 H (𝓣 .C) (𝓣 .Λ) En body.t-4 (atReturn 𝓤 H En Post))
+    second m e =
+        qed W (Passed (has word l₃ (vint w64 m)) (has set32 l₄ (vint w32 (c .acting)))) ∵ exec ! (𝓣 .C) (𝓣 .Λ) En body.t-4 (atRet En Post) $
+        use0 W (raw (First 𝓤 H A mem run .pre (to-first (c .acting)))) (goes-first (c .acting) acting-fits) $
+        calls-at ! (fmOf 𝓤 H (W .laws) 𝓣) (First 𝓤 H A mem run) known-first (to-first (c .acting)) (and-then ! (load ! (from ! (stop !)) (look ! 19 refl)) (no-more !)) (λ v.
+        use1 W (later (some (λ (i : ℕ). (‵ ftrue ⊛ ‵ (usize .own i (v ∷ []))) ⊛ raw (ensured 𝓤 H A first′.ended (first′.clauses 𝓤 H A mem run) tt (c .acting, tt) tt i)))) (id⊢ 𝓤 _) $ await ! tt $ pick ! (λ i.
+        split ! $ move ! (1 ∷ []) $ use1 W (raw (fact 𝓤 (i ≡ firstOf (c .acting)))) (first-of (c .acting) i) $ heard ! (i ≡ firstOf (c .acting)) (λ f. split ! $ let-go ! $
+        facts ! usize (Is usize) (shows 𝓤 H A usize) i (v ∷ []) (λ is.
+        land ! (from ! (stop !)) (init ! 16 refl (uint-lawful 𝓤 H A W w64 .typed i _ is .0)) $
+        rewrite ! 16 (λ (z : Val). has word l₅ z) (ap only (is .0) ∙ ap (vint w64) f) refl $
+        move ! (29 ∷ []) $ fsplit ! $ fsplit ! $ move ! (1 ∷ []) $ fsplit ! $ move ! (32 ∷ []) $ split ! $ move ! (2 ∷ 3 ∷ 0 ∷ []) $
+        opens-slice ! tt T.the-row ys b o $
+        -- [table; the open borrow; obs; auth; true; table's fact; the others'; _13; …; _0]
+        keep ! (0 ∷ 7 ∷ 8 ∷ 9 ∷ 10 ∷ 11 ∷ 12 ∷ 13 ∷ 14 ∷ 15 ∷ 16 ∷ 17 ∷ 18 ∷ 19 ∷ 20 ∷ 21 ∷ 22 ∷ 23 ∷ 24 ∷ 25 ∷ 26 ∷ 27 ∷ 28 ∷ 29 ∷ 30 ∷ 31 ∷ 32 ∷ 33 ∷ 34 ∷ 1 ∷ 2 ∷ 3 ∷ []) $ by ! (loops m e acting-fits)))))
+
+    starts : ent 𝓤 (⋆ 𝓤 H A (Passed (room word l₃) (room set32 l₄))) (Wp 𝓤 H (𝓣 .C) (𝓣 .Λ) En body.t-1 (atReturn 𝓤 H En Post))
+    starts =
+        qed W (Passed (room word l₃) (room set32 l₄)) ∵ exec ! (𝓣 .C) (𝓣 .Λ) En body.t-1 (atRet En Post) $
+        assigns ! (of-opd ! (load ! (from ! (fld ! refl (stop !))) (look-in ! 24 (sub ! 1 refl (whole !))))) (from ! (stop !)) (init ! 14 refl (tt, record { fits = room₀ .0 })) $
+        use0 W (raw (Reach 𝓤 H A mem run .pre to-reach)) goes-reach $
+        calls-at ! (fmOf 𝓤 H (W .laws) 𝓣) (Reach 𝓤 H A mem run) known-reach to-reach (and-then ! (load ! (from ! (stop !)) (look ! 15 refl)) (no-more !)) (λ v.
+        use1 W (later (some (λ (m : ℕ). (‵ ftrue ⊛ ‵ (usize .own m (v ∷ []))) ⊛ raw (ensured 𝓤 H A reach′.ended (reach′.clauses 𝓤 H A mem run) tt (n, tt) tt m)))) (id⊢ 𝓤 _) $ await ! tt $ pick ! (λ m.
+        split ! $ move ! (1 ∷ []) $ use1 W (raw (fact 𝓤 (m ≡ reachOf n))) (reach-of m) $ heard ! (m ≡ reachOf n) (λ e. split ! $ let-go ! $
+        facts ! usize (Is usize) (shows 𝓤 H A usize) m (v ∷ []) (λ is.
+        land ! (from ! (stop !)) (init ! 20 refl (uint-lawful 𝓤 H A W w64 .typed m _ is .0)) $
+        rewrite ! 20 (λ (z : Val). has word l₃ z) (ap only (is .0)) refl $
+        assigns ! (of-opd ! (load ! (from ! (fld ! {τ = set32} {d = 16} refl (stop !))) (look-in ! 22 (sub ! 1 {τ = set32} {d = 16} refl (whole !))))) (from ! (stop !)) (init ! 18 refl (tt, record { fits = acting-fits })) $
+        forget ! 14 refl $ by ! (second m e)))))
+
+  walk : (𝓣 : Tables 𝓤 H) → Triple 𝓤 (𝓣 .C #chain·reach) (Reach 𝓤 H A mem run) → Triple 𝓤 (𝓣 .C #survey·first) (First 𝓤 H A mem run) → Triple 𝓤 (𝓣 .C #survey·without-first) (Without 𝓤 H A mem run) → Triple 𝓤 (𝓣 .C #survey·act) (Act 𝓤 H A mem run)
+      → ent 𝓤 (onEntry 𝓤 H A act-all.signature (κ, tt) (q, tt) a vals) (WpFn 𝓤 H (𝓣 .C) (𝓣 .Λ) code.function (v₁ ∷ low c ∷ []) Post)
+  walk 𝓣 known-reach known-first known-without-first known-act =
+      qed W ((‵ (flft κ q) ⊛ ‵ ftrue) ∷ ‵ (owns (MutSlice (named 0) κ T.the-row ∷ D.the-row ∷ []) a vals) ∷ []) ∵ enter ! (𝓣 .C) (𝓣 .Λ) code.function (v₁ ∷ low c ∷ []) _ $
+      alloc1 ! (λ l₀. alloc1 ! (λ l₁. alloc1 ! (λ l₂. alloc1 ! (λ l₃. alloc1 ! (λ l₄. alloc1 ! (λ l₅. alloc1 ! (λ l₆. alloc1 ! (λ l₇. alloc1 ! (λ l₈. alloc1 ! (λ l₉. alloc1 ! (λ l₁₀. alloc1 ! (λ l₁₁. alloc1 ! (λ l₁₂. alloc1 ! (λ l₁₃. alloc0 ! $ params1 ! $
+      pass1 ! (init ! 24 refl (tt, (tt, (record { fits = room₀ .0 }, tt)))) $ pass1 ! (init ! 22 refl (LL.lawful D.the-type D′.the-laws 𝓤 H A W .typed c _ gc .0)) $ pass0 ! $
+      by ! (starts 𝓣 known-reach known-first known-without-first known-act l₀ l₁ l₂ l₃ l₄ l₅ l₆ l₇ l₈ l₉ l₁₀ l₁₁ l₁₂ l₁₃)))))))))))))))
+
+module _ {M : Type 1} (𝓤 : URA M) (H : Heap 𝓤) (A : Atoms 𝓤) (W : Given 𝓤 H A) (mem : Memory → SProp 𝓤) (run : Routine → Fun 𝓤) (𝓣 : Tables 𝓤 H) (known-reach : Triple 𝓤 (𝓣 .C #chain·reach) (Reach 𝓤 H A mem run)) (known-first : Triple 𝓤 (𝓣 .C #survey·first) (First 𝓤 H A mem run)) (known-without-first : Triple 𝓤 (𝓣 .C #survey·without-first) (Without 𝓤 H A mem run)) (known-act : Triple 𝓤 (𝓣 .C #survey·act) (Act 𝓤 H A mem run)) where
+  act-all-walks : Walks 𝓤 H A act-all.ended stayed (WpFn 𝓤 H (𝓣 .C) (𝓣 .Λ) code.function) (act-all.clauses 𝓤 H A mem run)
+  act-all-walks = walked 𝓤 H A act-all.ended stayed (act-all.clauses 𝓤 H A mem run) (WpFn 𝓤 H (𝓣 .C) (𝓣 .Λ) code.function)
+      (λ κs. (slice-vals, (LL.vals D.the-type D′.the-laws, tt))) (λ κs. (mut-slice-tells (named 0) (κs .0) T.the-row, (LL.tells D.the-type D′.the-laws, tt)))
+      (λ κs qs bounds a g are. via 𝓤 _ (fst∗ 𝓤 _ (emp 𝓤))
+      (walk 𝓤 H A W mem run (κs .0) (qs .0) (a .0 .ptr .0) (a .0 .ptr .1) (a .0 .name) (a .0 .now) (a .1 .0) (are .1 .0) (are .0 .0 .1) 𝓣 known-reach known-first known-without-first known-act))
+
+  act-all-meets : Meets 𝓤 H A act-all.signature (WpFn 𝓤 H (𝓣 .C) (𝓣 .Λ) code.function) (act-all.spec 𝓤 H A mem run)
+  act-all-meets =
+      walk-meets 𝓤 H A act-all.ended stayed W (goes-slice 𝓤 H A W 1 0 tt (plain (λ _. T.the-row)), (goes-none 𝓤 H A W 1 (λ _. D.the-row) yes (λ κs x f. refl), tt)) (act-all.clauses 𝓤 H A mem run)
+      (WpFn 𝓤 H (𝓣 .C) (𝓣 .Λ) code.function) (WpFn-mono 𝓤 H (W .laws) 𝓣 code.function) act-all-walks
+
+pub act-all-spec : {M : Type 1} → stated.statement M
+unfolding code.routine tablesOf
+act-all-spec 𝓤 H 𝓜 𝓖 𝓡 =
+    entered 𝓤 H (tripleOf 𝓤 H (𝓖 .A) act-all.signature (act-all.spec 𝓤 H (𝓖 .A) (𝓜 .mem) (𝓡 .run)))
+    (tables 𝓤 H 𝓜 𝓡 code.env .C) (tables 𝓤 H 𝓜 𝓡 code.env .Λ) #chain·act-all code.function (code.unfolded 𝓤 H 𝓜 𝓡)
+    (act-all-meets 𝓤 H (𝓖 .A) (givenOf 𝓤 H 𝓜 𝓖) (𝓜 .mem) (𝓡 .run) (tablesOf 𝓤 H 𝓜 (tables 𝓤 H 𝓜 𝓡 code.env))
+    (cited 𝓤 H (Reach 𝓤 H (𝓖 .A) (𝓜 .mem) (𝓡 .run)) 𝓜 𝓡 code.env #chain·reach reach-def.routine code.calls-chain·reach (reach-thm.met 𝓤 H 𝓜 𝓖 𝓡))
+    (cited 𝓤 H (First 𝓤 H (𝓖 .A) (𝓜 .mem) (𝓡 .run)) 𝓜 𝓡 code.env #survey·first first-def.routine code.calls-survey·first (first-thm.met 𝓤 H 𝓜 𝓖 𝓡))
+    (cited 𝓤 H (Without 𝓤 H (𝓖 .A) (𝓜 .mem) (𝓡 .run)) 𝓜 𝓡 code.env #survey·without-first without-first-def.routine code.calls-survey·without-first (without-first-thm.met 𝓤 H 𝓜 𝓖 𝓡))
+    (cited 𝓤 H (Act 𝓤 H (𝓖 .A) (𝓜 .mem) (𝓡 .run)) 𝓜 𝓡 code.env #survey·act act-def.routine code.calls-survey·act (act-thm.met 𝓤 H 𝓜 𝓖 𝓡)))

@@ -1,8 +1,0 @@
--- Who hears and is called replies.
-use borrow.Author.Needs.{needs}
-use Rattle.chain.proofs.Ones.{replies-are}
-use Rattle.chain.proofs.one.does_reply.Statement.{statement}
-use Rattle.chain.proofs.one.does_reply.Tie as tie
-
-pub does-reply-spec : {M : Type 1} → statement M
-does-reply-spec = tie.close (tie.spec (λ c κs. search needs) (λ c κs. search needs) (λ c. search replies-are))

@@ -1,8 +1,0 @@
--- By the kind of address.
-use borrow.Author.Needs.{needs}
-use Rattle.chain.proofs.Ones.{told-answers}
-use Rattle.chain.proofs.one.is_answering.Statement.{statement}
-use Rattle.chain.proofs.one.is_answering.Tie as tie
-
-pub is-answering-spec : {M : Type 1} → statement M
-is-answering-spec = tie.close (tie.spec (λ c. search needs) (λ c. search needs) (λ c. search told-answers) (λ c. search told-answers))

@@ -1,8 +1,0 @@
--- One node more.
-use borrow.Author.Needs.{needs}
-use Rattle.chain.proofs.Members.{joined-yes}
-use Rattle.chain.proofs.sets.join.Statement.{statement}
-use Rattle.chain.proofs.sets.join.Tie as tie
-
-pub join-spec : {M : Type 1} → statement M
-join-spec = tie.close (tie.spec (λ c κs. search needs) (λ c. search joined-yes) (λ c. search needs))

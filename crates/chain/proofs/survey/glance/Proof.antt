@@ -1,8 +1,0 @@
--- By whether the packet can be read.
-use borrow.Author.Needs.{needs}
-use Rattle.chain.proofs.Surveying.{told-glance}
-use Rattle.chain.proofs.survey.glance.Statement.{statement}
-use Rattle.chain.proofs.survey.glance.Tie as tie
-
-pub glance-spec : {M : Type 1} → statement M
-glance-spec = tie.close (tie.spec (λ c. search needs) (λ c κs. search needs) (λ c. search needs) (λ c κs. search needs) (λ c. search told-glance) (λ c. search told-glance))

@@ -1,8 +1,0 @@
--- By the plan.
-use borrow.Author.Needs.{needs}
-use Rattle.chain.proofs.Surveying.{told-speaker}
-use Rattle.chain.proofs.survey.speaker.Statement.{statement}
-use Rattle.chain.proofs.survey.speaker.Tie as tie
-
-pub speaker-spec : {M : Type 1} → statement M
-speaker-spec = tie.close (tie.spec (λ c. search needs) (λ c. search needs) (λ c κs. search needs) (λ c. search needs) (λ c. search told-speaker))

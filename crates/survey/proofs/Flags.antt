@@ -1,0 +1,146 @@
+-- What a walk along the chain has seen, as sets of the nodes that act and of those that reply.
+use Prim.Native.Nat.{ℕ, zero, suc, _+_, _*_, _/_, _%_, _^_, _<_, _≤_}
+use mathlib.Core.Bool.{Bool, true, false, cond, _&&_}
+use mathlib.Core.List.{List, [], _∷_}
+use mathlib.Core.Path.{_≡_, refl, sym, ap, _∙_}
+use native.Mathlib.Omega.{arith}
+use native.Mathlib.Nat.{pow-suc}
+use lib.Pow.{pow-mono}
+use lib.ListN.{length}
+use Rattle.wire.specs.Numbers.{mostNodes}
+use Rattle.wire.specs.declared.address.Address.{Address}
+use Rattle.node.specs.declared.state.Node.{Node}
+use Rattle.heard.specs.declared.Heard.{Heard}
+use Rattle.node.specs.Node.{taken}
+use Rattle.survey.specs.declared.plan.Incoming.{Incoming}
+use Rattle.survey.specs.declared.plan.Incoming.the-variants.{Whole, Unread}
+use Rattle.survey.specs.declared.plan.Seen.{Seen}
+use Rattle.survey.specs.One.{acts, replies, turned, sound}
+use Rattle.survey.specs.Chain.{turnedFrom, repliersFrom, allSound}
+use Rattle.survey.specs.Sets.{joined, membersFrom}
+use Rattle.survey.specs.Survey.{start, glanceFor, glancePast, glancesOf}
+use Rattle.survey.specs.Decision.{visited}
+
+-- what f says of each node and its `near`
+abbrev pub flags : (Bool → Node → Bool) → Bool → List Node → List Bool
+flags f near [] = []
+flags f near (n ∷ ns) = f near n ∷ flags f (n .addressed) ns
+
+-- those of whom it is true, as a set whose first node has the digit w
+abbrev pub setFrom : ℕ → List Bool → ℕ
+setFrom w [] = 0
+setFrom w (b ∷ bs) = cond b w 0 + setFrom (w + w) bs
+
+abbrev pub setOf : List Bool → ℕ
+setOf bs = setFrom 1 bs
+
+-- ---- what was seen is that set
+
+joined-plain : (s w : ℕ) (b : Bool) → s < w → w + w < 2 ^ 32 → (joined s w b ≡ s + cond b w 0) × (joined s w b < w + w)
+joined-plain s w true h k =
+    let e : (s + w) % 2 ^ 32 ≡ s + w = omega (arith, h, k) in
+    (e, omega (arith, e, h))
+joined-plain s w false h k = (omega arith, omega (arith, h))
+
+room : (w i m : ℕ) → w ≡ 2 ^ i → i + suc m ≤ 31 → (w + w < 2 ^ 32) × (w + w ≡ 2 ^ suc i)
+room w i m e h =
+    let q : suc i ≤ 31 = omega (arith, h) in
+    let p : 2 ^ suc i ≤ 2 ^ 31 = pow-mono q in
+    let d : w + w ≡ 2 ^ suc i = ap (λ (x : ℕ). x + x) e ∙ twice (2 ^ i) ∙ sym (pow-suc 2 i) in
+    (omega (arith, p, d), d)
+  where
+    twice : (x : ℕ) → x + x ≡ x * 2
+    twice x = omega arith
+
+regroup : (a x y z : ℕ) → z ≡ a + x → z + y ≡ a + (x + y)
+regroup a x y z e = omega (arith, e)
+
+-- one of the sets: it is `of s` when s was seen, and node i joins it if f says so
+module _ (to : Address) (h : Heard) (f : Bool → Node → Bool) (of : Seen → ℕ)
+    (joins : (s : Seen) (n : Node) → of (glanceFor to s n) ≡ joined (of s) (s .weight) (f (s .near) n)) where
+  seen-from : (s : Seen) (ns : List Node) (i : ℕ) → s .weight ≡ 2 ^ i → of s < s .weight → i + length ns ≤ mostNodes
+      → of (glancesOf (Whole to h) s ns) ≡ of s + setFrom (s .weight) (flags f (s .near) ns)
+  unfolding glanceFor
+  seen-from s [] i d a b = omega arith
+  seen-from s (n ∷ ns) i d a b =
+      let w = s .weight in
+      let t = f (s .near) n in
+      let bs = flags f (n .addressed) ns in
+      let r = room w i (length ns) d b in
+      let e : (w + w) % 2 ^ 32 ≡ w + w = omega (arith, r .0) in
+      let p = joined-plain (of s) w t a (r .0) in
+      let k : of (glanceFor to s n) < (w + w) % 2 ^ 32 = rw (joins s n, e) (p .1) in
+      seen-from (glanceFor to s n) ns (suc i) (e ∙ r .1) k (omega (arith, b))
+      ∙ ap (λ (v : ℕ). of (glanceFor to s n) + setFrom v bs) e
+      ∙ regroup (of s) (cond t w 0) (setFrom (w + w) bs) (of (glanceFor to s n)) (joins s n ∙ p .0)
+
+  pub seen-set : (ns : List Node) → of start ≡ 0 → length ns ≤ mostNodes → of (glancesOf (Whole to h) start ns) ≡ setOf (flags f true ns)
+  seen-set ns e b =
+      let z : of start < 1 = omega (arith, e) in
+      let g = seen-from start ns 0 refl z (omega (arith, b)) in
+      omega (arith, g, e)
+
+pub seen-acting : (to : Address) (h : Heard) (ns : List Node) → length ns ≤ mostNodes → glancesOf (Whole to h) start ns .acting ≡ setOf (flags (acts to) true ns)
+unfolding glanceFor
+seen-acting to h ns b = seen-set to h (acts to) (λ (s : Seen). s .acting) (λ s n. refl) ns refl b
+
+pub seen-replying : (to : Address) (h : Heard) (ns : List Node) → length ns ≤ mostNodes → glancesOf (Whole to h) start ns .replying ≡ setOf (flags (replies to) true ns)
+unfolding glanceFor
+seen-replying to h ns b = seen-set to h (replies to) (λ (s : Seen). s .replying) (λ s n. refl) ns refl b
+
+and-assoc : (a b c : Bool) → ((a && b) && c) ≡ (a && (b && c))
+and-assoc true b c = refl
+and-assoc false b c = refl
+
+-- every record, whether the packet can be read or not
+pub seen-sound : (c : Incoming) (s : Seen) (ns : List Node) → glancesOf c s ns .sound ≡ (s .sound && allSound ns)
+unfolding glanceFor glancePast
+seen-sound c s [] = and-true (s .sound)
+  where
+    and-true : (b : Bool) → b ≡ (b && true)
+    and-true true = refl
+    and-true false = refl
+seen-sound (Whole to h) s (n ∷ ns) = seen-sound (Whole to h) (glanceFor to s n) ns ∙ and-assoc (s .sound) (sound (n .settings .place)) (allSound ns)
+seen-sound (Unread why) s (n ∷ ns) = seen-sound (Unread why) (glancePast s n) ns ∙ and-assoc (s .sound) (sound (n .settings .place)) (allSound ns)
+
+-- ---- the first node and the others
+
+double : (w : ℕ) (bs : List Bool) → setFrom (w + w) bs ≡ setFrom w bs + setFrom w bs
+double w [] = refl
+double w (true ∷ bs) = let e : setFrom (w + w + (w + w)) bs ≡ setFrom (w + w) bs + setFrom (w + w) bs = double (w + w) bs in omega (arith, e)
+double w (false ∷ bs) = let e : setFrom (w + w + (w + w)) bs ≡ setFrom (w + w) bs + setFrom (w + w) bs = double (w + w) bs in omega (arith, e)
+
+pub low : (b : Bool) (bs : List Bool) → setOf (b ∷ bs) % 2 ≡ cond b 1 0
+low true bs = let e : setFrom 2 bs ≡ setFrom 1 bs + setFrom 1 bs = double 1 bs in omega (arith, e)
+low false bs = let e : setFrom 2 bs ≡ setFrom 1 bs + setFrom 1 bs = double 1 bs in omega (arith, e)
+
+pub high : (b : Bool) (bs : List Bool) → setOf (b ∷ bs) / 2 ≡ setOf bs
+high true bs = let e : setFrom 2 bs ≡ setFrom 1 bs + setFrom 1 bs = double 1 bs in omega (arith, e)
+high false bs = let e : setFrom 2 bs ≡ setFrom 1 bs + setFrom 1 bs = double 1 bs in omega (arith, e)
+
+-- ---- who replies, and who acts
+
+member-step : (k i : ℕ) (b : Bool) (x : ℕ) (rest : List ℕ) → x % 2 ≡ cond b 1 0 → membersFrom k (suc i) (x / 2) ≡ rest → membersFrom (suc k) i x ≡ cond b (i ∷ rest) rest
+member-step k i true x rest e f = rw (e, f)
+member-step k i false x rest e f = rw (e, f)
+
+pub repliers-are : (to : Address) (i : ℕ) (near : Bool) (ns : List Node) → membersFrom (length ns) i (setOf (flags (replies to) near ns)) ≡ repliersFrom to i near ns
+repliers-are to i near [] = refl
+repliers-are to i near (n ∷ ns) =
+    let b = replies to near n in
+    let bs = flags (replies to) (n .addressed) ns in
+    member-step (length ns) i b (setOf (b ∷ bs)) (repliersFrom to (suc i) (n .addressed) ns) (low b bs)
+    (ap (λ (x : ℕ). membersFrom (length ns) (suc i) x) (high b bs) ∙ repliers-are to (suc i) (n .addressed) ns)
+
+visit-step : (h : Heard) (b : Bool) (x : ℕ) (n : Node) (ns rest : List Node) → x % 2 ≡ cond b 1 0 → visited h (x / 2) ns ≡ rest → visited h x (n ∷ ns) ≡ cond b (taken h n) n ∷ rest
+visit-step h true x n ns rest e f = rw (e, f)
+visit-step h false x n ns rest e f = rw (e, f)
+
+pub actors-turn : (to : Address) (h : Heard) (near : Bool) (ns : List Node) → visited h (setOf (flags (acts to) near ns)) ns ≡ turnedFrom to h near ns
+unfolding turned
+actors-turn to h near [] = refl
+actors-turn to h near (n ∷ ns) =
+    let b = acts to near n in
+    let bs = flags (acts to) (n .addressed) ns in
+    visit-step h b (setOf (b ∷ bs)) n ns (turnedFrom to h (n .addressed) ns) (low b bs)
+    (ap (λ (x : ℕ). visited h x ns) (high b bs) ∙ actors-turn to h (n .addressed) ns)

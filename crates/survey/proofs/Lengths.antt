@@ -1,0 +1,141 @@
+-- What a delivery tells of long and of brief packets, and of the reply buffer.
+use Prim.Native.Nat.{ℕ, _+_, _≤_, _<_}
+use mathlib.Core.Bool.{Bool, true, false, cond, not}
+use mathlib.Core.List.{List}
+use mathlib.Core.Path.{_≡_, refl, ap, _∙_}
+use native.Mathlib.Omega.{arith}
+use lib.Dec.{eqb, ltb}
+use lib.ListN.{length, getD, take}
+use lib.Seq.{length-take-le, getD-take}
+use borrow.Author.Tests.{lt-ltb, le-ltb}
+use Rattle.wire.specs.Promise.{Outcome}
+use Rattle.buffer.specs.Buffer.{place}
+use Rattle.wire.specs.declared.address.Address.{Address}
+use Rattle.wire.specs.declared.refusal.Refusal.the-variants.{Short, Header, Long, Room, Range}
+use Rattle.buffer.specs.declared.Built.{Built}
+use Rattle.buffer.specs.declared.Built.the-variants as built
+use Rattle.buffer.proofs.Writing.{place-long}
+use Rattle.packet.specs.Packet.{countOf, partsOf, frameOf}
+use Rattle.packet.specs.declared.Framed.{Framed}
+use Rattle.packet.specs.declared.Framed.the-variants as framed
+use Rattle.node.specs.declared.state.Node.{Node}
+use Rattle.heard.specs.declared.Heard.{Heard}
+use Rattle.reply.specs.Reply.{maskFor}
+use Rattle.mask.proofs.Counts.{size-range}
+use Rattle.reply.proofs.Replies.{reply-length}
+use Rattle.survey.specs.declared.decision.Delivery.{Delivery}
+use Rattle.survey.specs.declared.decision.Delivery.the-variants.{Replied, Refused}
+use Rattle.survey.specs.One.{heardAs}
+use Rattle.survey.specs.Chain.{Said, silence, reply, clash, said, blank}
+use Rattle.survey.specs.Delivery.{Lent, valid, onBuilt, onSaid, onFrame, deliveredTo, deliveredOn, refused}
+use Rattle.survey.proofs.Meaning.{said-says}
+
+-- ---- a packet of 20 bytes or more is refused for what its first 20 are refused for: no packet has more than 19
+
+abbrev overlong : ℕ → Framed
+overlong head = cond (not (eqb head 0xAA)) (framed.Refused Header) (framed.Refused Long)
+
+frame-over : (p : List ℕ) → 20 ≤ length p → getD p 2 0 < 256 → frameOf p ≡ overlong (getD p 0 0)
+unfolding frameOf
+frame-over p h b =
+    rw (le-ltb (length p) 1 (omega arith), le-ltb (length p) 4 (omega arith), le-ltb (length p) (4 + countOf p) (omega arith), lt-ltb (4 + countOf p) (length p) (omega arith))
+
+on-overlong : (t : Bool) (p q : List ℕ) (ns : List Node) (out : List ℕ)
+    → onFrame (cond t (framed.Refused Header) (framed.Refused Long)) p ns out ≡ onFrame (cond t (framed.Refused Header) (framed.Refused Long)) q ns out
+on-overlong true p q ns out = refl
+on-overlong false p q ns out = refl
+
+pub deliver-long : (ns : List Node) (p out : List ℕ) → 20 ≤ length p → getD p 2 0 < 256 → deliveredOn ns (take 20 p) out ≡ deliveredOn ns p out
+unfolding deliveredOn
+deliver-long ns p out h b =
+    let n : length (take 20 p) ≡ 20 = length-take-le 20 p h in
+    let b2 : getD (take 20 p) 2 0 ≡ getD p 2 0 = getD-take 20 p 2 0 (omega arith) in
+    let b0 : getD (take 20 p) 0 0 ≡ getD p 0 0 = getD-take 20 p 0 0 (omega arith) in
+    let f : frameOf (take 20 p) ≡ overlong (getD p 0 0) = frame-over (take 20 p) (omega arith) (omega arith) ∙ ap overlong b0 in
+    rw (f, frame-over p h b, on-overlong (not (eqb (getD p 0 0) 0xAA)) (take 20 p) p ns out)
+
+-- ---- fewer than 4 bytes are never replied to
+
+-- what holds of the three refusals holds of such a delivery
+pub deliver-brief : (ns : List Node) (p out : List ℕ) → length p < 4 → (Q : Outcome Delivery Lent → Type 0)
+    → Q (refused Short ns out) → Q (refused Header ns out) → Q (refused Range ns out) → Q (deliveredOn ns p out)
+unfolding deliveredOn frameOf
+deliver-brief ns p out h Q short header range =
+    rw (lt-ltb (length p) 4 h) (go (valid ns) (ltb (length p) 1) (not (eqb (getD p 0 0) 0xAA)))
+  where
+    go : (v e n : Bool) → Q (cond v (onFrame (cond e (framed.Refused Short) (cond n (framed.Refused Header) (framed.Refused Short))) p ns out) (refused Range ns out))
+    go false e n = range
+    go true true n = short
+    go true false true = header
+    go true false false = short
+
+-- ---- the reply buffer keeps its length
+
+built-left : (b : Built) (to : Address) (h : Heard) (ns : List Node) (out : List ℕ) → onBuilt b to h ns out .left .reply ≡ out
+built-left (built.Bytes n) to h ns out = refl
+built-left (built.Refused why) to h ns out = refl
+
+said-left : (s : Said) (to : Address) (h : Heard) (ns : List Node) (out : List ℕ) → length (onSaid s to h ns out .left .reply) ≡ length out
+said-left silence to h ns out = refl
+said-left (reply r) to h ns out = ap length (built-left (place r out .answer) to h ns (place r out .left)) ∙ place-long r out
+said-left clash to h ns out = refl
+
+frame-left : (f : Framed) (p : List ℕ) (ns : List Node) (out : List ℕ) → length (onFrame f p ns out .left .reply) ≡ length out
+unfolding deliveredTo
+frame-left (framed.Whole to k n) p ns out = said-left (said to (heardAs k p) ns) to (heardAs k p) ns out
+frame-left (framed.Refused why) p ns out = refl
+
+pub deliver-left : (ns : List Node) (p out : List ℕ) → length (deliveredOn ns p out .left .reply) ≡ length out
+unfolding deliveredOn
+deliver-left ns p out = go (valid ns)
+  where
+    go : (v : Bool) → length (cond v (onFrame (frameOf p) p ns out) (refused Range ns out) .left .reply) ≡ length out
+    go true = frame-left (frameOf p) p ns out
+    go false = refl
+
+-- ---- 5 never comes up over 19 bytes of reply buffer, T + 2
+
+-- reading refuses a frame for its length or its header
+frame-whys : (p : List ℕ) → frameOf p ≡ framed.Refused Room → ⊥
+unfolding frameOf
+frame-whys p = go (ltb (length p) 1) (not (eqb (getD p 0 0) 0xAA)) (ltb (length p) 4) (ltb (length p) (4 + countOf p)) (ltb (4 + countOf p) (length p))
+  where
+    go : (a b c d e : Bool)
+        → cond a (framed.Refused Short) (cond b (framed.Refused Header) (cond c (framed.Refused Short) (cond d (framed.Refused Short) (cond e (framed.Refused Long) (partsOf p)))))
+        ≡ framed.Refused Room → ⊥
+    go true b c d e x = let z : _≡_ {A = ℕ} 0 1 = cc in omega arith
+    go false true c d e x = let z : _≡_ {A = ℕ} 0 1 = cc in omega arith
+    go false false true d e x = let z : _≡_ {A = ℕ} 0 1 = cc in omega arith
+    go false false false true e x = let z : _≡_ {A = ℕ} 0 1 = cc in omega arith
+    go false false false false true x = let z : _≡_ {A = ℕ} 0 1 = cc in omega arith
+    go false false false false false x = let z : _≡_ {A = ℕ} 0 1 = cc in omega arith
+
+module _ (ns : List Node) (out : List ℕ) (room : 19 ≤ length out) where
+  reply-fits : (to : Address) (h : Heard) (r : List ℕ) → said to h ns ≡ reply r → length r ≤ length out
+  reply-fits to h r e =
+      let q = said-says to h ns r e in
+      let n = getD ns (q .at) blank in
+      rw (q .bytes) (omega (arith, reply-length h n, size-range (maskFor h n) .1))
+
+  said-roomy : (s : Said) (to : Address) (h : Heard) → said to h ns ≡ s → onSaid s to h ns out .answer ≡ Refused Room → ⊥
+  unfolding place
+  said-roomy silence to h e x = let z : _≡_ {A = ℕ} 0 1 = cc in omega arith
+  said-roomy (reply r) to h e x =
+      let y : Replied (length r) ≡ Refused Room = rw (le-ltb (length out) (length r) (reply-fits to h r e)) at x in
+      let z : _≡_ {A = ℕ} 0 1 = cc in omega arith
+  said-roomy clash to h e x = let z : _≡_ {A = ℕ} 0 1 = cc in omega arith
+
+  frame-roomy : (f : Framed) (p : List ℕ) → frameOf p ≡ f → onFrame f p ns out .answer ≡ Refused Room → ⊥
+  unfolding deliveredTo
+  frame-roomy (framed.Whole to k n) p e x = said-roomy (said to (heardAs k p) ns) to (heardAs k p) refl x
+  frame-roomy (framed.Refused why) p e x =
+      let y : why ≡ Room = cc in
+      frame-whys p (e ∙ ap framed.Refused y)
+
+  pub never-five : (p : List ℕ) → deliveredOn ns p out .answer ≡ Refused Room → ⊥
+  unfolding deliveredOn
+  never-five p = go (valid ns)
+    where
+      go : (v : Bool) → cond v (onFrame (frameOf p) p ns out) (refused Range ns out) .answer ≡ Refused Room → ⊥
+      go true x = frame-roomy (frameOf p) p refl x
+      go false x = let z : _≡_ {A = ℕ} 0 1 = cc in omega arith

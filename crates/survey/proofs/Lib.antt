@@ -1,0 +1,13 @@
+pub mod Ones
+pub mod Members
+pub mod Searching
+pub mod Visiting
+pub mod Surveying
+pub mod Deciding
+pub mod Meaning
+pub mod Clashes
+pub mod Flags
+pub mod Joining
+pub mod Refusals
+pub mod Lengths
+pub mod Unique

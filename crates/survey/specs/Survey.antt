@@ -1,0 +1,108 @@
+-- How a delivery comes by its plan: a look at each node in order, then the tests of document 01 in their order.
+use Prim.Native.Nat.{ℕ, _+_, _%_, _^_}
+use mathlib.Core.Bool.{Bool, true, cond, _&&_}
+use mathlib.Core.List.{List, [], _∷_}
+use lib.Dec.{leb}
+use lib.ListN.{length, getD}
+use Rattle.wire.specs.Numbers.{mostNodes}
+use Rattle.wire.specs.declared.address.Address.{Address}
+use Rattle.wire.specs.declared.refusal.Refusal.the-variants.{Range}
+use Rattle.packet.specs.Packet.{frameOf}
+use Rattle.packet.specs.declared.Framed.{Framed}
+use Rattle.packet.specs.declared.Framed.the-variants as framed
+use Rattle.command.specs.declared.Place.{Place}
+use Rattle.node.specs.Node.{powerUp}
+use Rattle.node.specs.declared.state.Node.{Node}
+use Rattle.heard.specs.declared.Heard.{Heard}
+use Rattle.heard.specs.Heard.{isAnswered}
+use Rattle.survey.specs.declared.sets.Replier.{Replier}
+use Rattle.survey.specs.declared.sets.Replier.the-variants.{None, One, Several}
+use Rattle.survey.specs.declared.plan.Incoming.{Incoming}
+use Rattle.survey.specs.declared.plan.Incoming.the-variants.{Whole, Unread}
+use Rattle.survey.specs.declared.plan.Seen.{Seen}
+use Rattle.survey.specs.declared.plan.Plan.{Plan}
+use Rattle.survey.specs.declared.plan.Plan.the-variants.{Refuse, Deliver}
+use Rattle.survey.specs.declared.plan.Survey.{Survey}
+use Rattle.survey.specs.One.{acts, replies, sound, heardAs}
+use Rattle.survey.specs.Chain.{replierOf}
+use Rattle.survey.specs.Sets.{joined, members}
+
+-- a packet as it comes in
+abbrev pub incomingBy : Framed → List ℕ → Incoming
+incomingBy (framed.Whole to k n) p = Whole to (heardAs k p)
+incomingBy (framed.Refused why) p = Unread why
+
+unfoldable pub incomingOf : List ℕ → Incoming
+incomingOf p = incomingBy (frameOf p) p
+
+-- nothing seen yet: the first node is near
+abbrev pub start : Seen
+start = record { near = true; weight = 1; acting = 0; replying = 0; sound = true }
+
+-- every record so far is sound
+abbrev pub soundWith : Bool → Place → Bool
+soundWith b p = b && sound p
+
+-- one node more
+unfoldable pub glanceFor : Address → Seen → Node → Seen
+glanceFor to s n = record {
+  near = n .addressed;
+  weight = (s .weight + s .weight) % 2 ^ 32;
+  acting = joined (s .acting) (s .weight) (acts to (s .near) n);
+  replying = joined (s .replying) (s .weight) (replies to (s .near) n);
+  sound = soundWith (s .sound) (n .settings .place);
+}
+
+unfoldable pub glancePast : Seen → Node → Seen
+glancePast s n = record { near = s .near; weight = s .weight; acting = s .acting; replying = s .replying; sound = soundWith (s .sound) (n .settings .place) }
+
+abbrev pub glanceOf : Incoming → Seen → Node → Seen
+glanceOf (Whole to h) s n = glanceFor to s n
+glanceOf (Unread why) s n = glancePast s n
+
+-- all of them
+abbrev pub glancesOf : Incoming → Seen → List Node → Seen
+glancesOf c s [] = s
+glancesOf c s (n ∷ ns) = glancesOf c (glanceOf c s n) ns
+
+-- who replies, if the packet is answered at all: the nodes 0 to n - 1 are searched for those in the set s
+unfoldable pub replierTo : Heard → ℕ → ℕ → Replier
+replierTo h s n = cond (isAnswered h) (replierOf (members n s)) None
+
+-- and who acts
+abbrev pub planFor : Heard → Seen → ℕ → Plan
+planFor h s n = Deliver (replierTo h (s .replying) n) (s .acting) h
+
+abbrev pub planBy : Incoming → Seen → ℕ → Plan
+planBy (Whole to h) s n = planFor h s n
+planBy (Unread why) s n = Refuse why
+
+-- "For the chain 6 comes first"
+unfoldable pub planOf : Incoming → Seen → ℕ → Plan
+planOf c s n = cond (leb 1 n && leb n mostNodes && s .sound) (planBy c s n) (Refuse Range)
+
+-- the index of the one that replies
+abbrev pub speakerIn : Replier → ℕ
+speakerIn None = 32
+speakerIn (One i) = i
+speakerIn Several = 32
+
+abbrev pub speakerOf : Plan → ℕ
+speakerOf (Refuse why) = 32
+speakerOf (Deliver r acting h) = speakerIn r
+
+abbrev pub surveyWith : Plan → Node → Survey
+surveyWith p n = record { plan = p; speaker = n }
+
+abbrev pub nobody : Node
+nobody = powerUp (record { inputs = 0; counter = 0; analog0 = 0; analog1 = 0; analog2 = 0; id = 0; version = 0 })
+
+abbrev pub surveyAlone : Plan → Survey
+surveyAlone p = surveyWith p nobody
+
+-- the plan with the node that replies
+abbrev pub surveyBy : Plan → List Node → Survey
+surveyBy p ns = surveyWith p (getD ns (speakerOf p) nobody)
+
+unfoldable pub surveyOf : Incoming → List Node → Survey
+surveyOf c ns = surveyBy (planOf c (glancesOf c start ns) (length ns)) ns

@@ -1,0 +1,213 @@
+// A packet and a look at each node: who acts, who replies, and whether the table can be used at all.
+use crate::one::does_act;
+use crate::one::does_reply;
+use crate::one::is_sound;
+use crate::sets::Replier;
+use crate::sets::join;
+use crate::sets::search;
+use command::Place;
+use heard::Heard;
+use node::Bench;
+use node::Node;
+use packet::Framed;
+use wire::Address;
+use wire::Refusal;
+ghost use mathlib.Core.Path.{_≡_};
+ghost use Rattle.survey.specs.Survey.{incomingOf, start, soundWith, glanceFor, glancePast, glanceOf, replierTo, planFor, planOf, speakerIn, speakerOf, surveyWith, surveyAlone};
+
+// A packet as it comes in: whom it is for and what it says, or why it can't be read.
+pub enum Incoming {
+    Whole { to: Address, heard: Heard },
+    Unread(Refusal),
+}
+
+// What a walk along the chain has seen so far: whether the next node is first or stands behind an addressed one, its bit,
+// who acts, who replies, and whether every record is sound.
+pub struct Seen {
+    pub near: bool,
+    pub weight: u32,
+    pub acting: u32,
+    pub replying: u32,
+    pub sound: bool,
+}
+
+// What is to be done with a packet, before any node acts.
+pub enum Plan {
+    Refuse(Refusal),
+    Deliver {
+        replier: Replier,
+        acting: u32,
+        heard: Heard,
+    },
+}
+
+// The plan, and the node that replies, where one does.
+pub struct Survey {
+    pub plan: Plan,
+    pub speaker: Node,
+}
+
+// A packet as it comes in.
+pub fn hear(p: &[u8]) -> Incoming
+    ensures { λ r. ⌜ r ≡ incomingOf (now (p .entry)) ⌝ }
+{
+    match packet::frame(p) {
+        Framed::Whole {
+            address,
+            command,
+            end: _,
+        } => {
+            let reading = command::read(command, packet::data_part(p));
+            let heard = Heard::of(reading, packet::is_intact(p));
+            Incoming::Whole { to: address, heard }
+        }
+        Framed::Refused(why) => Incoming::Unread(why),
+    }
+}
+
+// Before the first node.
+pub fn start() -> Seen
+    ensures { λ r. ⌜ r ≡ start ⌝ }
+{
+    Seen {
+        near: true,
+        weight: 1,
+        acting: 0,
+        replying: 0,
+        sound: true,
+    }
+}
+
+// Whether every record so far is sound, with this one.
+fn is_still_sound(sound: bool, place: Place) -> bool
+    ensures { λ r. ⌜ r ≡ soundWith sound place ⌝ }
+{
+    sound & is_sound(place)
+}
+
+// One node more, of a packet for `to`.
+fn glance_for(seen: Seen, n: Node, to: Address) -> Seen
+    ensures { λ r. ⌜ r ≡ glanceFor to seen n ⌝ }
+{
+    let acts = does_act(n, seen.near, to);
+    let replies = does_reply(n, seen.near, to);
+    Seen {
+        near: n.addressed,
+        weight: std::num::wrapping_add_u32(seen.weight, seen.weight),
+        acting: join(seen.acting, seen.weight, acts),
+        replying: join(seen.replying, seen.weight, replies),
+        sound: is_still_sound(seen.sound, n.settings.place),
+    }
+}
+
+// One node more, of a packet that can't be read: only its record is looked at.
+fn glance_past(seen: Seen, n: Node) -> Seen
+    ensures { λ r. ⌜ r ≡ glancePast seen n ⌝ }
+{
+    let mut next = seen;
+    next.sound = is_still_sound(seen.sound, n.settings.place);
+    next
+}
+
+// One node more.
+pub fn glance(seen: Seen, n: Node, incoming: Incoming) -> Seen
+    ensures { λ r. ⌜ r ≡ glanceOf incoming seen n ⌝ }
+{
+    match incoming {
+        Incoming::Whole { to, heard: _ } => glance_for(seen, n, to),
+        Incoming::Unread(_) => glance_past(seen, n),
+    }
+}
+
+// Who replies to a packet, of n nodes and those of them that it calls.
+fn replier_to(heard: Heard, replying: u32, n: usize) -> Replier
+    ensures { λ r. ⌜ r ≡ replierTo heard replying n ⌝ }
+{
+    if heard.is_answered() {
+        return search(replying, n);
+    }
+    Replier::None
+}
+
+// A packet that says `heard`, to a table of n nodes that can be used.
+pub fn plan_for(heard: Heard, seen: Seen, n: usize) -> Plan
+    ensures { λ r. ⌜ r ≡ planFor heard seen n ⌝ }
+{
+    Plan::Deliver {
+        replier: replier_to(heard, seen.replying, n),
+        acting: seen.acting,
+        heard,
+    }
+}
+
+// A packet, and all n nodes seen. 6 comes first, then what the packet can't be read for.
+pub fn plan_of(incoming: Incoming, seen: Seen, n: usize) -> Plan
+    ensures { λ r. ⌜ r ≡ planOf incoming seen n ⌝ }
+{
+    if n < 1 {
+        return Plan::Refuse(Refusal::Range);
+    }
+    if wire::MOST_NODES < n {
+        return Plan::Refuse(Refusal::Range);
+    }
+    if seen.sound {
+        return match incoming {
+            Incoming::Whole { to: _, heard } => plan_for(heard, seen, n),
+            Incoming::Unread(why) => Plan::Refuse(why),
+        };
+    }
+    Plan::Refuse(Refusal::Range)
+}
+
+// The index of the node that replies; 32, past every chain, where none does alone.
+pub fn speaker(p: Plan) -> usize
+    ensures { λ r. ⌜ r ≡ speakerOf p ⌝ }
+{
+    match p {
+        Plan::Refuse(_) => 32,
+        Plan::Deliver {
+            replier,
+            acting: _,
+            heard: _,
+        } => speaker_in(replier),
+    }
+}
+
+fn speaker_in(r: Replier) -> usize
+    ensures { λ i. ⌜ i ≡ speakerIn r ⌝ }
+{
+    match r {
+        Replier::None => 32,
+        Replier::One(i) => i,
+        Replier::Several => 32,
+    }
+}
+
+// The plan with the node that replies.
+pub fn survey_with(p: Plan, n: Node) -> Survey
+    ensures { λ r. ⌜ r ≡ surveyWith p n ⌝ }
+{
+    Survey {
+        plan: p,
+        speaker: n,
+    }
+}
+
+// The plan alone: the node beside it is nobody's.
+pub fn survey_alone(p: Plan) -> Survey
+    ensures { λ r. ⌜ r ≡ surveyAlone p ⌝ }
+{
+    let bench = Bench {
+        inputs: 0,
+        counter: 0,
+        analog0: 0,
+        analog1: 0,
+        analog2: 0,
+        id: 0,
+        version: 0,
+    };
+    Survey {
+        plan: p,
+        speaker: Node::power_up(bench),
+    }
+}

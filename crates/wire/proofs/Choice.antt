@@ -26,8 +26,3 @@ both false u e = absurd (false≢true e)
 pub neither : (t u : Bool) → (t || u) ≡ false → (t ≡ false) × (u ≡ false)
 neither true u e = absurd (true≢false e)
 neither false u e = (refl, e)
-
--- both branches are the same
-pub same : {A : Type 0} (t : Bool) (a : A) → cond t a a ≡ a
-same true a = refl
-same false a = refl

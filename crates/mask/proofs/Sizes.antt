@@ -1,13 +1,13 @@
 -- A mask, taken apart bit by bit beside the table of counts.
 use Prim.Native.Nat.{ℕ, suc, _+_, _/_, _%_, _^_, _≤_, _<_}
-use mathlib.Core.List.{List, []}
+use mathlib.Core.List.{List}
 use mathlib.Core.Path.{_≡_, refl, sym, ap, _∙_}
 use native.Mathlib.Omega.{arith}
 use native.Mathlib.Nat.{div-one, pow-suc, div-div-eq-div-mul}
 use native.Mathlib.Numerals.{add-one}
 use lib.Dec.{eqb}
 use lib.ListN.{length, drop, getD}
-use lib.Seq.{drop-cons, drop-length}
+use lib.Seq.{drop-cons}
 use Rattle.status.specs.Status.{counts, T}
 use Rattle.mask.specs.Mask.{askedCount, countFrom, sizeOf}
 use Rattle.mask.proofs.Counts.{size-range}

@@ -1,13 +1,13 @@
 -- The items of a node, written one behind the other: n bytes of the value w each.
 use Prim.Native.Nat.{ℕ, suc, _+_, _/_, _%_, _^_, _≤_, _<_}
-use mathlib.Core.List.{List, [], _∷_, _++_}
-use mathlib.Core.Path.{_≡_, refl, sym, ap, _∙_, subst}
+use mathlib.Core.List.{List, _∷_, _++_}
+use mathlib.Core.Path.{_≡_, ap, _∙_, subst}
 use native.Mathlib.Omega.{arith}
 use native.Mathlib.Nat.{zero-add}
 use native.Mathlib.Numerals.{add-one}
 use lib.Dec.{eqb}
 use lib.ListN.{length, take, drop, getD, length-append}
-use lib.Seq.{take-append-seam, drop-cons, drop-length}
+use lib.Seq.{take-append-seam, drop-cons}
 use Rattle.buffer.specs.Wrote.{Wrote}
 use Rattle.buffer.proofs.Writing.{sets-start}
 use Rattle.buffer.proofs.Appends.{Going, going-start, going-on, going-done}

@@ -17,6 +17,7 @@ use Rattle.wire.specs.declared.refusal.Refusal.the-variants.{Short, Long, Sum}
 use Rattle.status.specs.declared.Status.the-variants.{Whole, Refused}
 use Rattle.status.specs.declared.Answer.the-variants.{Silent}
 use Rattle.wire.proofs.Choice.{chose-first, chose-second}
+use Rattle.wire.proofs.Impossible.{impossible}
 use Rattle.buffer.proofs.Writing.{place-written, wrote, place-wrote}
 use Rattle.buffer.proofs.Sums.{length-with-sum, with-sum-ends, ends-shape, changed-length, changed-breaks}
 
@@ -54,7 +55,7 @@ module _ (b : ℕ) (d out left : List ℕ) (n : ℕ) (e : statusBuilt b d out �
   written-items = rw placed (built-items b d)
 
 refused-not : (why : Refusal) (b : ℕ) → Refused why ≡ Whole b → ⊥
-refused-not why b e = let z : _≡_ {A = ℕ} 0 1 = cc in omega arith
+refused-not why b e = impossible cc
 
 pub record Accepted (s : List ℕ) (k b : ℕ) : Type 0 where
   pub size : length s ≡ 2 + k

@@ -1,6 +1,6 @@
 -- The courses, step by step.
 use Prim.Native.Nat.{ℕ, _+_}
-use mathlib.Core.Bool.{Bool, true, false, true≢false}
+use mathlib.Core.Bool.{true, false, true≢false}
 use mathlib.Core.List.{List, [], _∷_}
 use mathlib.Core.Option.{Option, none, some}
 use mathlib.Core.Path.{_≡_, refl, ap, _∙_}
@@ -17,14 +17,13 @@ use Rattle.status.specs.declared.Answer.{Answer}
 use Rattle.status.specs.declared.Answer.the-variants.{Clear, Silent}
 use Rattle.node.specs.declared.state.Bench.{Bench}
 use Rattle.node.specs.declared.state.Node.{Node}
-use Rattle.node.specs.Effect.{settingsUp}
-use Rattle.node.specs.Node.{powerUp, nothing}
+use Rattle.node.specs.Node.{powerUp, acted}
 use Rattle.reply.specs.Items.{itemBytes}
 use Rattle.reply.specs.Reply.{replyOf}
 use Rattle.chain.specs.One.{acts, replies, turned}
 use Rattle.chain.specs.Chain.{blank, after, replierIn, reply, said}
 use Rattle.entry.specs.declared.Entry.{Entry}
-use Rattle.entry.specs.Entry.{entryUp}
+use Rattle.entry.specs.Entry.{entryUp, doubted}
 use Rattle.ledger.specs.Ledger.{ledgerUp, leastOf, eachFrom, settled}
 use Rattle.session.specs.declared.Exchange.the-variants.{Idle, Waiting}
 use Rattle.session.specs.declared.Session.{Session}
@@ -51,27 +50,12 @@ rest = replicate 29 entryUp
 abbrev zeros : Bench
 zeros = record { inputs = 0; counter = 0; analog0 = 0; analog1 = 0; analog2 = 0; id = 0; version = 0 }
 
--- a node by its place and its outputs
-abbrev nodeWith : Place → Bool → ℕ → Node
-nodeWith p heard outputs = record {
-  settings = record {
-    place = p;
-    mask = 0;
-    outputs = outputs;
-    pwm = record { first = 0; second = 0 };
-    held = record { outputs = 0; pwm = record { first = 0; second = 0 } };
-    timer = 0;
-  };
-  addressed = heard;
-  bench = zeros;
-  captured = nothing;
-}
-
 abbrev up : Node
 up = powerUp zeros
 
+-- node k with its address and its outputs
 abbrev placed : ℕ → ℕ → Node
-placed k outputs = nodeWith (givenPlace k) true outputs
+placed k outputs = acted (SetOutputs outputs) (acted (SetAddress (givenPlace k)) up)
 
 abbrev worldAt : Session → List Node → Line → List Sent → World
 worldAt s ns l past = record { host = s; nodes = ns; line = l; past = past; up = true }
@@ -91,7 +75,7 @@ good = 0x00 ∷ 0x00 ∷ []
 
 -- the entry of a node whose place alone is in doubt
 abbrev doubtful : Entry
-doubtful = entryWith (settingsUp .place) 0 (record { place = false; mask = true; outputs = true; pwm = true; held = true; timer = true })
+doubtful = doubted (SetAddress (givenPlace 1)) entryUp
 
 -- one exchange: the call, the packet as it arrives, the reply as it comes, the report
 round : {w : World} → Comes w → (k : calls.Call) → calls.Typed k → (s t : Session) (ns ms : List Node) (past : List Sent) (what : Sending) (p : List ℕ)

@@ -28,7 +28,7 @@ use Rattle.survey.specs.Chain.{Said, silence, reply, clash}
 use Rattle.reports.proofs.Soundness.{finished-stays, report-stays}
 use Rattle.line.specs.History.{Sending, Sent, counted}
 use Rattle.line.specs.Call.{Call, calledOf, whatOf, resets, Typed}
-use Rattle.line.specs.Line.{Line, quiet, going, coming, late, Arrives, lost, Nothing, unheard, Returns, quietly, mixed, nodesAfter, saidAfter, reportedOf, heardIn}
+use Rattle.line.specs.Line.{Line, quiet, going, coming, late, Arrival, nowhere, Arrives, lost, Nothing, unheard, Returns, quietly, mixed, nodesAfter, saidAfter, reportedOf, heardIn}
 use Rattle.line.specs.Line as line
 use Rattle.line.specs.World.{World, hosting, callEnded, called, Comes, start, power, unpowered, call, deliver, report, hurry, delay, stray, bench}
 use Rattle.wire.proofs.Numbers.{not-done}
@@ -114,7 +114,7 @@ call-goes h t ns past k p s a = record {
 -- ---- its packet arrives, and what comes of it is reported
 
 arrives : (h : Session) (ns : List Node) (past : List Sent) (what : Sending) (p : List ℕ) → Going h ns past what p
-    → (q r : Option (List ℕ)) → Arrives p q → Returns (saidAfter q ns) r → Coming h (nodesAfter q ns) past what r
+    → (q : Arrival) (r : Option (List ℕ)) → Arrives p q → Returns (saidAfter q ns) r → Coming h (nodesAfter q ns) past what r
 arrives h ns past what p g q r a b =
     let o = g .opened in
     record {
@@ -146,7 +146,7 @@ unheard-of (reply r) = line.Returns.lost unheard
 unheard-of clash = mixed
 
 -- it comes then, or never: the host, which is in doubt already, is right in either case
-late-settles : {h : Session} {ns : List Node} {past : List Sent} {p : List ℕ} → Late h ns past p → (q : Option (List ℕ)) → Arrives p q → Settled h (nodesAfter q ns) past
+late-settles : {h : Session} {ns : List Node} {past : List Sent} {p : List ℕ} → Late h ns past p → (q : Arrival) → Arrives p q → Settled h (nodesAfter q ns) past
 late-settles {h} {ns} {past} {p} l q a =
     rw (l .host, l .history) (settles-again (l .waiting) (nodesAfter q ns) (l .earlier) (l .what) none
     (arrives (l .waiting) ns (l .earlier) (l .what) p (l .sent) q none a (unheard-of (saidAfter q ns))))
@@ -155,7 +155,7 @@ pub when-idle : (h : Session) (ns : List Node) (past : List Sent) (l : Line) →
 when-idle h ns past quiet s e = s
 when-idle h ns past (going what p) s e = absurd (not-idle (s .opened) e)
 when-idle h ns past (coming what r) s e = absurd (not-idle (s .opened) e)
-when-idle h ns past (late p) s e = late-settles s none lost
+when-idle h ns past (late p) s e = late-settles s nowhere lost
 
 hurries : (h : Session) (ns : List Node) (past : List Sent) (what : Sending) (p : List ℕ) → Going h ns past what p → (r : Option (List ℕ)) → Nothing r
     → Late (reportedOf h r .session) ns (record { what = what; heard = heardIn r } ∷ past) p
@@ -276,4 +276,4 @@ steady h ns past (coming what r) s =
       nodes = k .nodes ∙ sym (ap (λ (z : Session). z .n) (o .now));
       inv = exchange-step (o .due) (o .fits) _ (s .old) ns i (heardIn r) (s .exchange) k;
     }
-steady h ns past (late p) s = record { session = h; nodes = refl; inv = late-settles s none lost .inv }
+steady h ns past (late p) s = record { session = h; nodes = refl; inv = late-settles s nowhere lost .inv }

@@ -1,6 +1,6 @@
 -- The courses, step by step.
 use Prim.Native.Nat.{ℕ, _+_}
-use mathlib.Core.Bool.{Bool, true, false, true≢false}
+use mathlib.Core.Bool.{true, false, true≢false}
 use mathlib.Core.List.{List, [], _∷_}
 use mathlib.Core.Option.{Option, none, some}
 use mathlib.Core.Path.{_≡_, refl, ap, _∙_}
@@ -17,14 +17,13 @@ use Rattle.status.specs.declared.Answer.{Answer}
 use Rattle.status.specs.declared.Answer.the-variants.{Clear, Silent}
 use Rattle.node.specs.declared.state.Bench.{Bench}
 use Rattle.node.specs.declared.state.Node.{Node}
-use Rattle.node.specs.Effect.{settingsUp}
-use Rattle.node.specs.Node.{powerUp, nothing}
+use Rattle.node.specs.Node.{powerUp, acted}
 use Rattle.reply.specs.Items.{itemBytes}
 use Rattle.reply.specs.Reply.{replyOf}
 use Rattle.survey.specs.One.{acts, replies, turned}
 use Rattle.survey.specs.Chain.{blank, after, replierIn, reply, said}
 use Rattle.entry.specs.declared.Entry.{Entry}
-use Rattle.entry.specs.Entry.{entryUp}
+use Rattle.entry.specs.Entry.{entryUp, doubted}
 use Rattle.ledger.specs.Ledger.{ledgerUp, leastOf, eachFrom, settled}
 use Rattle.session.specs.declared.Exchange.the-variants.{Idle, Waiting}
 use Rattle.session.specs.declared.Session.{Session}
@@ -38,7 +37,7 @@ use Rattle.reports.specs.Report.{giving, asking, concluded, finished, reportOf}
 use Rattle.examples.specs.Example.{buffer, knownBut, entryWith, addressed, pair}
 use Rattle.line.specs.History.{Sending, Sent, gives, asks, sends}
 use Rattle.line.specs.Call as calls
-use Rattle.line.specs.Line.{Line, quiet, going, Arrives, Returns, nodesAfter, saidAfter, reportedOf, heardIn}
+use Rattle.line.specs.Line.{Line, quiet, going, Arrival, came, Arrives, Returns, nodesAfter, saidAfter, reportedOf, heardIn}
 use Rattle.line.specs.Line as line
 use Rattle.line.specs.World.{World, called, Comes, start, power, call, deliver, report}
 use Rattle.line.specs.Courses.{Courses, unasked, asked, walked, lost, again}
@@ -51,27 +50,12 @@ rest = replicate 29 entryUp
 abbrev zeros : Bench
 zeros = record { inputs = 0; counter = 0; analog0 = 0; analog1 = 0; analog2 = 0; id = 0; version = 0 }
 
--- a node by its place and its outputs
-abbrev nodeWith : Place → Bool → ℕ → Node
-nodeWith p heard outputs = record {
-  settings = record {
-    place = p;
-    mask = 0;
-    outputs = outputs;
-    pwm = record { first = 0; second = 0 };
-    held = record { outputs = 0; pwm = record { first = 0; second = 0 } };
-    timer = 0;
-  };
-  addressed = heard;
-  bench = zeros;
-  captured = nothing;
-}
-
 abbrev up : Node
 up = powerUp zeros
 
+-- node k with its address and its outputs
 abbrev placed : ℕ → ℕ → Node
-placed k outputs = nodeWith (givenPlace k) true outputs
+placed k outputs = acted (SetOutputs outputs) (acted (SetAddress (givenPlace k)) up)
 
 abbrev worldAt : Session → List Node → Line → List Sent → World
 worldAt s ns l past = record { host = s; nodes = ns; line = l; past = past; up = true }
@@ -91,11 +75,11 @@ good = 0x00 ∷ 0x00 ∷ []
 
 -- the entry of a node whose place alone is in doubt
 abbrev doubtful : Entry
-doubtful = entryWith (settingsUp .place) 0 (record { place = false; mask = true; outputs = true; pwm = true; held = true; timer = true })
+doubtful = doubted (SetAddress (givenPlace 1)) entryUp
 
 -- one exchange: the call, the packet as it arrives, the reply as it comes, the report
 round : {w : World} → Comes w → (k : calls.Call) → calls.Typed k → (s t : Session) (ns ms : List Node) (past : List Sent) (what : Sending) (p : List ℕ)
-    (q r : Option (List ℕ)) (a : Answer) → called k buffer w ≡ worldAt s ns (going what p) past → Arrives p q → Returns (saidAfter q ns) r
+    (q : Arrival) (r : Option (List ℕ)) (a : Answer) → called k buffer w ≡ worldAt s ns (going what p) past → Arrives p q → Returns (saidAfter q ns) r
     → nodesAfter q ns ≡ ms → reportedOf s r .session ≡ t → heardIn r ≡ a → Comes (worldAt t ms quiet (record { what = what; heard = a } ∷ past))
 round c k typed s t ns ms past what p q r a e x y f g h =
     rw (← f, ← g, ← h) (report (deliver (rw e at (call c k typed buffer)) what p refl q r x y) what r refl)
@@ -159,70 +143,70 @@ unfolding judged endsInSum total
 heard-good = refl
 
 -- the packets at the nodes
-takes-1 : nodesAfter (some (given 1)) (up ∷ up ∷ []) ≡ placed 1 0 ∷ up ∷ []
+takes-1 : nodesAfter (came (given 1)) (up ∷ up ∷ []) ≡ placed 1 0 ∷ up ∷ []
 unfolding frameOf dataOf intactOf endsInSum total readingOf rowsOf after turned acts
 takes-1 = refl
 
-takes-2 : nodesAfter (some (given 2)) (placed 1 0 ∷ up ∷ []) ≡ placed 1 0 ∷ placed 2 0 ∷ []
+takes-2 : nodesAfter (came (given 2)) (placed 1 0 ∷ up ∷ []) ≡ placed 1 0 ∷ placed 2 0 ∷ []
 unfolding frameOf dataOf intactOf endsInSum total readingOf rowsOf after turned acts
 takes-2 = refl
 
-takes-ask : nodesAfter (some nop1) (placed 1 0 ∷ up ∷ []) ≡ placed 1 0 ∷ up ∷ []
+takes-ask : nodesAfter (came nop1) (placed 1 0 ∷ up ∷ []) ≡ placed 1 0 ∷ up ∷ []
 unfolding frameOf dataOf intactOf endsInSum total readingOf rowsOf after turned acts
 takes-ask = refl
 
-takes-5 : (old : ℕ) → nodesAfter (some set5) (placed 1 0 ∷ placed 2 old ∷ []) ≡ placed 1 0 ∷ placed 2 5 ∷ []
+takes-5 : (old : ℕ) → nodesAfter (came set5) (placed 1 0 ∷ placed 2 old ∷ []) ≡ placed 1 0 ∷ placed 2 5 ∷ []
 unfolding frameOf dataOf intactOf endsInSum total readingOf rowsOf after turned acts
 takes-5 old = refl
 
-says-1 : saidAfter (some (given 1)) (up ∷ up ∷ []) ≡ reply good
+says-1 : saidAfter (came (given 1)) (up ∷ up ∷ []) ≡ reply good
 unfolding frameOf dataOf intactOf endsInSum total readingOf rowsOf said replierIn replies replyOf itemBytes
 says-1 = refl
 
-says-2 : saidAfter (some (given 2)) (placed 1 0 ∷ up ∷ []) ≡ reply good
+says-2 : saidAfter (came (given 2)) (placed 1 0 ∷ up ∷ []) ≡ reply good
 unfolding frameOf dataOf intactOf endsInSum total readingOf rowsOf said replierIn replies replyOf itemBytes
 says-2 = refl
 
-says-ask : saidAfter (some nop1) (placed 1 0 ∷ up ∷ []) ≡ reply good
+says-ask : saidAfter (came nop1) (placed 1 0 ∷ up ∷ []) ≡ reply good
 unfolding frameOf dataOf intactOf endsInSum total readingOf rowsOf said replierIn replies replyOf itemBytes
 says-ask = refl
 
-says-5 : (old : ℕ) → saidAfter (some set5) (placed 1 0 ∷ placed 2 old ∷ []) ≡ reply good
+says-5 : (old : ℕ) → saidAfter (came set5) (placed 1 0 ∷ placed 2 old ∷ []) ≡ reply good
 unfolding frameOf dataOf intactOf endsInSum total readingOf rowsOf said replierIn replies replyOf itemBytes
 says-5 old = refl
 
 -- the first "next": the reply is lost; "ask" is replied to
 unanswered : Comes (worldAt (pair 0 Idle doubtful entryUp rest) (placed 1 0 ∷ up ∷ []) quiet unasked)
 unanswered =
-    round powers calls.next tt _ _ (up ∷ up ∷ []) _ [] (gives 1) (given 1) (some (given 1)) none Silent (next-1 rest) line.whole (rw says-1 (line.lost line.unheard))
+    round powers calls.next tt _ _ (up ∷ up ∷ []) _ [] (gives 1) (given 1) (came (given 1)) none Silent (next-1 rest) line.whole (rw says-1 (line.lost line.unheard))
     takes-1 (silent-1 rest) refl
 
 answered : Comes (worldAt (pair 1 Idle (addressed 1) entryUp rest) (placed 1 0 ∷ up ∷ []) quiet asked)
 answered =
-    round unanswered calls.ask tt _ _ (placed 1 0 ∷ up ∷ []) _ _ (asks 1) nop1 (some nop1) (some good) Clear (ask-1 rest _) line.whole (rw says-ask line.whole)
+    round unanswered calls.ask tt _ _ (placed 1 0 ∷ up ∷ []) _ _ (asks 1) nop1 (came nop1) (some good) Clear (ask-1 rest _) line.whole (rw says-ask line.whole)
     takes-ask (good-ask rest) heard-good
 
 -- the walk
 first : Comes (worldAt (pair 1 Idle (addressed 1) entryUp rest) (placed 1 0 ∷ up ∷ []) quiet (record { what = gives 1; heard = Clear } ∷ []))
 first =
-    round powers calls.next tt _ _ (up ∷ up ∷ []) _ [] (gives 1) (given 1) (some (given 1)) (some good) Clear (next-1 rest) line.whole (rw says-1 line.whole)
+    round powers calls.next tt _ _ (up ∷ up ∷ []) _ [] (gives 1) (given 1) (came (given 1)) (some good) Clear (next-1 rest) line.whole (rw says-1 line.whole)
     takes-1 (good-1 rest) heard-good
 
 second : Comes (worldAt (pair 2 Idle (addressed 1) (addressed 2) rest) (placed 1 0 ∷ placed 2 0 ∷ []) quiet walked)
 second =
-    round first calls.next tt _ _ (placed 1 0 ∷ up ∷ []) _ _ (gives 2) (given 2) (some (given 2)) (some good) Clear (next-2 rest _) line.whole (rw says-2 line.whole)
+    round first calls.next tt _ _ (placed 1 0 ∷ up ∷ []) _ _ (gives 2) (given 2) (came (given 2)) (some good) Clear (next-2 rest _) line.whole (rw says-2 line.whole)
     takes-2 (good-2 rest) heard-good
 
 -- Set Outputs 5 to node 2: the reply is lost
 third : Comes (worldAt (pair 2 Idle (addressed 1) (entryWith (givenPlace 2) 0 (knownBut false true true)) rest) (placed 1 0 ∷ placed 2 5 ∷ []) quiet lost)
 third =
-    round second (calls.order (nodeAt 2) (SetOutputs 5)) tt _ _ (placed 1 0 ∷ placed 2 0 ∷ []) _ _ (sends (nodeAt 2) (SetOutputs 5)) set5 (some set5) none Silent
+    round second (calls.order (nodeAt 2) (SetOutputs 5)) tt _ _ (placed 1 0 ∷ placed 2 0 ∷ []) _ _ (sends (nodeAt 2) (SetOutputs 5)) set5 (came set5) none Silent
     (set-outputs rest (addressed 2) _ _) line.whole (rw (says-5 0) (line.lost line.unheard)) (takes-5 0) (silent-5 rest) refl
 
 -- sent again, and replied to
 fourth : Comes (worldAt (pair 2 Idle (addressed 1) (entryWith (givenPlace 2) 5 (knownBut true true true)) rest) (placed 1 0 ∷ placed 2 5 ∷ []) quiet again)
 fourth =
-    round third (calls.order (nodeAt 2) (SetOutputs 5)) tt _ _ (placed 1 0 ∷ placed 2 5 ∷ []) _ _ (sends (nodeAt 2) (SetOutputs 5)) set5 (some set5) (some good) Clear
+    round third (calls.order (nodeAt 2) (SetOutputs 5)) tt _ _ (placed 1 0 ∷ placed 2 5 ∷ []) _ _ (sends (nodeAt 2) (SetOutputs 5)) set5 (came set5) (some good) Clear
     (set-outputs rest (entryWith (givenPlace 2) 0 (knownBut false true true)) _ _) line.whole (rw (says-5 5) line.whole) (takes-5 5) (good-5 rest) heard-good
 
 -- the first "next" is on its way

@@ -2,7 +2,7 @@
 use Prim.Native.Nat.{ℕ}
 use mathlib.Core.Bool.{Bool, true, false, cond, true≢false, false≢true}
 use mathlib.Core.List.{List}
-use mathlib.Core.Option.{Option, some}
+use mathlib.Core.Option.{Option}
 use mathlib.Core.Path.{_≡_, refl, sym, ap, subst, _∙_}
 use lib.ListN.{getD}
 use Rattle.wire.specs.Address.{inRange, addressOf}
@@ -29,7 +29,7 @@ use Rattle.reply.proofs.Replies.{reply-judged, altered-silent}
 use Rattle.survey.specs.One.{heardAs, meant, answers}
 use Rattle.survey.specs.Chain.{after, Said, silence, clash, said, hearsAt, repliesAt}
 use Rattle.survey.proofs.Meaning.{length-after, after-at, spoilt-stays, Replying, said-says}
-use Rattle.line.specs.Line.{Arrives, Nothing, Returns, nodesAfter, saidAfter, heardIn}
+use Rattle.line.specs.Line.{Arrival, came, Arrives, Nothing, Returns, nodesAfter, saidAfter, heardIn}
 use Rattle.line.specs.Line as line
 use Rattle.line.proofs.Invariant.{at, acts, Answered, Exchanged}
 
@@ -59,10 +59,10 @@ voice to heard ns n e line.mixed = absurd (n e)
 
 -- bytes that read as a whole packet
 module _ (ns : List Node) (q : List ℕ) (to : Address) (k n : ℕ) (heard : Heard) (f : frameOf q ≡ Whole to k n) (e : heardAs k q ≡ heard) where
-  nodes-are : nodesAfter (some q) ns ≡ after to heard ns
+  nodes-are : nodesAfter (came q) ns ≡ after to heard ns
   nodes-are = rw (f, e) refl
 
-  said-is : saidAfter (some q) ns ≡ said to heard ns
+  said-is : saidAfter (came q) ns ≡ said to heard ns
   said-is = rw (f, e) refl
 
 -- whoever is called to reply to an address is one that acts on it
@@ -129,8 +129,8 @@ module _ (to : Address) (c : Command) (ns : List Node) where
   module _ (range : inRange to ≡ true) (fits : fitsOf c ≡ true) (typed : Typed c) where
     -- what a packet of ours says, as it was sent and damaged
     pub record Means (q : List ℕ) (a : Address) (heard : Heard) : Type 0 where
-      pub nodes : nodesAfter (some q) ns ≡ after a heard ns
-      pub speaks : saidAfter (some q) ns ≡ said a heard ns
+      pub nodes : nodesAfter (came q) ns ≡ after a heard ns
+      pub speaks : saidAfter (came q) ns ≡ said a heard ns
 
     pub whole-means : Means (packetFor to c) to (Intact c)
     whole-means =
@@ -153,7 +153,7 @@ module _ (to : Address) (c : Command) (ns : List Node) where
         }
 
     -- from the sending to the report
-    pub exchanged : ((b : Address) (heard : Heard) → said b heard ns ≡ clash → ⊥) → {q r : Option (List ℕ)} → Arrives (packetFor to c) q → Returns (saidAfter q ns) r
+    pub exchanged : ((b : Address) (heard : Heard) → said b heard ns ≡ clash → ⊥) → {q : Arrival} {r : Option (List ℕ)} → Arrives (packetFor to c) q → Returns (saidAfter q ns) r
         → Exchanged to c ns (nodesAfter q ns) (heardIn r)
     exchanged n line.whole b =
         let m = whole-means in

@@ -2,7 +2,6 @@
 use Prim.Native.Nat.{ℕ, suc, _-_, _≤_}
 use mathlib.Core.Bool.{false, not, true≢false}
 use mathlib.Core.List.{List}
-use mathlib.Core.Option.{Option}
 use mathlib.Core.Logic.{_↔_}
 use mathlib.Core.Path.{_≡_, sym, ap, subst, _∙_}
 use native.Mathlib.Omega.{arith}
@@ -16,7 +15,7 @@ use Rattle.entry.specs.Entry.{knows}
 use Rattle.session.specs.declared.Session.{Session}
 use Rattle.session.specs.Session.{entryOf}
 use Rattle.line.specs.History.{Sending, Sent, Counted, counted, inDoubt, Doubtful}
-use Rattle.line.specs.Line.{Line, Arrives, saidAfter}
+use Rattle.line.specs.Line.{Line, Arrival, Arrives, saidAfter}
 use Rattle.line.specs.Line as line
 use Rattle.line.specs.Demand3 as promised
 use Rattle.line.proofs.Words.{same-words}
@@ -57,13 +56,13 @@ one-leader w comes up g j k a b c d p q =
 
 -- nobody replies to a packet that is lost; one that is not says what it says to one address
 peace : (h : Session) (ns : List Node) (past : List Sent) (what : Sending) (p : List ℕ) → Going h ns past what p
-    → (q : Option (List ℕ)) → Arrives p q → saidAfter q ns ≡ clash → ⊥
+    → (q : Arrival) → Arrives p q → saidAfter q ns ≡ clash → ⊥
 peace h ns past what p g q a c = go (rw (g .packet) at a) c
   where
     o : Opened h ns past what
     o = g .opened
 
-    go : {q : Option (List ℕ)} → Arrives (packetFor (o .line) (o .command)) q → saidAfter q ns ≡ clash → ⊥
+    go : {q : Arrival} → Arrives (packetFor (o .line) (o .command)) q → saidAfter q ns ≡ clash → ⊥
     go line.whole c = no-clash (o .before) ns (o .inv) _ _ (sym (whole-means (o .line) (o .command) ns (o .range) (o .fits) (o .typed) .speaks) ∙ c)
     go (line.damaged {q = q} d) c = no-clash (o .before) ns (o .inv) _ _ (sym (damaged-means (o .line) (o .command) ns (o .range) (o .fits) (o .typed) q d .speaks) ∙ c)
     go line.lost c = true≢false (cc c)
@@ -71,7 +70,7 @@ peace h ns past what p g q a c = go (rw (g .packet) at a) c
 pub no-collision : promised.NoCollision
 no-collision w comes up p o = go o (holds comes up)
   where
-    go : {l : Line} → line.OnItsWay p l → Stands (w .host) (w .nodes) (w .past) l → (q : Option (List ℕ)) → Arrives p q → saidAfter q (w .nodes) ≡ clash → ⊥
+    go : {l : Line} → line.OnItsWay p l → Stands (w .host) (w .nodes) (w .past) l → (q : Arrival) → Arrives p q → saidAfter q (w .nodes) ≡ clash → ⊥
     go (line.awaited {what = what}) s = peace (w .host) (w .nodes) (w .past) what p s
     go line.overdue s = peace (s .waiting) (w .nodes) (s .earlier) (s .what) p (s .sent)
 

@@ -34,6 +34,7 @@ use Rattle.line.proofs.Sound.{Fits, fits-test, hits-test}
 use Rattle.line.proofs.Invariant.{at, Placed, PlacedAt, leads, Alone, Invariant, acts, Answered, Exchanged}
 use Rattle.line.proofs.Step.{held-step, shrinks, stepped}
 
+-- a node that is addressed hears
 hears-addressed : (ns : List Node) (i : ℕ) → at ns i .addressed ≡ true → hearsAt ns i ≡ true
 hears-addressed ns zero e = refl
 hears-addressed ns (suc i) e = rw e (or-true (at ns i .addressed))
@@ -56,6 +57,7 @@ module _ (h : Session) (ns : List Node) (inv : Invariant h ns) (ended : h .walk 
   fits-group g i l b f true k = rw (inv .held i l place k) (fits-test _ b (λ e. eq-eqb _ (g .0) (acts-group g i (f e))))
   fits-group g i l b f false k = tt
 
+  -- b: any fact that makes the node one that acts
   fits-ready : (to : Address) (i : ℕ) → i < h .n → (b : Bool) → (b ≡ true → acts to ns i ≡ true) → Fits (reachOf to (suc i) (entryAt h i)) b
   fits-ready (address.Individual j) i l b f = fits-test (eqb (j .0) (suc i)) b (λ e. eq-eqb (j .0) (suc i) (acts-node j i l (f e)))
   fits-ready (address.Group g) i l b f = fits-group g i l b f (knows (entryAt h i) place) refl

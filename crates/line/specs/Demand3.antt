@@ -2,7 +2,6 @@
 use Prim.Native.Nat.{ℕ, _+_, _-_, _≤_}
 use mathlib.Core.Bool.{true, false}
 use mathlib.Core.List.{List}
-use mathlib.Core.Option.{Option, some}
 use mathlib.Core.Logic.{_↔_}
 use mathlib.Core.Path.{_≡_}
 use lib.ListN.{length, getD, take}
@@ -20,7 +19,7 @@ use Rattle.entry.specs.Entry.{knows, shows}
 use Rattle.session.specs.declared.Exchange.the-variants.{Idle}
 use Rattle.session.specs.Session.{entryOf}
 use Rattle.line.specs.History.{counted, Doubtful}
-use Rattle.line.specs.Line.{OnItsWay, Arrives, nodesAfter, saidAfter}
+use Rattle.line.specs.Line.{OnItsWay, Arrival, came, Arrives, nodesAfter, saidAfter}
 use Rattle.line.specs.World.{World, Comes}
 
 -- node k of the chain
@@ -49,7 +48,7 @@ OneLeader = (w : World) → Comes w → w .up ≡ true → (g : Group) (j k : �
 
 -- so no two nodes reply at once to a packet sent in that time, whatever becomes of it on its way
 abbrev pub NoCollision : Type 0
-NoCollision = (w : World) → Comes w → w .up ≡ true → (p : List ℕ) → OnItsWay p (w .line) → (q : Option (List ℕ)) → Arrives p q → saidAfter q (w .nodes) ≡ clash → ⊥
+NoCollision = (w : World) → Comes w → w .up ≡ true → (p : List ℕ) → OnItsWay p (w .line) → (q : Arrival) → Arrives p q → saidAfter q (w .nodes) ≡ clash → ⊥
 
 -- what a delivery to a table says on the line
 abbrev pub heardBy : Delivery → List ℕ → Said
@@ -61,8 +60,8 @@ heardBy (Refused why) left = silence
 -- the chain's call over these nodes, with room for a reply, isn't refused for the table, and does to nodes and line what is said of the list
 pub record Delivers (ns : List Node) (q out : List ℕ) : Type 0 where
   pub taken : valid ns ≡ true
-  pub nodes : deliveredOn ns q out .left .nodes ≡ nodesAfter (some q) ns
-  pub says : heardBy (deliveredOn ns q out .answer) (deliveredOn ns q out .left .reply) ≡ saidAfter (some q) ns
+  pub nodes : deliveredOn ns q out .left .nodes ≡ nodesAfter (came q) ns
+  pub says : heardBy (deliveredOn ns q out .answer) (deliveredOn ns q out .left .reply) ≡ saidAfter (came q) ns
 
 abbrev pub ByCall : Type 0
 ByCall = (w : World) → Comes w → w .up ≡ true → (q out : List ℕ) → T + 2 ≤ length out → Delivers (w .nodes) q out

@@ -29,29 +29,34 @@ pub data OnItsWay (p : List ℕ) : Line → Type 0 where
   awaited : {what : Sending} → OnItsWay p (going what p)
   overdue : OnItsWay p (late p)
 
+-- what comes to the nodes of a packet: some bytes, or nothing
+pub data Arrival : Type 0 where
+  came : List ℕ → Arrival
+  nowhere : Arrival
+
 -- "A command reaches all nodes alike: whole, with one byte other than header and command byte changed, or not at all"
-pub data Arrives (p : List ℕ) : Option (List ℕ) → Type 0 where
-  whole : Arrives p (some p)
-  damaged : {q : List ℕ} → Damaged p q → Arrives p (some q)
-  lost : Arrives p none
+pub data Arrives (p : List ℕ) : Arrival → Type 0 where
+  whole : Arrives p (came p)
+  damaged : {q : List ℕ} → Damaged p q → Arrives p (came q)
+  lost : Arrives p nowhere
 
 -- the nodes after the bytes q, as the chain delivers them
 abbrev pub takenBy : Framed → List ℕ → List Node → List Node
 takenBy (framed.Whole to k n) q ns = after to (heardAs k q) ns
 takenBy (framed.Refused why) q ns = ns
 
-abbrev pub nodesAfter : Option (List ℕ) → List Node → List Node
-nodesAfter none ns = ns
-nodesAfter (some q) ns = takenBy (frameOf q) q ns
+abbrev pub nodesAfter : Arrival → List Node → List Node
+nodesAfter nowhere ns = ns
+nodesAfter (came q) ns = takenBy (frameOf q) q ns
 
 -- and what they say
 abbrev pub spokenBy : Framed → List ℕ → List Node → Said
 spokenBy (framed.Whole to k n) q ns = said to (heardAs k q) ns
 spokenBy (framed.Refused why) q ns = silence
 
-abbrev pub saidAfter : Option (List ℕ) → List Node → Said
-saidAfter none ns = silence
-saidAfter (some q) ns = spokenBy (frameOf q) q ns
+abbrev pub saidAfter : Arrival → List Node → Said
+saidAfter nowhere ns = silence
+saidAfter (came q) ns = spokenBy (frameOf q) q ns
 
 -- nothing came: silence is reported, or no bytes
 pub data Nothing : Option (List ℕ) → Type 0 where

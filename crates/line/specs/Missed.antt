@@ -12,7 +12,7 @@ use Rattle.session.specs.declared.Exchange.the-variants.{Idle}
 use Rattle.session.specs.declared.End.the-variants.{Sent}
 use Rattle.session.specs.Session.{entryOf}
 use Rattle.line.specs.Call.{Call, ask, calledOf}
-use Rattle.line.specs.Line.{Arrives, Returns, nodesAfter, saidAfter, reportedOf}
+use Rattle.line.specs.Line.{Arrival, Arrives, Returns, nodesAfter, saidAfter, reportedOf}
 use Rattle.line.specs.World.{World, Comes}
 use Rattle.line.specs.Demand3.{nodeOf}
 
@@ -30,7 +30,7 @@ pub record Left (n m : Node) : Type 0 where
 -- no call but "ask" sends; and whatever becomes of an "ask" and of the reply to it, the session is afterwards as it was, the node's settings too, and it is still not addressed
 pub record Stuck (w : World) : Type 0 where
   pub alone : (c : Call) (out : List ℕ) (n : ℕ) → calledOf c (w .host) out .answer .end ≡ Sent n → c ≡ ask
-  pub same : (out : List ℕ) (n : ℕ) → calledOf ask (w .host) out .answer .end ≡ Sent n → (q r : Option (List ℕ))
+  pub same : (out : List ℕ) (n : ℕ) → calledOf ask (w .host) out .answer .end ≡ Sent n → (q : Arrival) (r : Option (List ℕ))
       → Arrives (take n (calledOf ask (w .host) out .left)) q → Returns (saidAfter q (w .nodes)) r
       → (reportedOf (calledOf ask (w .host) out .answer .session) r .session ≡ w .host) × Left (nodeOf (w .nodes) (w .host .walk + 1)) (nodeOf (nodesAfter q (w .nodes)) (w .host .walk + 1))
 

@@ -17,7 +17,7 @@ use Rattle.start.specs.Start.{freshOf, poweredOf}
 use Rattle.line.specs.History.{Sending}
 use Rattle.line.specs.History as history
 use Rattle.line.specs.Call.{Call, calledOf, whatOf, resets, Typed}
-use Rattle.line.specs.Line.{Line, quiet, going, coming, late, Arrives, Nothing, nodesAfter, saidAfter, Returns, reportedOf, heardIn}
+use Rattle.line.specs.Line.{Line, quiet, going, coming, late, Arrival, Arrives, Nothing, nodesAfter, saidAfter, Returns, reportedOf, heardIn}
 
 -- `up`: the host was told of a power-up, and no Hard Reset was sent since; `past`: what was sent and heard since, the newest first
 pub record World : Type 0 where
@@ -50,7 +50,7 @@ abbrev pub called : Call → List ℕ → World → World
 called c out w = callEnded (calledOf c (w .host) out .answer .end) c (calledOf c (w .host) out .answer .session) (calledOf c (w .host) out .left) w
 
 -- the packet came as q, and r comes back
-abbrev pub delivered : Option (List ℕ) → Sending → Option (List ℕ) → World → World
+abbrev pub delivered : Arrival → Sending → Option (List ℕ) → World → World
 delivered q what r w = record { host = w .host; nodes = nodesAfter q (w .nodes); line = coming what r; past = w .past; up = w .up }
 
 -- what came was reported
@@ -74,7 +74,7 @@ hurried what p r w = record {
 }
 
 -- and then it came as q; what the nodes say comes too late
-abbrev pub delayed : Option (List ℕ) → World → World
+abbrev pub delayed : Arrival → World → World
 delayed q w = record { host = w .host; nodes = nodesAfter q (w .nodes); line = quiet; past = w .past; up = w .up }
 
 -- a node with other bench values
@@ -92,12 +92,12 @@ pub data Comes : World → Type 0 where
   call : {w : World} → Comes w → (c : Call) → Typed c → (out : List ℕ) → Comes (called c out w)
   -- its packet reaches all nodes alike, and what they say comes back
   deliver : {w : World} → Comes w → (what : Sending) (p : List ℕ) → w .line ≡ going what p
-      → (q r : Option (List ℕ)) → Arrives p q → Returns (saidAfter q (w .nodes)) r → Comes (delivered q what r w)
+      → (q : Arrival) (r : Option (List ℕ)) → Arrives p q → Returns (saidAfter q (w .nodes)) r → Comes (delivered q what r w)
   -- what came is reported as it came
   report : {w : World} → Comes w → (what : Sending) (r : Option (List ℕ)) → w .line ≡ coming what r → Comes (reported what r w)
   -- silence is reported before the packet has come to the nodes; it comes before the next command is sent, or not at all
   hurry : {w : World} → Comes w → (what : Sending) (p : List ℕ) → w .line ≡ going what p → (r : Option (List ℕ)) → Nothing r → Comes (hurried what p r w)
-  delay : {w : World} → Comes w → (p : List ℕ) → w .line ≡ late p → (q : Option (List ℕ)) → Arrives p q → Comes (delayed q w)
+  delay : {w : World} → Comes w → (p : List ℕ) → w .line ≡ late p → (q : Arrival) → Arrives p q → Comes (delayed q w)
   -- a report that is refused: "a reply nobody waits for"
   stray : {w : World} → Comes w → (r : Option (List ℕ)) (why : Refusal) → reportedOf (w .host) r .end ≡ Refused why → Comes (hosting (reportedOf (w .host) r .session) w)
   -- the bench sets the values of a node, at any time

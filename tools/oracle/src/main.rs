@@ -9,6 +9,7 @@ mod command;
 mod coverage;
 mod demand3;
 mod edges;
+mod first;
 mod hex;
 mod history;
 mod layout;
@@ -38,6 +39,7 @@ const USAGE: &str = "\
 oracle bench                    a bench input in, what the bench must print out
 oracle trials                   a trials input in, what trials must print out
 oracle edges                    what edges must print out
+oracle first                    what first must print out
 oracle make-bench SEED LINES    a seeded bench input
 oracle make-trials SEED LINES   a seeded trials input
 oracle cases-bench [NAME]       the stored bench input, or a further one
@@ -83,6 +85,7 @@ fn run(words: &[&str]) -> Option<Output> {
         ["bench"] => bench::run(Rules::RIGHT, &input()).into_bytes(),
         ["trials"] => trials::run(Rules::RIGHT, &input()).into_bytes(),
         ["edges"] => edges::run(Rules::RIGHT).into_bytes(),
+        ["first"] => first::run(Rules::RIGHT)?.into_bytes(),
         ["make-bench", seed, lines] => make_bench::make(seed.parse().ok()?, lines.parse().ok()?),
         ["make-trials", seed, lines] => make_trials::make(seed.parse().ok()?, lines.parse().ok()?),
         ["cases-bench"] => cases::bench(),

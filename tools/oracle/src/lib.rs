@@ -13,6 +13,7 @@ pub mod command;
 pub mod coverage;
 pub mod demand3;
 pub mod edges;
+pub mod first;
 pub mod hex;
 pub mod history;
 pub mod layout;

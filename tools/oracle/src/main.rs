@@ -5,13 +5,14 @@ use std::process::ExitCode;
 
 use oracle::coverage::Coverage;
 use oracle::rules::Rules;
-use oracle::{bench, cases, cases_bench, demand3, edges, hex};
+use oracle::{bench, cases, cases_bench, demand3, edges, first, hex};
 use oracle::{make_bench, make_trials, manuals, trials};
 
 const USAGE: &str = "\
 oracle bench                    a bench input in, what the bench must print out
 oracle trials                   a trials input in, what trials must print out
 oracle edges                    what edges must print out
+oracle first                    what first must print out
 oracle make-bench SEED LINES    a seeded bench input
 oracle make-trials SEED LINES   a seeded trials input
 oracle cases-bench [NAME]       the stored bench input, or a further one
@@ -57,6 +58,7 @@ fn run(words: &[&str]) -> Option<Output> {
         ["bench"] => bench::run(Rules::RIGHT, &input()).into_bytes(),
         ["trials"] => trials::run(Rules::RIGHT, &input()).into_bytes(),
         ["edges"] => edges::run(Rules::RIGHT).into_bytes(),
+        ["first"] => first::run(Rules::RIGHT)?.into_bytes(),
         ["make-bench", seed, lines] => make_bench::make(seed.parse().ok()?, lines.parse().ok()?),
         ["make-trials", seed, lines] => make_trials::make(seed.parse().ok()?, lines.parse().ok()?),
         ["cases-bench"] => cases::bench(),

@@ -1,0 +1,52 @@
+//! The output of the program `first`: two nodes get their addresses, the
+//! second one's outputs are set, and the host says what it knows of each.
+
+use crate::chain::{deliver, Delivery};
+use crate::command::Command;
+use crate::hex;
+use crate::node::{BenchValues, Node};
+use crate::record::Setting;
+use crate::refusal::Refusal;
+use crate::rules::Rules;
+use crate::session::{Session, Target};
+use crate::status::T;
+
+/// The whole output; None where a call is refused, as none is.
+pub fn run(rules: Rules) -> Option<String> {
+    let mut nodes = vec![Node::powered_up(BenchValues::ZERO); 2];
+    let mut session = Session::fresh(rules);
+    session.power_up(2).ok()?;
+    for _ in 0..2 {
+        exchange(rules, &mut nodes, &mut session, Session::next).ok()?;
+    }
+    exchange(rules, &mut nodes, &mut session, |session, buffer| {
+        session.command(Target::Node(2), Command::SetOutputs(5), buffer)
+    })
+    .ok()?;
+    [1, 2].iter().map(|node| line(&session, *node)).collect()
+}
+
+/// A call that sends, its packet on the chain, and what came back reported.
+fn exchange(
+    rules: Rules,
+    nodes: &mut [Node],
+    session: &mut Session,
+    send: fn(&mut Session, &mut [u8]) -> Result<usize, Refusal>,
+) -> Result<(), Refusal> {
+    let mut packet = [0; 19];
+    let length = send(session, &mut packet)?;
+    let mut reply = [0; T + 2];
+    match deliver(rules, nodes, &packet[..length], &mut reply)? {
+        Delivery::Reply(length) => session.report(&reply[..length]),
+        Delivery::Silent | Delivery::Collision => session.silence(),
+    }
+}
+
+/// A node's number, whether its outputs are known, and the outputs.
+fn line(session: &Session, node: u8) -> Option<String> {
+    let entry = session.look(node).ok()?;
+    let [low, high] = entry.settings.outputs.to_le_bytes();
+    let known = u8::from(entry.knows(Setting::Outputs));
+    let bytes = hex::format(&[node, known, low, high]);
+    Some(format!("node, known, outputs: {bytes}\n"))
+}

@@ -8,8 +8,9 @@ use crate::node::{BenchValues, Node};
 use crate::record::Setting;
 use crate::refusal::Refusal;
 use crate::rules::Rules;
-use crate::session::{Session, Target};
+use crate::session::Session;
 use crate::status::T;
+use crate::target::Target;
 
 /// The whole output; None where a call is refused, as none is.
 pub fn run(rules: Rules) -> Option<String> {

@@ -40,3 +40,7 @@ module _ (c : Incoming) where
 
     pub survey-past : (r : Survey) → length ns ≤ k → r ≡ surveyAlone p → r ≡ surveyOf c ns
     survey-past r l e = e ∙ sym (ap (λ (n : Node). surveyWith p n) (List·getD-eq-default ns nobody {n = k} l)) ∙ by-plan
+
+-- the plan alone, as the code makes it
+pub alone : (p : Plan) (n : Node) → n ≡ nobody → record { plan = p; speaker = n } ≡ surveyAlone p
+alone p n e = rw e

@@ -1,6 +1,8 @@
 // The chain as node records side by side in a table that the caller lends.
 // Promised: for every lent table, packet and reply buffer the paper's number, the nodes as the packet leaves them and the one reply; any number but 0 and 13 changes nothing.
 // Left to others: who hears, acts and replies (survey), and who keeps the nodes (table).
+mod steps;
+
 use node::Node;
 use survey::Decided;
 pub use survey::Delivery;
@@ -9,7 +11,7 @@ use survey::Survey;
 ghost use mathlib.Core.Path.{_≡_};
 ghost use Rattle.wire.specs.Promise.{Lending};
 ghost use Rattle.survey.specs.Survey.{surveyOf};
-ghost use Rattle.survey.specs.Decision.{reachOf, visited};
+ghost use Rattle.survey.specs.Decision.{visited};
 ghost use Rattle.survey.specs.Delivery.{deliveredOn, deliveryNumber};
 
 // A look at every node, in order, and then at the one that replies.
@@ -17,7 +19,7 @@ fn survey_all(table: &[Node], incoming: Incoming) -> Survey
     ensures { λ r. ⌜ r ≡ surveyOf incoming (now (table .entry)) ⌝ }
 {
     let n = table.len();
-    let mut seen = survey::start();
+    let mut seen = steps::start();
     let mut i: usize = 0;
     while i < n {
         seen = survey::glance(seen, table[i], incoming);
@@ -26,40 +28,23 @@ fn survey_all(table: &[Node], incoming: Incoming) -> Survey
     let p = survey::plan_of(incoming, seen, n);
     let k = survey::speaker(p);
     if k < n {
-        return survey::survey_with(p, table[k]);
+        return steps::survey_with(p, table[k]);
     }
-    survey::survey_alone(p)
-}
-
-// How far a set of nodes reaches along a table of n.
-fn reach(n: usize) -> usize
-    ensures { λ r. ⌜ r ≡ reachOf n ⌝ }
-{
-    if 32 < n {
-        return 32;
-    }
-    n
+    steps::survey_alone(p)
 }
 
 // Every node that is to act acts once.
 fn act_all(table: &mut [Node], decided: Decided)
     ensures { λ _. ⌜ now (table .exit) ≡ visited (decided .heard) (decided .acting) (now (table .entry)) ⌝ }
 {
-    let n = reach(table.len());
+    let n = steps::reach(table.len());
     let mut rest = decided.acting;
     let mut i = survey::first(rest);
     while i < n {
-        table[i] = survey::act(table[i], decided);
+        table[i] = steps::act(table[i], decided);
         rest = survey::without_first(rest);
         i = survey::first(rest);
     }
-}
-
-// The answer alone.
-fn answer_of(d: Decided) -> Delivery
-    ensures { λ r. ⌜ r ≡ d .answer ⌝ }
-{
-    d.answer
 }
 
 // A packet to the chain. 6 comes first, then 1, 2 and 3 as the packet is read, then 5, before any node acts.
@@ -70,5 +55,5 @@ pub fn deliver(table: &mut [Node], packet: &[u8], reply: &mut [u8]) -> Delivery
     let seen = survey_all(table, incoming);
     let decided = survey::decide(seen, reply);
     act_all(table, decided);
-    answer_of(decided)
+    steps::answer_of(decided)
 }

@@ -1,8 +1,7 @@
 -- The exits of the functions that decide a delivery, as the code comes to them.
-use Prim.Native.Nat.{ℕ, _≤_, _<_}
+use Prim.Native.Nat.{ℕ}
 use mathlib.Core.List.{List}
 use mathlib.Core.Path.{_≡_, sym, ap, _∙_}
-use borrow.Author.Tests.{lt-ltb, le-ltb}
 use Rattle.wire.specs.Promise.{Outcome, Lending}
 use Rattle.buffer.specs.Buffer.{place, builtNumber}
 use Rattle.wire.specs.declared.refusal.Refusal.{Refusal}
@@ -18,13 +17,7 @@ use Rattle.survey.specs.declared.plan.Plan.the-variants.{Refuse}
 use Rattle.survey.specs.declared.plan.Survey.{Survey}
 use Rattle.survey.specs.declared.decision.Decided.{Decided}
 use Rattle.survey.specs.declared.decision.Delivery.the-variants.{Silent, Replied, Collision}
-use Rattle.survey.specs.Decision.{refusal, decided, decidedOne, decidedBy, decidedPlan, decidedOf, reachOf}
-
-pub reach-over : (n : ℕ) → 32 < n → 32 ≡ reachOf n
-reach-over n h = rw (lt-ltb 32 n h)
-
-pub reach-under : (n : ℕ) → n ≤ 32 → n ≡ reachOf n
-reach-under n h = rw (le-ltb 32 n h)
+use Rattle.survey.specs.Decision.{refusal, decided, decidedOne, decidedBy, decidedPlan, decidedOf}
 
 -- one node replies
 module _ (n : Node) (acting : ℕ) (h : Heard) (out left : List ℕ) (b : Built) (p : Lending builtNumber b left (place (replyOf h n) out)) where

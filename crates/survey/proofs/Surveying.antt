@@ -29,7 +29,7 @@ use Rattle.survey.specs.declared.plan.Plan.the-variants.{Refuse}
 use Rattle.survey.specs.One.{acts, replies, sound}
 use Rattle.survey.specs.Chain.{replierOf}
 use Rattle.survey.specs.Sets.{joined, members}
-use Rattle.survey.specs.Survey.{incomingOf, soundWith, glanceFor, glancePast, glanceOf, replierTo, planBy, planOf, speakerOf, surveyAlone, nobody}
+use Rattle.survey.specs.Survey.{incomingOf, soundWith, glanceFor, glancePast, glanceOf, replierTo, planBy, planOf, speakerOf}
 
 -- ---- a packet as it comes in
 module _ (p : List ℕ) (f : Framed) (e : Promise framedNumber f (frameOf p)) where
@@ -93,6 +93,3 @@ module _ (c : Incoming) (s : Seen) (n : ℕ) where
 
 pub told-speaker : (p q : Plan) (i : ℕ) → p ≡ q → i ≡ speakerOf q → i ≡ speakerOf p
 told-speaker p q i e h = h ∙ sym (ap (λ (x : Plan). speakerOf x) e)
-
-pub alone : (p : Plan) (n : Node) → n ≡ nobody → record { plan = p; speaker = n } ≡ surveyAlone p
-alone p n e = rw e

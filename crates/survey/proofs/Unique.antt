@@ -9,17 +9,12 @@ use Rattle.survey.specs.declared.decision.Decided.{Decided}
 use Rattle.survey.proofs.sets.first.Reads as first
 use Rattle.survey.proofs.sets.without_first.Reads as without-first
 use Rattle.survey.proofs.plan.hear.Reads as hear
-use Rattle.survey.proofs.plan.start.Reads as start
 use Rattle.survey.proofs.plan.glance.Reads as glance
 use Rattle.survey.proofs.plan.plan_for.Reads as plan-for
 use Rattle.survey.proofs.plan.plan_of.Reads as plan-of
 use Rattle.survey.proofs.plan.speaker.Reads as speaker
-use Rattle.survey.proofs.plan.survey_with.Reads as survey-with
-use Rattle.survey.proofs.plan.survey_alone.Reads as survey-alone
 use Rattle.survey.proofs.decision.Delivery.number.Reads as delivery-number
-use Rattle.survey.proofs.decision.refuse.Reads as refuse
 use Rattle.survey.proofs.decision.decide.Reads as decide
-use Rattle.survey.proofs.decision.act.Reads as act
 
 pub first-unique : OneResult first.Post
 first-unique κs a r r′ s s′ p q = p ∙ sym q
@@ -29,9 +24,6 @@ without-first-unique κs a r r′ s s′ p q = p ∙ sym q
 
 pub hear-unique : OneResult hear.Post
 hear-unique κs a r r′ s s′ p q = p ∙ sym q
-
-pub start-unique : OneResult start.Post
-start-unique κs a r r′ s s′ p q = p ∙ sym q
 
 pub glance-unique : OneResult glance.Post
 glance-unique κs a r r′ s s′ p q = p ∙ sym q
@@ -45,17 +37,8 @@ plan-of-unique κs a r r′ s s′ p q = p ∙ sym q
 pub speaker-unique : OneResult speaker.Post
 speaker-unique κs a r r′ s s′ p q = p ∙ sym q
 
-pub survey-with-unique : OneResult survey-with.Post
-survey-with-unique κs a r r′ s s′ p q = p ∙ sym q
-
-pub survey-alone-unique : OneResult survey-alone.Post
-survey-alone-unique κs a r r′ s s′ p q = p ∙ sym q
-
 pub delivery-number-unique : OneResult delivery-number.Post
 delivery-number-unique κs a r r′ s s′ p q = p ∙ sym q
-
-pub refuse-unique : OneResult refuse.Post
-refuse-unique κs a r r′ s s′ p q = p ∙ sym q
 
 -- what is decided, and what the reply buffer holds
 pub decide-unique : (κs : _) (a : _) (r r′ : _) (s s′ : _) → decide.Post κs a r s → decide.Post κs a r′ s′
@@ -63,6 +46,3 @@ pub decide-unique : (κs : _) (a : _) (r r′ : _) (s s′ : _) → decide.Post 
 decide-unique κs a r r′ s s′ p q =
     let k = p ∙ sym q in
     (ap (λ (o : Outcome Decided (List ℕ)). o .answer) k, ap (λ (o : Outcome Decided (List ℕ)). o .left) k)
-
-pub act-unique : OneResult act.Post
-act-unique κs a r r′ s s′ p q = p ∙ sym q

@@ -7,7 +7,6 @@ use heard::Heard;
 use node::Node;
 use wire::Refusal;
 ghost use mathlib.Core.Path.{_≡_};
-ghost use Rattle.node.specs.Node.{taken};
 ghost use Rattle.survey.specs.Delivery.{deliveryNumber};
 ghost use Rattle.survey.specs.Decision.{refusal, decided, decidedOne, decidedBy, decidedOf};
 
@@ -41,7 +40,7 @@ pub struct Decided {
 }
 
 // A refusal: nobody acts.
-pub fn refuse(why: Refusal) -> Decided
+fn refuse(why: Refusal) -> Decided
     ensures { λ r. ⌜ r ≡ refusal why ⌝ }
 {
     Decided {
@@ -103,12 +102,4 @@ pub fn decide(survey: Survey, reply: &mut [u8]) -> Decided
             heard,
         } => decide_by(replier, speaker, acting, heard, reply),
     }
-}
-
-// A node that acts.
-pub fn act(n: Node, d: Decided) -> Node
-    ensures { λ r. ⌜ r ≡ taken (d .heard) n ⌝ }
-{
-    let heard = d.heard;
-    n.take(heard)
 }

@@ -7,13 +7,12 @@ use crate::sets::join;
 use crate::sets::search;
 use command::Place;
 use heard::Heard;
-use node::Bench;
 use node::Node;
 use packet::Framed;
 use wire::Address;
 use wire::Refusal;
 ghost use mathlib.Core.Path.{_≡_};
-ghost use Rattle.survey.specs.Survey.{incomingOf, start, soundWith, glanceFor, glancePast, glanceOf, replierTo, planFor, planOf, speakerIn, speakerOf, surveyWith, surveyAlone};
+ghost use Rattle.survey.specs.Survey.{incomingOf, soundWith, glanceFor, glancePast, glanceOf, replierTo, planFor, planOf, speakerIn, speakerOf};
 
 // A packet as it comes in: whom it is for and what it says, or why it can't be read.
 pub enum Incoming {
@@ -62,19 +61,6 @@ pub fn hear(p: &[u8]) -> Incoming
             Incoming::Whole { to: address, heard }
         }
         Framed::Refused(why) => Incoming::Unread(why),
-    }
-}
-
-// Before the first node.
-pub fn start() -> Seen
-    ensures { λ r. ⌜ r ≡ start ⌝ }
-{
-    Seen {
-        near: true,
-        weight: 1,
-        acting: 0,
-        replying: 0,
-        sound: true,
     }
 }
 
@@ -180,34 +166,5 @@ fn speaker_in(r: Replier) -> usize
         Replier::None => 32,
         Replier::One(i) => i,
         Replier::Several => 32,
-    }
-}
-
-// The plan with the node that replies.
-pub fn survey_with(p: Plan, n: Node) -> Survey
-    ensures { λ r. ⌜ r ≡ surveyWith p n ⌝ }
-{
-    Survey {
-        plan: p,
-        speaker: n,
-    }
-}
-
-// The plan alone: the node beside it is nobody's.
-pub fn survey_alone(p: Plan) -> Survey
-    ensures { λ r. ⌜ r ≡ surveyAlone p ⌝ }
-{
-    let bench = Bench {
-        inputs: 0,
-        counter: 0,
-        analog0: 0,
-        analog1: 0,
-        analog2: 0,
-        id: 0,
-        version: 0,
-    };
-    Survey {
-        plan: p,
-        speaker: Node::power_up(bench),
     }
 }

@@ -21,11 +21,11 @@ use denote.Steps.{peeks}
 use denote.Struct.Laws as LL
 use denote.Triple.Call.{calls-at-last}
 use denote.Triple.Walked.{stay-slice, goes-slice}
-use Rattle.chain.proofs.Walk.{URA, fullShare, Ty, named, mut, w64, tyInt, tyBool, tyUnit, tyPtr, loop, spell, Val, vbool, vint, vptr, SProp, ent, emp, ex, guard, via, fst∗, snd∗, id⊢, exI, exE, guardI, guardE, Lft, Share, GName, ftrue, flft, fobor, Memory, Routine, Heap, Out, Env, afterSeq, afterBlock, afterTurn, Wp, atReturn, WpFn, Tables, Atoms, sem, Fun, fact, givenOf, tables, tablesOf, loop-rule, fmOf, WpFn-mono}
+use Rattle.chain.proofs.Walk.{URA, fullShare, Ty, named, mut, w64, tyInt, tyBool, tyUnit, tyPtr, loop, spell, Val, vbool, vint, vptr, SProp, ent, emp, ex, guard, via, fst∗, id⊢, exI, exE, guardI, guardE, Lft, Share, GName, ftrue, flft, fobor, Memory, Routine, Heap, Out, Env, afterSeq, afterBlock, afterTurn, Wp, atReturn, WpFn, Tables, Atoms, Fun, fact, givenOf, tables, tablesOf, loop-rule, fmOf, WpFn-mono}
 use Rattle.chain.proofs.Walk.{Given, Item, ‵, raw, _⊛_, some, later, ⋆, anyQ, atRet, _$_, _∵_, !, qed, by, move, keep, let-go, use0, use1, split, join, pick, rewrite, fsplit, fjoin, suffices, frame, await, done, look, look-raw, store, init, forget, stop, hop, fld, from, load, lit, of-opd, bin, assigns, stays, leaves-loop, and-then, no-more, land, returns, enter, alloc1, alloc0, params1, pass1, pass0, free1, free0, exec, whole, sub, look-in}
 use Rattle.chain.proofs.Walk.{owns, pureI, Is, shows, uint-makes, uint-lawful, usize, pointee, RefT, sliceVal, MutSlice, Room, heres, codedHoleys, at-slice, slice-vals, mut-slice-tells, row, place-is, elem-out, only, owned, facts, heard, nothing}
 use Rattle.chain.proofs.Walk.{plain, Contract, Triple, calls-at, onEntry, Meets, tripleOf, entered, cited, ensured, lasts, says, Stays, stay-none, walkOf, goes-none, Walks, ends-at, walked, walk-meets, yes}
-use Rattle.chain.proofs.Walk.{word, sliceIn, room, has, dies}
+use Rattle.chain.proofs.Walk.{word, sliceIn, room, has, dies, tells}
 use Rattle.node.specs.Node.{taken}
 use Rattle.node.specs.declared.state.Node.{Node}
 use Rattle.chain.proofs.Record as T
@@ -36,10 +36,10 @@ use Rattle.survey.specs.Decision.{reachOf, visited}
 use Rattle.survey.proofs.decision.Decided as D
 use Rattle.survey.proofs.decision.Decided.Laws as D′
 use Rattle.survey.proofs.Visiting.{below-reach, visit-next, visit-end, fewer}
-use Rattle.chain.proofs.reach as reach′
-use Rattle.chain.proofs.reach.Symbol as reach-def
-use Rattle.chain.proofs.reach.Symbol.{name as #chain·reach}
-use Rattle.chain.proofs.reach.Met as reach-thm
+use Rattle.chain.proofs.steps.reach as reach′
+use Rattle.chain.proofs.steps.reach.Symbol as reach-def
+use Rattle.chain.proofs.steps.reach.Symbol.{name as #chain·reach}
+use Rattle.chain.proofs.steps.reach.Met as reach-thm
 use Rattle.survey.proofs.first as first′
 use Rattle.survey.proofs.first.Symbol as first-def
 use Rattle.survey.proofs.first.Symbol.{name as #survey·first}
@@ -48,10 +48,10 @@ use Rattle.survey.proofs.without_first as without
 use Rattle.survey.proofs.without_first.Symbol as without-first-def
 use Rattle.survey.proofs.without_first.Symbol.{name as #survey·without-first}
 use Rattle.survey.proofs.without_first.Met as without-first-thm
-use Rattle.survey.proofs.act as act′
-use Rattle.survey.proofs.act.Symbol as act-def
-use Rattle.survey.proofs.act.Symbol.{name as #survey·act}
-use Rattle.survey.proofs.act.Met as act-thm
+use Rattle.chain.proofs.steps.act as act′
+use Rattle.chain.proofs.steps.act.Symbol as act-def
+use Rattle.chain.proofs.steps.act.Symbol.{name as #chain·act}
+use Rattle.chain.proofs.steps.act.Met as act-thm
 use Rattle.chain.proofs.act_all.Key.{name as #chain·act-all}
 use Rattle.chain.proofs.act_all as act-all
 use Rattle.chain.proofs.act_all.Statement as stated
@@ -132,7 +132,7 @@ module _ {M : Type 1} (𝓤 : URA M) (H : Heap 𝓤) (A : Atoms 𝓤) (W : Given
   goes-reach = qed W [] ∵ nothing ! $ owned ! usize (Is usize) (uint-makes 𝓤 H A W w64) n _ (refl, room₀ .0) $ fjoin ! $ nothing ! $ join ! $ frame ! $ done !
 
   reach-of : (r : ℕ) → ent 𝓤 (ensured 𝓤 H A reach′.ended (reach′.clauses 𝓤 H A mem run) tt (n, tt) tt r) (fact 𝓤 (r ≡ reachOf n))
-  reach-of r = exE 𝓤 _ (λ ws. snd∗ 𝓤 (sem 𝓤 H A (lasts reach′.ended tt (n, tt) ws)) (fact 𝓤 (r ≡ reachOf n)))
+  reach-of r = tells 𝓤 H A (lasts reach′.ended tt (n, tt)) (r ≡ reachOf n)
 
   abbrev to-first : ℕ → First 𝓤 H A mem run .Ghost
   to-first s = ((tt, tt, tt, (s, tt), (vint w32 s ∷ [], tt)), tt)
@@ -141,7 +141,7 @@ module _ {M : Type 1} (𝓤 : URA M) (H : Heap 𝓤) (A : Atoms 𝓤) (W : Given
   goes-first s fits = qed W [] ∵ nothing ! $ owned ! u32 (Is u32) (uint-makes 𝓤 H A W w32) s _ (refl, fits) $ fjoin ! $ nothing ! $ join ! $ frame ! $ done !
 
   first-of : (s r : ℕ) → ent 𝓤 (ensured 𝓤 H A first′.ended (first′.clauses 𝓤 H A mem run) tt (s, tt) tt r) (fact 𝓤 (r ≡ firstOf s))
-  first-of s r = exE 𝓤 _ (λ ws. snd∗ 𝓤 (sem 𝓤 H A (lasts first′.ended tt (s, tt) ws)) (fact 𝓤 (r ≡ firstOf s)))
+  first-of s r = tells 𝓤 H A (lasts first′.ended tt (s, tt)) (r ≡ firstOf s)
 
   abbrev to-without : ℕ → Without 𝓤 H A mem run .Ghost
   to-without s = ((tt, tt, tt, (s, tt), (vint w32 s ∷ [], tt)), tt)
@@ -150,7 +150,7 @@ module _ {M : Type 1} (𝓤 : URA M) (H : Heap 𝓤) (A : Atoms 𝓤) (W : Given
   goes-without s fits = qed W [] ∵ nothing ! $ owned ! u32 (Is u32) (uint-makes 𝓤 H A W w32) s _ (refl, fits) $ fjoin ! $ nothing ! $ join ! $ frame ! $ done !
 
   without-of : (s r : ℕ) → ent 𝓤 (ensured 𝓤 H A without.ended (without.clauses 𝓤 H A mem run) tt (s, tt) tt r) (fact 𝓤 (r ≡ withoutFirst s))
-  without-of s r = exE 𝓤 _ (λ ws. snd∗ 𝓤 (sem 𝓤 H A (lasts without.ended tt (s, tt) ws)) (fact 𝓤 (r ≡ withoutFirst s)))
+  without-of s r = tells 𝓤 H A (lasts without.ended tt (s, tt)) (r ≡ withoutFirst s)
 
   abbrev to-act : Node → Val → Act 𝓤 H A mem run .Ghost
   to-act d v = ((tt, tt, tt, (d, (c, tt)), (v ∷ [], (low c ∷ [], tt))), tt)
@@ -160,9 +160,9 @@ module _ {M : Type 1} (𝓤 : URA M) (H : Heap 𝓤) (A : Atoms 𝓤) (W : Given
       qed W [] ∵ nothing ! $ owned ! D.the-row (Is D.the-row) (LL.makes D.the-type D′.the-plain 𝓤 H A) c _ gc $ fjoin ! $ owned ! T.the-row (Is T.the-row) (T.makes 𝓤 H A) d _ gd $ fjoin ! $ nothing ! $ join ! $ frame ! $ done !
 
   act-of : (d r : Node) → ent 𝓤 (ensured 𝓤 H A act′.ended (act′.clauses 𝓤 H A mem run) tt (d, (c, tt)) tt r) (fact 𝓤 (r ≡ taken (c .heard) d))
-  act-of d r = exE 𝓤 _ (λ ws. snd∗ 𝓤 (sem 𝓤 H A (lasts act′.ended tt (d, (c, tt)) ws)) (fact 𝓤 (r ≡ taken (c .heard) d)))
+  act-of d r = tells 𝓤 H A (lasts act′.ended tt (d, (c, tt))) (r ≡ taken (c .heard) d)
 
-  module _ (𝓣 : Tables 𝓤 H) (known-reach : Triple 𝓤 (𝓣 .C #chain·reach) (Reach 𝓤 H A mem run)) (known-first : Triple 𝓤 (𝓣 .C #survey·first) (First 𝓤 H A mem run)) (known-without-first : Triple 𝓤 (𝓣 .C #survey·without-first) (Without 𝓤 H A mem run)) (known-act : Triple 𝓤 (𝓣 .C #survey·act) (Act 𝓤 H A mem run)) (l₀ l₁ l₂ l₃ l₄ l₅ l₆ l₇ l₈ l₉ l₁₀ l₁₁ l₁₂ l₁₃ : ℕ) where
+  module _ (𝓣 : Tables 𝓤 H) (known-reach : Triple 𝓤 (𝓣 .C #chain·reach) (Reach 𝓤 H A mem run)) (known-first : Triple 𝓤 (𝓣 .C #survey·first) (First 𝓤 H A mem run)) (known-without-first : Triple 𝓤 (𝓣 .C #survey·without-first) (Without 𝓤 H A mem run)) (known-act : Triple 𝓤 (𝓣 .C #chain·act) (Act 𝓤 H A mem run)) (l₀ l₁ l₂ l₃ l₄ l₅ l₆ l₇ l₈ l₉ l₁₀ l₁₁ l₁₂ l₁₃ : ℕ) where
     abbrev En : Env 𝓤 H
     En = (tyUnit, l₀) ∷ (slice, l₁) ∷ (Dc, l₂) ∷ (word, l₃) ∷ (set32, l₄) ∷ (word, l₅) ∷ (word, l₆) ∷ (tyBool, l₇) ∷ (Nd, l₈) ∷ (word, l₉) ∷ (tyPtr, l₁₀) ∷ (Nd, l₁₁) ∷ (word, l₁₂) ∷ (tyPtr, l₁₃) ∷ []
 
@@ -319,7 +319,7 @@ module _ {M : Type 1} (𝓤 : URA M) (H : Heap 𝓤) (A : Atoms 𝓤) (W : Given
         assigns ! (of-opd ! (load ! (from ! (fld ! {τ = set32} {d = 16} refl (stop !))) (look-in ! 22 (sub ! 1 {τ = set32} {d = 16} refl (whole !))))) (from ! (stop !)) (init ! 18 refl (tt, record { fits = acting-fits })) $
         forget ! 14 refl $ by ! (second m e)))))
 
-  walk : (𝓣 : Tables 𝓤 H) → Triple 𝓤 (𝓣 .C #chain·reach) (Reach 𝓤 H A mem run) → Triple 𝓤 (𝓣 .C #survey·first) (First 𝓤 H A mem run) → Triple 𝓤 (𝓣 .C #survey·without-first) (Without 𝓤 H A mem run) → Triple 𝓤 (𝓣 .C #survey·act) (Act 𝓤 H A mem run)
+  walk : (𝓣 : Tables 𝓤 H) → Triple 𝓤 (𝓣 .C #chain·reach) (Reach 𝓤 H A mem run) → Triple 𝓤 (𝓣 .C #survey·first) (First 𝓤 H A mem run) → Triple 𝓤 (𝓣 .C #survey·without-first) (Without 𝓤 H A mem run) → Triple 𝓤 (𝓣 .C #chain·act) (Act 𝓤 H A mem run)
       → ent 𝓤 (onEntry 𝓤 H A act-all.signature (κ, tt) (q, tt) a vals) (WpFn 𝓤 H (𝓣 .C) (𝓣 .Λ) code.function (v₁ ∷ low c ∷ []) Post)
   walk 𝓣 known-reach known-first known-without-first known-act =
       qed W ((‵ (flft κ q) ⊛ ‵ ftrue) ∷ ‵ (owns (MutSlice (named 0) κ T.the-row ∷ D.the-row ∷ []) a vals) ∷ []) ∵ enter ! (𝓣 .C) (𝓣 .Λ) code.function (v₁ ∷ low c ∷ []) _ $
@@ -327,7 +327,7 @@ module _ {M : Type 1} (𝓤 : URA M) (H : Heap 𝓤) (A : Atoms 𝓤) (W : Given
       pass1 ! (init ! 24 refl (tt, (tt, (record { fits = room₀ .0 }, tt)))) $ pass1 ! (init ! 22 refl (LL.lawful D.the-type D′.the-laws 𝓤 H A W .typed c _ gc .0)) $ pass0 ! $
       by ! (starts 𝓣 known-reach known-first known-without-first known-act l₀ l₁ l₂ l₃ l₄ l₅ l₆ l₇ l₈ l₉ l₁₀ l₁₁ l₁₂ l₁₃)))))))))))))))
 
-module _ {M : Type 1} (𝓤 : URA M) (H : Heap 𝓤) (A : Atoms 𝓤) (W : Given 𝓤 H A) (mem : Memory → SProp 𝓤) (run : Routine → Fun 𝓤) (𝓣 : Tables 𝓤 H) (known-reach : Triple 𝓤 (𝓣 .C #chain·reach) (Reach 𝓤 H A mem run)) (known-first : Triple 𝓤 (𝓣 .C #survey·first) (First 𝓤 H A mem run)) (known-without-first : Triple 𝓤 (𝓣 .C #survey·without-first) (Without 𝓤 H A mem run)) (known-act : Triple 𝓤 (𝓣 .C #survey·act) (Act 𝓤 H A mem run)) where
+module _ {M : Type 1} (𝓤 : URA M) (H : Heap 𝓤) (A : Atoms 𝓤) (W : Given 𝓤 H A) (mem : Memory → SProp 𝓤) (run : Routine → Fun 𝓤) (𝓣 : Tables 𝓤 H) (known-reach : Triple 𝓤 (𝓣 .C #chain·reach) (Reach 𝓤 H A mem run)) (known-first : Triple 𝓤 (𝓣 .C #survey·first) (First 𝓤 H A mem run)) (known-without-first : Triple 𝓤 (𝓣 .C #survey·without-first) (Without 𝓤 H A mem run)) (known-act : Triple 𝓤 (𝓣 .C #chain·act) (Act 𝓤 H A mem run)) where
   act-all-walks : Walks 𝓤 H A act-all.ended stayed (WpFn 𝓤 H (𝓣 .C) (𝓣 .Λ) code.function) (act-all.clauses 𝓤 H A mem run)
   act-all-walks = walked 𝓤 H A act-all.ended stayed (act-all.clauses 𝓤 H A mem run) (WpFn 𝓤 H (𝓣 .C) (𝓣 .Λ) code.function)
       (λ κs. (slice-vals, (LL.vals D.the-type D′.the-laws, tt))) (λ κs. (mut-slice-tells (named 0) (κs .0) T.the-row, (LL.tells D.the-type D′.the-laws, tt)))
@@ -345,7 +345,7 @@ act-all-spec 𝓤 H 𝓜 𝓖 𝓡 =
     entered 𝓤 H (tripleOf 𝓤 H (𝓖 .A) act-all.signature (act-all.spec 𝓤 H (𝓖 .A) (𝓜 .mem) (𝓡 .run)))
     (tables 𝓤 H 𝓜 𝓡 code.env .C) (tables 𝓤 H 𝓜 𝓡 code.env .Λ) #chain·act-all code.function (code.unfolded 𝓤 H 𝓜 𝓡)
     (act-all-meets 𝓤 H (𝓖 .A) (givenOf 𝓤 H 𝓜 𝓖) (𝓜 .mem) (𝓡 .run) (tablesOf 𝓤 H 𝓜 (tables 𝓤 H 𝓜 𝓡 code.env))
-    (cited 𝓤 H (Reach 𝓤 H (𝓖 .A) (𝓜 .mem) (𝓡 .run)) 𝓜 𝓡 code.env #chain·reach reach-def.routine code.calls-chain·reach (reach-thm.met 𝓤 H 𝓜 𝓖 𝓡))
+    (cited 𝓤 H (Reach 𝓤 H (𝓖 .A) (𝓜 .mem) (𝓡 .run)) 𝓜 𝓡 code.env #chain·reach reach-def.routine code.calls-chain·steps·reach (reach-thm.met 𝓤 H 𝓜 𝓖 𝓡))
     (cited 𝓤 H (First 𝓤 H (𝓖 .A) (𝓜 .mem) (𝓡 .run)) 𝓜 𝓡 code.env #survey·first first-def.routine code.calls-survey·first (first-thm.met 𝓤 H 𝓜 𝓖 𝓡))
     (cited 𝓤 H (Without 𝓤 H (𝓖 .A) (𝓜 .mem) (𝓡 .run)) 𝓜 𝓡 code.env #survey·without-first without-first-def.routine code.calls-survey·without-first (without-first-thm.met 𝓤 H 𝓜 𝓖 𝓡))
-    (cited 𝓤 H (Act 𝓤 H (𝓖 .A) (𝓜 .mem) (𝓡 .run)) 𝓜 𝓡 code.env #survey·act act-def.routine code.calls-survey·act (act-thm.met 𝓤 H 𝓜 𝓖 𝓡)))
+    (cited 𝓤 H (Act 𝓤 H (𝓖 .A) (𝓜 .mem) (𝓡 .run)) 𝓜 𝓡 code.env #chain·act act-def.routine code.calls-chain·steps·act (act-thm.met 𝓤 H 𝓜 𝓖 𝓡)))

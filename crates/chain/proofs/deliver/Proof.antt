@@ -9,11 +9,11 @@ use denote.Plain.{nothing-lawful}
 use denote.Builtin.{unit}
 use denote.Struct.Laws as LL
 use denote.Enum.Laws as EL
-use Rattle.chain.proofs.Walk.{URA, fullShare, Ty, named, erased, mut, imm, tyUnit, tyRef, spell, Val, vptr, SProp, ent, emp, via, fst∗, snd∗, id⊢, exE, Lft, Share, GName, ftrue, flft, Memory, Routine, Heap, Env, Wp, atReturn, WpFn, Tables, Atoms, sem, Fun, fact, givenOf, tables, tablesOf, fmOf, WpFn-mono}
+use Rattle.chain.proofs.Walk.{URA, fullShare, Ty, named, erased, mut, imm, tyUnit, tyRef, spell, Val, vptr, SProp, ent, emp, via, fst∗, id⊢, Lft, Share, GName, ftrue, flft, Memory, Routine, Heap, Env, Wp, atReturn, WpFn, Tables, Atoms, Fun, fact, givenOf, tables, tablesOf, fmOf, WpFn-mono}
 use Rattle.chain.proofs.Walk.{Given, Item, ‵, raw, _⊛_, some, later, ⋆, atRet, _$_, _∵_, !, qed, by, move, keep, let-go, use0, use1, split, join, pick, fsplit, fjoin, feqL, suffices, frame, await, done, look, init, forget, stop, hop, fld, from, load, addr, assigns, and-then, no-more, land, returns, enter, alloc1, alloc0, params1, pass1, pass0, free1, free0, exec, whole, sub, look-in, agg, lft-new, lft-end}
 use Rattle.chain.proofs.Walk.{owns, Is, shows, u8, pointee, RefT, sliceVal, MutSlice, ShrSlice, Room, finally, slice-vals, mut-slice-tells, shr-slice-tells, shr-slice-copy, owned, facts, heard, nothing}
 use Rattle.chain.proofs.Walk.{plain, Contract, Triple, calls-at, onEntry, Meets, tripleOf, entered, cited, ensured, lasts, says, Stays, stay-none-slice, gave-slice, walkOf, goes-none-slice, goes-gave-slice, Walks, ends-at, walked, walk-meets, yes}
-use Rattle.chain.proofs.Walk.{byte, sliceIn, sliceHere, room, has, dies}
+use Rattle.chain.proofs.Walk.{byte, sliceIn, sliceHere, room, has, dies, tells}
 use Rattle.wire.specs.Promise.{Lending}
 use Rattle.node.specs.declared.state.Node.{Node}
 use Rattle.chain.proofs.Record as T
@@ -50,10 +50,10 @@ use Rattle.chain.proofs.act_all as act-all′
 use Rattle.chain.proofs.act_all.Symbol as act-all-def
 use Rattle.chain.proofs.act_all.Symbol.{name as #chain·act-all}
 use Rattle.chain.proofs.act_all.Met as act-all-thm
-use Rattle.chain.proofs.answer_of as answer-of′
-use Rattle.chain.proofs.answer_of.Symbol as answer-of-def
-use Rattle.chain.proofs.answer_of.Symbol.{name as #chain·answer-of}
-use Rattle.chain.proofs.answer_of.Met as answer-of-thm
+use Rattle.chain.proofs.steps.answer_of as answer-of′
+use Rattle.chain.proofs.steps.answer_of.Symbol as answer-of-def
+use Rattle.chain.proofs.steps.answer_of.Symbol.{name as #chain·answer-of}
+use Rattle.chain.proofs.steps.answer_of.Met as answer-of-thm
 use Rattle.chain.proofs.deliver.Key.{name as #chain·deliver}
 use Rattle.chain.proofs.deliver as deliver
 use Rattle.chain.proofs.deliver.Statement as stated
@@ -154,7 +154,7 @@ module _ {M : Type 1} (𝓤 : URA M) (H : Heap 𝓤) (A : Atoms 𝓤) (W : Given
       qed W (‵ (flft κ₁ q₁) ∷ Packet ∷ []) ∵ nothing ! $ move ! (2 ∷ 0 ∷ []) $ fjoin ! $ nothing ! $ move ! (2 ∷ 0 ∷ []) $ join ! $ join ! $ frame ! $ done !
 
   hear-of : (c : Incoming) → ent 𝓤 (ensured 𝓤 H A hear′.ended (hear′.clauses 𝓤 H A mem run) (κ₁, tt) (pk, tt) tt c) (fact 𝓤 (c ≡ incomingOf (pk .now)))
-  hear-of c = exE 𝓤 _ (λ ws. snd∗ 𝓤 (sem 𝓤 H A (lasts hear′.ended (κ₁, tt) (pk, tt) ws)) (fact 𝓤 (c ≡ incomingOf (pk .now))))
+  hear-of c = tells 𝓤 H A (lasts hear′.ended (κ₁, tt) (pk, tt)) (c ≡ incomingOf (pk .now))
 
   abbrev to-survey : ℕ → GName → Incoming → Val → SurveyAll 𝓤 H A mem run .Ghost
   to-survey ν δ c mc = (((ν ∷ [], tt), (fullShare, tt), tt, (x δ, (c, tt)), (v₁ ∷ [], (mc ∷ [], tt))), tt)
@@ -164,7 +164,7 @@ module _ {M : Type 1} (𝓤 : URA M) (H : Heap 𝓤) (A : Atoms 𝓤) (W : Given
       qed W (‵ (flft (ν ∷ []) fullShare) ∷ ‵ (ShrSlice (named 0) (ν ∷ []) T.the-row .own (x δ) (v₁ ∷ [])) ∷ []) ∵ nothing ! $ owned ! I.the-row (Is I.the-row) (EL.makes I.the-type I′.the-plain 𝓤 H A) c _ gc $ fjoin ! $ move ! (2 ∷ 0 ∷ []) $ fjoin ! $ nothing ! $ move ! (2 ∷ 0 ∷ []) $ join ! $ join ! $ frame ! $ done !
 
   survey-of : (ν : ℕ) (δ : GName) (c : Incoming) (s : Survey) → ent 𝓤 (ensured 𝓤 H A survey-all′.ended (survey-all′.clauses 𝓤 H A mem run) (ν ∷ [], tt) (x δ, (c, tt)) tt s) (fact 𝓤 (s ≡ surveyOf c ys))
-  survey-of ν δ c s = exE 𝓤 _ (λ ws. snd∗ 𝓤 (sem 𝓤 H A (lasts survey-all′.ended (ν ∷ [], tt) (x δ, (c, tt)) ws)) (fact 𝓤 (s ≡ surveyOf c ys)))
+  survey-of ν δ c s = tells 𝓤 H A (lasts survey-all′.ended (ν ∷ [], tt) (x δ, (c, tt))) (s ≡ surveyOf c ys)
 
   abbrev to-decide : Survey → Val → Decide 𝓤 H A mem run .Ghost
   to-decide s ms = (((κ₂, tt), (q₂, tt), tt, (s, (rp, tt)), (ms ∷ [], (v₃ ∷ [], tt))), tt)
@@ -192,7 +192,7 @@ module _ {M : Type 1} (𝓤 : URA M) (H : Heap 𝓤) (A : Atoms 𝓤) (W : Given
       qed W [] ∵ nothing ! $ owned ! D.the-row (Is D.the-row) (LL.makes D.the-type D′.the-plain 𝓤 H A) d _ gd $ fjoin ! $ nothing ! $ join ! $ frame ! $ done !
 
   answer-of-of : (d : Decided) (r : Delivery) → ent 𝓤 (ensured 𝓤 H A answer-of′.ended (answer-of′.clauses 𝓤 H A mem run) tt (d, tt) tt r) (fact 𝓤 (r ≡ d .answer))
-  answer-of-of d r = exE 𝓤 _ (λ ws. snd∗ 𝓤 (sem 𝓤 H A (lasts answer-of′.ended tt (d, tt) ws)) (fact 𝓤 (r ≡ d .answer)))
+  answer-of-of d r = tells 𝓤 H A (lasts answer-of′.ended tt (d, tt)) (r ≡ d .answer)
 
   module _ (𝓣 : Tables 𝓤 H) (known-hear : Triple 𝓤 (𝓣 .C #survey·hear) (Hear 𝓤 H A mem run)) (known-survey : Triple 𝓤 (𝓣 .C #chain·survey-all) (SurveyAll 𝓤 H A mem run)) (known-decide : Triple 𝓤 (𝓣 .C #survey·decide) (Decide 𝓤 H A mem run)) (known-act : Triple 𝓤 (𝓣 .C #chain·act-all) (ActAll 𝓤 H A mem run)) (known-answer : Triple 𝓤 (𝓣 .C #chain·answer-of) (AnswerOf 𝓤 H A mem run)) (l₀ l₁ l₂ l₃ l₄ l₅ l₆ l₇ l₈ l₉ l₁₀ l₁₁ l₁₂ l₁₃ : ℕ) where
     abbrev En : Env 𝓤 H
@@ -337,4 +337,4 @@ deliver-spec 𝓤 H 𝓜 𝓖 𝓡 =
     (cited 𝓤 H (SurveyAll 𝓤 H (𝓖 .A) (𝓜 .mem) (𝓡 .run)) 𝓜 𝓡 code.env #chain·survey-all survey-all-def.routine code.calls-chain·survey-all (survey-all-thm.met 𝓤 H 𝓜 𝓖 𝓡))
     (cited 𝓤 H (Decide 𝓤 H (𝓖 .A) (𝓜 .mem) (𝓡 .run)) 𝓜 𝓡 code.env #survey·decide decide-def.routine code.calls-survey·decide (decide-thm.met 𝓤 H 𝓜 𝓖 𝓡))
     (cited 𝓤 H (ActAll 𝓤 H (𝓖 .A) (𝓜 .mem) (𝓡 .run)) 𝓜 𝓡 code.env #chain·act-all act-all-def.routine code.calls-chain·act-all (act-all-thm.met 𝓤 H 𝓜 𝓖 𝓡))
-    (cited 𝓤 H (AnswerOf 𝓤 H (𝓖 .A) (𝓜 .mem) (𝓡 .run)) 𝓜 𝓡 code.env #chain·answer-of answer-of-def.routine code.calls-chain·answer-of (answer-of-thm.met 𝓤 H 𝓜 𝓖 𝓡)))
+    (cited 𝓤 H (AnswerOf 𝓤 H (𝓖 .A) (𝓜 .mem) (𝓡 .run)) 𝓜 𝓡 code.env #chain·answer-of answer-of-def.routine code.calls-chain·steps·answer-of (answer-of-thm.met 𝓤 H 𝓜 𝓖 𝓡)))

@@ -16,11 +16,11 @@ use denote.Memory.{shares}
 use denote.Index.{elem-back, looks-slice, shuts-slice}
 use denote.Struct.Laws as LL
 use denote.Enum.Laws as EL
-use Rattle.chain.proofs.Walk.{URA, Ty, named, imm, w64, tyBool, tyPtr, loop, spell, Val, vbool, vint, vptr, SProp, ent, emp, ex, guard, via, fst∗, snd∗, id⊢, exI, exE, guardI, guardE, Lft, Share, GName, ftrue, flft, fobor, Memory, Routine, Heap, Out, Env, afterSeq, afterBlock, afterTurn, Wp, atReturn, WpFn, Tables, Atoms, sem, Fun, fact, givenOf, tables, tablesOf, loop-rule, fmOf, WpFn-mono}
+use Rattle.chain.proofs.Walk.{URA, Ty, named, imm, w64, tyBool, tyPtr, loop, spell, Val, vbool, vint, vptr, SProp, ent, emp, ex, guard, via, fst∗, id⊢, exI, exE, guardI, guardE, Lft, Share, GName, ftrue, flft, fobor, Memory, Routine, Heap, Out, Env, afterSeq, afterBlock, afterTurn, Wp, atReturn, WpFn, Tables, Atoms, Fun, fact, givenOf, tables, tablesOf, loop-rule, fmOf, WpFn-mono}
 use Rattle.chain.proofs.Walk.{Given, Item, ‵, raw, _⊛_, some, later, ⋆, anyQ, atRet, _$_, _∵_, !, qed, by, move, keep, let-go, use0, use1, split, join, pick, rewrite, fsplit, fjoin, suffices, frame, await, done, look, look-raw, store, init, forget, stop, hop, fld, from, load, lit, of-opd, bin, assigns, stays, leaves-loop, and-then, no-more, land, returns, enter, alloc1, alloc0, params1, pass1, pass0, free1, free0, exec, whole, sub, look-in}
 use Rattle.chain.proofs.Walk.{owns, pureI, Is, shows, uint-makes, uint-lawful, usize, pointee, RefT, sliceVal, ShrSlice, Room, heres, codedHoleys, at-slice, slice-vals, shr-slice-tells, row, place-is, elem-out, only, owned, facts, heard, nothing}
 use Rattle.chain.proofs.Walk.{plain, Contract, Triple, calls-at, onEntry, Meets, tripleOf, entered, cited, ensured, lasts, says, Stays, stay-none, stay-none-slice, walkOf, goes-none, goes-none-slice, Walks, ends-at, walked, walk-meets, yes}
-use Rattle.chain.proofs.Walk.{word, sliceIn, room, has, dies}
+use Rattle.chain.proofs.Walk.{word, sliceIn, room, has, dies, tells}
 use Rattle.node.specs.declared.state.Node.{Node}
 use Rattle.chain.proofs.Record as T
 use Rattle.survey.specs.declared.plan.Incoming.{Incoming}
@@ -37,10 +37,10 @@ use Rattle.survey.proofs.plan.Plan.Laws as P′
 use Rattle.survey.proofs.plan.Survey as S
 use Rattle.survey.proofs.plan.Survey.Laws as S′
 use Rattle.chain.proofs.Seeing.{rest, rest-turn, rest-end, survey-within, survey-past}
-use Rattle.survey.proofs.start as start′
-use Rattle.survey.proofs.start.Symbol as start-def
-use Rattle.survey.proofs.start.Symbol.{name as #survey·start}
-use Rattle.survey.proofs.start.Met as start-thm
+use Rattle.chain.proofs.steps.start as start′
+use Rattle.chain.proofs.steps.start.Symbol as start-def
+use Rattle.chain.proofs.steps.start.Symbol.{name as #chain·start}
+use Rattle.chain.proofs.steps.start.Met as start-thm
 use Rattle.survey.proofs.glance as glance′
 use Rattle.survey.proofs.glance.Symbol as glance-def
 use Rattle.survey.proofs.glance.Symbol.{name as #survey·glance}
@@ -53,14 +53,14 @@ use Rattle.survey.proofs.speaker as speaker′
 use Rattle.survey.proofs.speaker.Symbol as speaker-def
 use Rattle.survey.proofs.speaker.Symbol.{name as #survey·speaker}
 use Rattle.survey.proofs.speaker.Met as speaker-thm
-use Rattle.survey.proofs.survey_with as survey-with
-use Rattle.survey.proofs.survey_with.Symbol as survey-with-def
-use Rattle.survey.proofs.survey_with.Symbol.{name as #survey·survey-with}
-use Rattle.survey.proofs.survey_with.Met as survey-with-thm
-use Rattle.survey.proofs.survey_alone as survey-alone
-use Rattle.survey.proofs.survey_alone.Symbol as survey-alone-def
-use Rattle.survey.proofs.survey_alone.Symbol.{name as #survey·survey-alone}
-use Rattle.survey.proofs.survey_alone.Met as survey-alone-thm
+use Rattle.chain.proofs.steps.survey_with as survey-with
+use Rattle.chain.proofs.steps.survey_with.Symbol as survey-with-def
+use Rattle.chain.proofs.steps.survey_with.Symbol.{name as #chain·survey-with}
+use Rattle.chain.proofs.steps.survey_with.Met as survey-with-thm
+use Rattle.chain.proofs.steps.survey_alone as survey-alone
+use Rattle.chain.proofs.steps.survey_alone.Symbol as survey-alone-def
+use Rattle.chain.proofs.steps.survey_alone.Symbol.{name as #chain·survey-alone}
+use Rattle.chain.proofs.steps.survey_alone.Met as survey-alone-thm
 use Rattle.chain.proofs.survey_all.Key.{name as #chain·survey-all}
 use Rattle.chain.proofs.survey_all as survey-all
 use Rattle.chain.proofs.survey_all.Statement as stated
@@ -150,7 +150,7 @@ module _ {M : Type 1} (𝓤 : URA M) (H : Heap 𝓤) (A : Atoms 𝓤) (W : Given
   goes-start = qed W [] ∵ nothing ! $ nothing ! $ join ! $ frame ! $ done !
 
   start-of : (r : Seen) → ent 𝓤 (ensured 𝓤 H A start′.ended (start′.clauses 𝓤 H A mem run) tt tt tt r) (fact 𝓤 (r ≡ spec.start))
-  start-of r = exE 𝓤 _ (λ ws. snd∗ 𝓤 (sem 𝓤 H A (lasts start′.ended tt tt ws)) (fact 𝓤 (r ≡ spec.start)))
+  start-of r = tells 𝓤 H A (lasts start′.ended tt tt) (r ≡ spec.start)
 
   abbrev to-glance : Seen → Val → Node → Val → Glance 𝓤 H A mem run .Ghost
   to-glance s ms d v = ((tt, tt, tt, (s, (d, (c, tt))), (ms ∷ [], (v ∷ [], (mc ∷ [], tt)))), tt)
@@ -161,7 +161,7 @@ module _ {M : Type 1} (𝓤 : URA M) (H : Heap 𝓤) (A : Atoms 𝓤) (W : Given
       owned ! E.the-row (Is E.the-row) (LL.makes E.the-type E′.the-plain 𝓤 H A) s _ gs $ fjoin ! $ nothing ! $ join ! $ frame ! $ done !
 
   glance-of : (s : Seen) (d : Node) (r : Seen) → ent 𝓤 (ensured 𝓤 H A glance′.ended (glance′.clauses 𝓤 H A mem run) tt (s, (d, (c, tt))) tt r) (fact 𝓤 (r ≡ spec.glanceOf c s d))
-  glance-of s d r = exE 𝓤 _ (λ ws. snd∗ 𝓤 (sem 𝓤 H A (lasts glance′.ended tt (s, (d, (c, tt))) ws)) (fact 𝓤 (r ≡ spec.glanceOf c s d)))
+  glance-of s d r = tells 𝓤 H A (lasts glance′.ended tt (s, (d, (c, tt)))) (r ≡ spec.glanceOf c s d)
 
   abbrev to-plan : Seen → Val → Plans 𝓤 H A mem run .Ghost
   to-plan s ms = ((tt, tt, tt, (c, (s, (n, tt))), (mc ∷ [], (ms ∷ [], (vint w64 n ∷ [], tt)))), tt)
@@ -172,7 +172,7 @@ module _ {M : Type 1} (𝓤 : URA M) (H : Heap 𝓤) (A : Atoms 𝓤) (W : Given
       owned ! I.the-row (Is I.the-row) (EL.makes I.the-type I′.the-plain 𝓤 H A) c _ gc $ fjoin ! $ nothing ! $ join ! $ frame ! $ done !
 
   plan-is : (s : Seen) (r : Plan) → ent 𝓤 (ensured 𝓤 H A plan-of.ended (plan-of.clauses 𝓤 H A mem run) tt (c, (s, (n, tt))) tt r) (fact 𝓤 (r ≡ spec.planOf c s n))
-  plan-is s r = exE 𝓤 _ (λ ws. snd∗ 𝓤 (sem 𝓤 H A (lasts plan-of.ended tt (c, (s, (n, tt))) ws)) (fact 𝓤 (r ≡ spec.planOf c s n)))
+  plan-is s r = tells 𝓤 H A (lasts plan-of.ended tt (c, (s, (n, tt)))) (r ≡ spec.planOf c s n)
 
   abbrev to-speaker : Plan → Val → Speaker 𝓤 H A mem run .Ghost
   to-speaker p mp = ((tt, tt, tt, (p, tt), (mp ∷ [], tt)), tt)
@@ -181,7 +181,7 @@ module _ {M : Type 1} (𝓤 : URA M) (H : Heap 𝓤) (A : Atoms 𝓤) (W : Given
   goes-speaker p mp gp = qed W [] ∵ nothing ! $ owned ! P.the-row (Is P.the-row) (EL.makes P.the-type P′.the-plain 𝓤 H A) p _ gp $ fjoin ! $ nothing ! $ join ! $ frame ! $ done !
 
   speaker-of : (p : Plan) (r : ℕ) → ent 𝓤 (ensured 𝓤 H A speaker′.ended (speaker′.clauses 𝓤 H A mem run) tt (p, tt) tt r) (fact 𝓤 (r ≡ spec.speakerOf p))
-  speaker-of p r = exE 𝓤 _ (λ ws. snd∗ 𝓤 (sem 𝓤 H A (lasts speaker′.ended tt (p, tt) ws)) (fact 𝓤 (r ≡ spec.speakerOf p)))
+  speaker-of p r = tells 𝓤 H A (lasts speaker′.ended tt (p, tt)) (r ≡ spec.speakerOf p)
 
   abbrev to-with : Plan → Val → Node → Val → With 𝓤 H A mem run .Ghost
   to-with p mp d v = ((tt, tt, tt, (p, (d, tt)), (mp ∷ [], (v ∷ [], tt))), tt)
@@ -191,7 +191,7 @@ module _ {M : Type 1} (𝓤 : URA M) (H : Heap 𝓤) (A : Atoms 𝓤) (W : Given
       qed W [] ∵ nothing ! $ owned ! T.the-row (Is T.the-row) (T.makes 𝓤 H A) d _ gd $ fjoin ! $ owned ! P.the-row (Is P.the-row) (EL.makes P.the-type P′.the-plain 𝓤 H A) p _ gp $ fjoin ! $ nothing ! $ join ! $ frame ! $ done !
 
   with-of : (p : Plan) (d : Node) (r : Survey) → ent 𝓤 (ensured 𝓤 H A survey-with.ended (survey-with.clauses 𝓤 H A mem run) tt (p, (d, tt)) tt r) (fact 𝓤 (r ≡ spec.surveyWith p d))
-  with-of p d r = exE 𝓤 _ (λ ws. snd∗ 𝓤 (sem 𝓤 H A (lasts survey-with.ended tt (p, (d, tt)) ws)) (fact 𝓤 (r ≡ spec.surveyWith p d)))
+  with-of p d r = tells 𝓤 H A (lasts survey-with.ended tt (p, (d, tt))) (r ≡ spec.surveyWith p d)
 
   abbrev to-alone : Plan → Val → Alone 𝓤 H A mem run .Ghost
   to-alone p mp = ((tt, tt, tt, (p, tt), (mp ∷ [], tt)), tt)
@@ -200,9 +200,9 @@ module _ {M : Type 1} (𝓤 : URA M) (H : Heap 𝓤) (A : Atoms 𝓤) (W : Given
   goes-alone p mp gp = qed W [] ∵ nothing ! $ owned ! P.the-row (Is P.the-row) (EL.makes P.the-type P′.the-plain 𝓤 H A) p _ gp $ fjoin ! $ nothing ! $ join ! $ frame ! $ done !
 
   alone-of : (p : Plan) (r : Survey) → ent 𝓤 (ensured 𝓤 H A survey-alone.ended (survey-alone.clauses 𝓤 H A mem run) tt (p, tt) tt r) (fact 𝓤 (r ≡ spec.surveyAlone p))
-  alone-of p r = exE 𝓤 _ (λ ws. snd∗ 𝓤 (sem 𝓤 H A (lasts survey-alone.ended tt (p, tt) ws)) (fact 𝓤 (r ≡ spec.surveyAlone p)))
+  alone-of p r = tells 𝓤 H A (lasts survey-alone.ended tt (p, tt)) (r ≡ spec.surveyAlone p)
 
-  module _ (𝓣 : Tables 𝓤 H) (known-start : Triple 𝓤 (𝓣 .C #survey·start) (Start 𝓤 H A mem run)) (known-glance : Triple 𝓤 (𝓣 .C #survey·glance) (Glance 𝓤 H A mem run)) (known-plan-of : Triple 𝓤 (𝓣 .C #survey·plan-of) (Plans 𝓤 H A mem run)) (known-speaker : Triple 𝓤 (𝓣 .C #survey·speaker) (Speaker 𝓤 H A mem run)) (known-survey-with : Triple 𝓤 (𝓣 .C #survey·survey-with) (With 𝓤 H A mem run)) (known-survey-alone : Triple 𝓤 (𝓣 .C #survey·survey-alone) (Alone 𝓤 H A mem run)) (l₀ l₁ l₂ l₃ l₄ l₅ l₆ l₇ l₈ l₉ l₁₀ l₁₁ l₁₂ l₁₃ l₁₄ l₁₅ : ℕ) where
+  module _ (𝓣 : Tables 𝓤 H) (known-start : Triple 𝓤 (𝓣 .C #chain·start) (Start 𝓤 H A mem run)) (known-glance : Triple 𝓤 (𝓣 .C #survey·glance) (Glance 𝓤 H A mem run)) (known-plan-of : Triple 𝓤 (𝓣 .C #survey·plan-of) (Plans 𝓤 H A mem run)) (known-speaker : Triple 𝓤 (𝓣 .C #survey·speaker) (Speaker 𝓤 H A mem run)) (known-survey-with : Triple 𝓤 (𝓣 .C #chain·survey-with) (With 𝓤 H A mem run)) (known-survey-alone : Triple 𝓤 (𝓣 .C #chain·survey-alone) (Alone 𝓤 H A mem run)) (l₀ l₁ l₂ l₃ l₄ l₅ l₆ l₇ l₈ l₉ l₁₀ l₁₁ l₁₂ l₁₃ l₁₄ l₁₅ : ℕ) where
     abbrev En : Env 𝓤 H
     En = (Sv, l₀) ∷ (slice, l₁) ∷ (In, l₂) ∷ (word, l₃) ∷ (Sn, l₄) ∷ (word, l₅) ∷ (Pl, l₆) ∷ (word, l₇) ∷ (tyBool, l₈) ∷ (word, l₉) ∷ (tyPtr, l₁₀) ∷ (Nd, l₁₁) ∷ (tyBool, l₁₂) ∷ (word, l₁₃) ∷ (tyPtr, l₁₄) ∷ (Nd, l₁₅) ∷ []
 
@@ -373,7 +373,7 @@ module _ {M : Type 1} (𝓤 : URA M) (H : Heap 𝓤) (A : Atoms 𝓤) (W : Given
         -- [table; the open borrow; Shr; true; Res; table's fact; the others'; _15; …; _0]
         keep ! (0 ∷ 7 ∷ 8 ∷ 9 ∷ 10 ∷ 11 ∷ 12 ∷ 13 ∷ 14 ∷ 15 ∷ 16 ∷ 17 ∷ 18 ∷ 19 ∷ 20 ∷ 21 ∷ 22 ∷ 23 ∷ 24 ∷ 25 ∷ 26 ∷ 27 ∷ 28 ∷ 29 ∷ 30 ∷ 31 ∷ 32 ∷ 33 ∷ 34 ∷ 35 ∷ 36 ∷ 37 ∷ 38 ∷ 1 ∷ 2 ∷ 4 ∷ []) $ by ! (loops q′ s v is e))))))
 
-  walk : (𝓣 : Tables 𝓤 H) → Triple 𝓤 (𝓣 .C #survey·start) (Start 𝓤 H A mem run) → Triple 𝓤 (𝓣 .C #survey·glance) (Glance 𝓤 H A mem run) → Triple 𝓤 (𝓣 .C #survey·plan-of) (Plans 𝓤 H A mem run) → Triple 𝓤 (𝓣 .C #survey·speaker) (Speaker 𝓤 H A mem run) → Triple 𝓤 (𝓣 .C #survey·survey-with) (With 𝓤 H A mem run) → Triple 𝓤 (𝓣 .C #survey·survey-alone) (Alone 𝓤 H A mem run)
+  walk : (𝓣 : Tables 𝓤 H) → Triple 𝓤 (𝓣 .C #chain·start) (Start 𝓤 H A mem run) → Triple 𝓤 (𝓣 .C #survey·glance) (Glance 𝓤 H A mem run) → Triple 𝓤 (𝓣 .C #survey·plan-of) (Plans 𝓤 H A mem run) → Triple 𝓤 (𝓣 .C #survey·speaker) (Speaker 𝓤 H A mem run) → Triple 𝓤 (𝓣 .C #chain·survey-with) (With 𝓤 H A mem run) → Triple 𝓤 (𝓣 .C #chain·survey-alone) (Alone 𝓤 H A mem run)
       → ent 𝓤 (onEntry 𝓤 H A survey-all.signature (κ, tt) (q, tt) a vals) (WpFn 𝓤 H (𝓣 .C) (𝓣 .Λ) code.function (v₁ ∷ mc ∷ []) Post)
   walk 𝓣 known-start known-glance known-plan-of known-speaker known-survey-with known-survey-alone =
       qed W ((‵ (flft κ q) ⊛ ‵ ftrue) ∷ ‵ (owns (ShrSlice (named 0) κ T.the-row ∷ I.the-row ∷ []) a vals) ∷ []) ∵ enter ! (𝓣 .C) (𝓣 .Λ) code.function (v₁ ∷ mc ∷ []) _ $
@@ -381,7 +381,7 @@ module _ {M : Type 1} (𝓤 : URA M) (H : Heap 𝓤) (A : Atoms 𝓤) (W : Given
       pass1 ! (init ! 28 refl (tt, (tt, (record { fits = room₀ .0 }, tt)))) $ pass1 ! (init ! 26 refl (EL.lawful I.the-type I′.the-laws 𝓤 H A W tt .typed c _ gc .0)) $ pass0 ! $
       by ! (starts 𝓣 known-start known-glance known-plan-of known-speaker known-survey-with known-survey-alone l₀ l₁ l₂ l₃ l₄ l₅ l₆ l₇ l₈ l₉ l₁₀ l₁₁ l₁₂ l₁₃ l₁₄ l₁₅)))))))))))))))))
 
-module _ {M : Type 1} (𝓤 : URA M) (H : Heap 𝓤) (A : Atoms 𝓤) (W : Given 𝓤 H A) (mem : Memory → SProp 𝓤) (run : Routine → Fun 𝓤) (𝓣 : Tables 𝓤 H) (known-start : Triple 𝓤 (𝓣 .C #survey·start) (Start 𝓤 H A mem run)) (known-glance : Triple 𝓤 (𝓣 .C #survey·glance) (Glance 𝓤 H A mem run)) (known-plan-of : Triple 𝓤 (𝓣 .C #survey·plan-of) (Plans 𝓤 H A mem run)) (known-speaker : Triple 𝓤 (𝓣 .C #survey·speaker) (Speaker 𝓤 H A mem run)) (known-survey-with : Triple 𝓤 (𝓣 .C #survey·survey-with) (With 𝓤 H A mem run)) (known-survey-alone : Triple 𝓤 (𝓣 .C #survey·survey-alone) (Alone 𝓤 H A mem run)) where
+module _ {M : Type 1} (𝓤 : URA M) (H : Heap 𝓤) (A : Atoms 𝓤) (W : Given 𝓤 H A) (mem : Memory → SProp 𝓤) (run : Routine → Fun 𝓤) (𝓣 : Tables 𝓤 H) (known-start : Triple 𝓤 (𝓣 .C #chain·start) (Start 𝓤 H A mem run)) (known-glance : Triple 𝓤 (𝓣 .C #survey·glance) (Glance 𝓤 H A mem run)) (known-plan-of : Triple 𝓤 (𝓣 .C #survey·plan-of) (Plans 𝓤 H A mem run)) (known-speaker : Triple 𝓤 (𝓣 .C #survey·speaker) (Speaker 𝓤 H A mem run)) (known-survey-with : Triple 𝓤 (𝓣 .C #chain·survey-with) (With 𝓤 H A mem run)) (known-survey-alone : Triple 𝓤 (𝓣 .C #chain·survey-alone) (Alone 𝓤 H A mem run)) where
   survey-all-walks : Walks 𝓤 H A survey-all.ended stayed (WpFn 𝓤 H (𝓣 .C) (𝓣 .Λ) code.function) (survey-all.clauses 𝓤 H A mem run)
   survey-all-walks = walked 𝓤 H A survey-all.ended stayed (survey-all.clauses 𝓤 H A mem run) (WpFn 𝓤 H (𝓣 .C) (𝓣 .Λ) code.function)
       (λ κs. (slice-vals, (EL.vals I.the-type I′.the-laws, tt))) (λ κs. (shr-slice-tells (named 0) (κs .0) T.the-row, (EL.tells I.the-type I′.the-laws, tt)))
@@ -399,9 +399,9 @@ survey-all-spec 𝓤 H 𝓜 𝓖 𝓡 =
     entered 𝓤 H (tripleOf 𝓤 H (𝓖 .A) survey-all.signature (survey-all.spec 𝓤 H (𝓖 .A) (𝓜 .mem) (𝓡 .run)))
     (tables 𝓤 H 𝓜 𝓡 code.env .C) (tables 𝓤 H 𝓜 𝓡 code.env .Λ) #chain·survey-all code.function (code.unfolded 𝓤 H 𝓜 𝓡)
     (survey-all-meets 𝓤 H (𝓖 .A) (givenOf 𝓤 H 𝓜 𝓖) (𝓜 .mem) (𝓡 .run) (tablesOf 𝓤 H 𝓜 (tables 𝓤 H 𝓜 𝓡 code.env))
-    (cited 𝓤 H (Start 𝓤 H (𝓖 .A) (𝓜 .mem) (𝓡 .run)) 𝓜 𝓡 code.env #survey·start start-def.routine code.calls-survey·start (start-thm.met 𝓤 H 𝓜 𝓖 𝓡))
+    (cited 𝓤 H (Start 𝓤 H (𝓖 .A) (𝓜 .mem) (𝓡 .run)) 𝓜 𝓡 code.env #chain·start start-def.routine code.calls-chain·steps·start (start-thm.met 𝓤 H 𝓜 𝓖 𝓡))
     (cited 𝓤 H (Glance 𝓤 H (𝓖 .A) (𝓜 .mem) (𝓡 .run)) 𝓜 𝓡 code.env #survey·glance glance-def.routine code.calls-survey·glance (glance-thm.met 𝓤 H 𝓜 𝓖 𝓡))
     (cited 𝓤 H (Plans 𝓤 H (𝓖 .A) (𝓜 .mem) (𝓡 .run)) 𝓜 𝓡 code.env #survey·plan-of plan-of-def.routine code.calls-survey·plan-of (plan-of-thm.met 𝓤 H 𝓜 𝓖 𝓡))
     (cited 𝓤 H (Speaker 𝓤 H (𝓖 .A) (𝓜 .mem) (𝓡 .run)) 𝓜 𝓡 code.env #survey·speaker speaker-def.routine code.calls-survey·speaker (speaker-thm.met 𝓤 H 𝓜 𝓖 𝓡))
-    (cited 𝓤 H (With 𝓤 H (𝓖 .A) (𝓜 .mem) (𝓡 .run)) 𝓜 𝓡 code.env #survey·survey-with survey-with-def.routine code.calls-survey·survey-with (survey-with-thm.met 𝓤 H 𝓜 𝓖 𝓡))
-    (cited 𝓤 H (Alone 𝓤 H (𝓖 .A) (𝓜 .mem) (𝓡 .run)) 𝓜 𝓡 code.env #survey·survey-alone survey-alone-def.routine code.calls-survey·survey-alone (survey-alone-thm.met 𝓤 H 𝓜 𝓖 𝓡)))
+    (cited 𝓤 H (With 𝓤 H (𝓖 .A) (𝓜 .mem) (𝓡 .run)) 𝓜 𝓡 code.env #chain·survey-with survey-with-def.routine code.calls-chain·steps·survey-with (survey-with-thm.met 𝓤 H 𝓜 𝓖 𝓡))
+    (cited 𝓤 H (Alone 𝓤 H (𝓖 .A) (𝓜 .mem) (𝓡 .run)) 𝓜 𝓡 code.env #chain·survey-alone survey-alone-def.routine code.calls-chain·steps·survey-alone (survey-alone-thm.met 𝓤 H 𝓜 𝓖 𝓡)))

@@ -15,11 +15,11 @@ use denote.Array.{Array, array-vals, array-tells, array-makes, array-lawful}
 use denote.Struct.Laws as LL
 use denote.Enum.Laws as EL
 use denote.Triple.Walked.{needs, stay-dropped, goes-dropped}
-use Rattle.chain.proofs.Walk.{URA, fullShare, Ty, named, erased, mut, imm, w64, tyRef, spell, Val, vint, vptr, SProp, ent, emp, snd∗, id⊢, exE, Lft, Share, GName, ftrue, flft, Memory, Routine, Heap, Env, Wp, atReturn, WpFn, Tables, Atoms, sem, Fun, fact, givenOf, tables, tablesOf, fmOf, WpFn-mono}
+use Rattle.chain.proofs.Walk.{URA, fullShare, Ty, named, erased, mut, imm, w64, tyRef, spell, Val, vint, vptr, SProp, ent, emp, id⊢, Lft, Share, GName, ftrue, flft, Memory, Routine, Heap, Env, Wp, atReturn, WpFn, Tables, Atoms, Fun, fact, givenOf, tables, tablesOf, fmOf, WpFn-mono}
 use Rattle.chain.proofs.Walk.{Given, Item, ‵, raw, _⊛_, some, later, ⋆, atRet, _$_, _∵_, !, qed, by, move, keep, let-go, use0, use1, split, join, pick, rewrite, fsplit, fjoin, feqL, suffices, frame, await, done, look, init, forget, stop, hop, fld, from, load, addr, of-opd, assigns, and-then, no-more, land, returns, enter, alloc1, alloc0, params1, pass1, pass0, free1, free0, exec, whole, sub, look-in, agg, lft-new, lft-end}
 use Rattle.chain.proofs.Walk.{owns, Is, shows, uint-makes, u8, usize, pointee, RefT, sliceVal, MutSlice, ShrSlice, Room, finally, slice-vals, mut-slice-tells, shr-slice-tells, shr-slice-copy, only, owned, facts, heard, nothing}
 use Rattle.chain.proofs.Walk.{plain, Contract, Triple, calls-at, onEntry, Meets, tripleOf, entered, cited, ensured, lasts, says, Stays, stay-none, stay-none-slice, gave-slice, walkOf, goes-none, goes-none-slice, goes-gave-slice, Walks, ends-at, walked, walk-meets, yes}
-use Rattle.chain.proofs.Walk.{word, byte, sliceIn, sliceHere, room, has, dies}
+use Rattle.chain.proofs.Walk.{word, byte, sliceIn, sliceHere, room, has, dies, tells}
 use Rattle.wire.specs.Promise.{Lending}
 use Rattle.node.specs.declared.state.Node.{Node}
 use Rattle.chain.proofs.Record as T
@@ -152,7 +152,7 @@ module _ {M : Type 1} (𝓤 : URA M) (H : Heap 𝓤) (A : Atoms 𝓤) (W : Given
         owned ! (Array T.the-row 33) (Is (Array T.the-row 33)) (array-makes 𝓤 H A W T.the-row (T.makes 𝓤 H A) 33) ys _ gy $ fjoin ! $ nothing ! $ join ! $ frame ! $ done !
 
     delivered-of-of : (ys : List Node) (r : Delivery) (s : Delivered) → ent 𝓤 (ensured 𝓤 H A delivered-of′.ended (delivered-of′.clauses 𝓤 H A mem run) tt (ys, (n, (r, tt))) tt s) (fact 𝓤 (s ≡ deliveredWith ys n r))
-    delivered-of-of ys r s = exE 𝓤 _ (λ ws. snd∗ 𝓤 (sem 𝓤 H A (lasts delivered-of′.ended tt (ys, (n, (r, tt))) ws)) (fact 𝓤 (s ≡ deliveredWith ys n r)))
+    delivered-of-of ys r s = tells 𝓤 H A (lasts delivered-of′.ended tt (ys, (n, (r, tt)))) (s ≡ deliveredWith ys n r)
 
     -- the array's machine value, with zs in front
     abbrev after : List Node → List Val

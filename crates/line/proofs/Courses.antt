@@ -29,14 +29,13 @@ use Rattle.entry.specs.Entry.{entryUp}
 use Rattle.ledger.specs.Ledger.{ledgerUp, leastOf, eachFrom, settled}
 use Rattle.session.specs.declared.Exchange.the-variants.{Idle, Waiting}
 use Rattle.session.specs.declared.Session.{Session}
-use Rattle.placing.specs.Placing.{givenPlace}
-use Rattle.session.specs.Session.{validOf, closedOf, askDue, nodeAt}
+use Rattle.session.specs.Session.{validOf, closedOf, askDue, nodeAt, givenPlace}
 use Rattle.start.specs.Start.{poweredOf}
 use Rattle.sending.specs.Sending.{waitingOf, readyCheck, opened, transmitted}
 use Rattle.walk.specs.Walk.{nextCheck, askCheck, nextOf, askOf}
 use Rattle.host.specs.Calls.{orderCheck, orderOf}
 use Rattle.reports.specs.Report.{giving, asking, concluded, finished, reportOf}
-use Rattle.examples.specs.Example.{buffer, knownBut, entryWith, addressed, pair}
+use Rattle.examples.specs.Example.{buffer, knownBut, entryWith, addressed, pair, settingsWith}
 use Rattle.line.specs.History.{Sending, Sent, gives, asks, sends}
 use Rattle.line.specs.Call as calls
 use Rattle.line.specs.Line.{Line, quiet, going, Arrives, Returns, nodesAfter, saidAfter, reportedOf, heardIn}
@@ -54,19 +53,7 @@ zeros = record { inputs = 0; counter = 0; analog0 = 0; analog1 = 0; analog2 = 0;
 
 -- a node by its place and its outputs
 abbrev nodeWith : Place → Bool → ℕ → Node
-nodeWith p heard outputs = record {
-  settings = record {
-    place = p;
-    mask = 0;
-    outputs = outputs;
-    pwm = record { first = 0; second = 0 };
-    held = record { outputs = 0; pwm = record { first = 0; second = 0 } };
-    timer = 0;
-  };
-  addressed = heard;
-  bench = zeros;
-  captured = nothing;
-}
+nodeWith p heard outputs = record { settings = settingsWith p outputs; addressed = heard; bench = zeros; captured = nothing }
 
 abbrev up : Node
 up = powerUp zeros

@@ -15,6 +15,7 @@ use Rattle.wire.proofs.Choice.{both}
 use Rattle.command.specs.declared.Command.{Command}
 use Rattle.command.specs.declared.Command.the-variants.{SetAddress}
 use Rattle.command.specs.Build.{fitsOf}
+use Rattle.command.specs.Role.{roleOf}
 use Rattle.status.specs.declared.Answer.{Answer}
 use Rattle.node.specs.declared.state.Settings.{Settings}
 use Rattle.node.specs.declared.state.Node.{Node}
@@ -61,8 +62,8 @@ module _ (h : Session) (ns : List Node) (inv : Invariant h ns) (ended : h .walk 
 
   module _ (ms : List Node) (t : Session) (to : Address) (c : Command) (a : Answer) (x : Exchanged to c ns ms a) (k : Concluded h a to c (h .walk) t) where
     placed-if : (i : ℕ) (b : Bool) → Placed (suc i) (at ns i .settings) (at ns i .addressed)
-        → (b ≡ true → Placed (suc i) (settingsAfter c (at ns i .settings)) (addressedAfter c (at ns i .addressed)))
-        → Placed (suc i) (cond b (settingsAfter c (at ns i .settings)) (at ns i .settings)) (cond b (addressedAfter c (at ns i .addressed)) (at ns i .addressed))
+        → (b ≡ true → Placed (suc i) (settingsAfter c (at ns i .settings)) (addressedAfter (roleOf c) (at ns i .addressed)))
+        → Placed (suc i) (cond b (settingsAfter c (at ns i .settings)) (at ns i .settings)) (cond b (addressedAfter (roleOf c) (at ns i .addressed)) (at ns i .addressed))
     placed-if i true p q = q refl
     placed-if i false p q = p
 
@@ -72,7 +73,7 @@ module _ (h : Session) (ns : List Node) (inv : Invariant h ns) (ended : h .walk 
 
     -- if every node that acts keeps its number
     ready-step : fitsOf c ≡ true
-        → ((i : ℕ) → i < h .n → acts to ns i ≡ true → Placed (suc i) (settingsAfter c (at ns i .settings)) (addressedAfter c (at ns i .addressed)))
+        → ((i : ℕ) → i < h .n → acts to ns i ≡ true → Placed (suc i) (settingsAfter c (at ns i .settings)) (addressedAfter (roleOf c) (at ns i .addressed)))
         → ((g i j : ℕ) → i < h .n → j < h .n → leads g (at ms i .settings) ≡ true → leads g (at ms j .settings) ≡ true → i ≡ j)
         → Invariant t ms
     ready-step fits numbers alone =

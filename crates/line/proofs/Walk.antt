@@ -23,12 +23,12 @@ use Rattle.chain.specs.One.{answers}
 use Rattle.chain.specs.Chain.{hearsAt}
 use Rattle.entry.specs.declared.Entry.{Entry}
 use Rattle.entry.specs.declared.Reach.the-variants.{Misses, Hits}
-use Rattle.entry.specs.Entry.{knows, doubted, noted, nop}
+use Rattle.node.proofs.Laws.{nop-writes, placed-again}
+use Rattle.entry.specs.Entry.{knows, doubted, noted}
 use Rattle.entry.proofs.Entries.{quiet-noted}
 use Rattle.ledger.specs.Ledger.{reachOf}
 use Rattle.session.specs.declared.Session.{Session}
-use Rattle.placing.specs.Placing.{givenPlace}
-use Rattle.session.specs.Session.{nodeAt}
+use Rattle.session.specs.Session.{nodeAt, givenPlace}
 use Rattle.line.specs.History.{gives, asks}
 use Rattle.line.proofs.Bools.{and-false}
 use Rattle.line.proofs.Closing.{entryAt, walked, settles, Concluded}
@@ -177,10 +177,6 @@ same : {A : Type 0} (b : Bool) (x : A) → cond b x x ≡ x
 same true x = refl
 same false x = refl
 
--- a node that has a place already
-again : (x : Settings) (p : Place) → x .place ≡ p → settingsAfter (SetAddress p) x ≡ x
-again x p e i = record { place = sym e i; mask = x .mask; outputs = x .outputs; pwm = x .pwm; held = x .held; timer = x .timer }
-
 module _ (h t : Session) (ns ms : List Node) (inv : Invariant h ns) (l : h .walk < h .n) (a : Answer) (x : Exchanged (nodeAt (h .walk + 1)) Nop ns ms a) where
   settings-ask : (i : ℕ) → i < h .n → at ms i .settings ≡ at ns i .settings
   settings-ask i p = x .settings i (omega (arith, inv .long)) ∙ same (x .whole i && acts (nodeAt (h .walk + 1)) ns i) (at ns i .settings)
@@ -210,7 +206,7 @@ module _ (h t : Session) (ns ms : List Node) (inv : Invariant h ns) (l : h .walk
         → at ms i .settings ≡ cond b (settingsAfter (SetAddress (givenPlace (h .walk + 1))) (at ns i .settings)) (at ns i .settings)
     settings-found i p true e =
         let q : h .walk ≡ i = omega (arith, eqb-true (h .walk + 1) (suc i) e) in
-        settings-ask i p ∙ sym (again (at ns i .settings) (givenPlace (h .walk + 1)) (subst (λ (j : ℕ). at ns j .settings .place ≡ givenPlace (h .walk + 1)) q (f .0)))
+        settings-ask i p ∙ sym (placed-again (at ns i .settings) (givenPlace (h .walk + 1)) (subst (λ (j : ℕ). at ns j .settings .place ≡ givenPlace (h .walk + 1)) q (f .0)))
     settings-found i p false e = settings-ask i p
 
     held-found : (i : ℕ) → i < h .n
@@ -251,4 +247,4 @@ pub ask-step : (h t : Session) (ns ms : List Node) (inv : Invariant h ns) → h 
 ask-step h t ns ms inv l Clear x k = ask-clear h t ns ms inv l Clear x (found h t ns ms inv l Clear x refl (inv .edge l)) refl k
 ask-step h t ns ms inv l Marked x k = ask-still h t ns ms inv l Marked x (λ i. refl) k
 ask-step h t ns ms inv l Silent x k =
-    ask-still h t ns ms inv l Silent x (λ i. quiet-noted nop Silent (reachOf (nodeAt (h .walk + 1)) (suc i) (entryAt h i)) (entryAt h i)) k
+    ask-still h t ns ms inv l Silent x (λ i. quiet-noted Nop nop-writes Silent (reachOf (nodeAt (h .walk + 1)) (suc i) (entryAt h i)) (entryAt h i)) k

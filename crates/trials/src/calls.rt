@@ -7,7 +7,6 @@ use crate::state::is_command;
 use crate::state::is_state;
 use crate::state::read_order;
 use crate::state::target;
-use placing::is_placing;
 use session::Session;
 use session::Step;
 use text::rest;
@@ -17,7 +16,7 @@ use wire::Individual;
 // `kind target command-byte data..`: Set Address is not among the ten commands.
 fn is_order(s: &[u8]) -> bool {
     if is_command(s) {
-        return !is_placing(read_order(s));
+        return !read_order(s).role().is_placing();
     }
     false
 }

@@ -1,3 +1,4 @@
+pub mod Roles
 pub mod Rows
 pub mod Building
 pub mod Commands

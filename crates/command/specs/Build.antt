@@ -13,6 +13,9 @@ use Rattle.packet.specs.Build.{packetOf}
 use Rattle.command.specs.declared.Place.{Place}
 use Rattle.command.specs.declared.Command.{Command}
 use Rattle.command.specs.declared.Command.the-variants.{SetAddress, DefineStatus, ReadStatus, SetPwm, SynchOutput, SetOutputs, SetSynchOutput, SetTimerMode, SynchInput, Nop, HardReset}
+use Rattle.command.specs.declared.Role.{Role}
+use Rattle.command.specs.declared.Role.the-variants.{Plain, Places, Masks, Captures, Idles, Resets}
+use Rattle.command.specs.Role.{roleOf}
 
 -- the command's number
 abbrev pub codeOf : Command → ℕ
@@ -58,33 +61,29 @@ filled d = d ++ replicate (4 - length d) 0
 abbrev pub placeFits : Place → Bool
 placeFits p = isIndividual (p .address .0) && isGroup (p .group .0)
 
--- a command whose values are of their range
+-- a command whose values are of their range, by its role: only a place has one
+abbrev pub fitsBy : Role → Bool
+fitsBy Plain = true
+fitsBy (Places p) = placeFits p
+fitsBy (Masks m) = true
+fitsBy Captures = true
+fitsBy Idles = true
+fitsBy Resets = true
+
 abbrev pub fitsOf : Command → Bool
-fitsOf (SetAddress p) = placeFits p
-fitsOf (DefineStatus m) = true
-fitsOf (ReadStatus m) = true
-fitsOf (SetPwm w) = true
-fitsOf SynchOutput = true
-fitsOf (SetOutputs w) = true
-fitsOf (SetSynchOutput h) = true
-fitsOf (SetTimerMode m) = true
-fitsOf SynchInput = true
-fitsOf Nop = true
-fitsOf HardReset = true
+fitsOf c = fitsBy (roleOf c)
 
 -- what a command's types admit, as far as reading it back needs it: a group is a byte
+abbrev pub typedBy : Role → Type 0
+typedBy Plain = Unit {0}
+typedBy (Places p) = p .group .0 < 256
+typedBy (Masks m) = Unit {0}
+typedBy Captures = Unit {0}
+typedBy Idles = Unit {0}
+typedBy Resets = Unit {0}
+
 abbrev pub Typed : Command → Type 0
-Typed (SetAddress p) = p .group .0 < 256
-Typed (DefineStatus m) = Unit {0}
-Typed (ReadStatus m) = Unit {0}
-Typed (SetPwm w) = Unit {0}
-Typed SynchOutput = Unit {0}
-Typed (SetOutputs w) = Unit {0}
-Typed (SetSynchOutput h) = Unit {0}
-Typed (SetTimerMode m) = Unit {0}
-Typed SynchInput = Unit {0}
-Typed Nop = Unit {0}
-Typed HardReset = Unit {0}
+Typed c = typedBy (roleOf c)
 
 -- the packet of a command to an address byte, and to an address
 abbrev pub packetTo : ℕ → Command → List ℕ

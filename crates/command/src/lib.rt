@@ -13,7 +13,8 @@ ghost use lib.ListN.{getD};
 ghost use Rattle.wire.specs.Promise.{Lending};
 ghost use Rattle.buffer.specs.Buffer.{builtNumber, place};
 ghost use Rattle.command.specs.Command.{wordOf, placeOf, rowsOf, readingOf};
-ghost use Rattle.command.specs.Build.{bytesOf, groupByte, fitsOf, headOf, filled, packetTo, commandBuilt};
+ghost use Rattle.command.specs.Role.{roleOf, isPlacing, isNop, isReset};
+ghost use Rattle.command.specs.Build.{bytesOf, groupByte, placeFits, fitsBy, headOf, filled, packetTo, commandBuilt};
 
 // Where a node stands: its individual address, its group, and whether it leads that group.
 pub struct Place {
@@ -46,6 +47,87 @@ pub enum Command {
     SynchInput,
     Nop,
     HardReset,
+}
+
+// What a command is beside its data. Whoever treats some commands alike asks for their role, so that a new command is one line of `role`.
+pub enum Role {
+    // Stores its data or copies what is held, and no more.
+    Plain,
+    // Gives the node this place, and addresses it.
+    Places(Place),
+    // Brings the mask of its own reply.
+    Masks(u8),
+    // Captures the inputs and the counter.
+    Captures,
+    // Does nothing but be answered.
+    Idles,
+    // Restores power-up state, and is not answered.
+    Resets,
+}
+
+impl Command {
+    // The one table of roles.
+    pub fn role(self) -> Role
+        ensures { λ r. ⌜ r ≡ roleOf self ⌝ }
+    {
+        match self {
+            Command::SetAddress(place) => Role::Places(place),
+            Command::DefineStatus(_) => Role::Plain,
+            Command::ReadStatus(mask) => Role::Masks(mask),
+            Command::SetPwm(_) => Role::Plain,
+            Command::SynchOutput => Role::Plain,
+            Command::SetOutputs(_) => Role::Plain,
+            Command::SetSynchOutput(_) => Role::Plain,
+            Command::SetTimerMode(_) => Role::Plain,
+            Command::SynchInput => Role::Captures,
+            Command::Nop => Role::Idles,
+            Command::HardReset => Role::Resets,
+        }
+    }
+}
+
+impl Role {
+    // Set Address: sent by "next" and by "regroup" alone.
+    pub fn is_placing(self) -> bool
+        ensures { λ r. ⌜ r ≡ isPlacing self ⌝ }
+    {
+        match self {
+            Role::Places(_) => true,
+            Role::Plain => false,
+            Role::Masks(_) => false,
+            Role::Captures => false,
+            Role::Idles => false,
+            Role::Resets => false,
+        }
+    }
+
+    // Nop: what "ask" sends.
+    pub fn is_nop(self) -> bool
+        ensures { λ r. ⌜ r ≡ isNop self ⌝ }
+    {
+        match self {
+            Role::Idles => true,
+            Role::Plain => false,
+            Role::Places(_) => false,
+            Role::Masks(_) => false,
+            Role::Captures => false,
+            Role::Resets => false,
+        }
+    }
+
+    // Hard Reset: it is not answered, and closes the host's session.
+    pub fn is_reset(self) -> bool
+        ensures { λ r. ⌜ r ≡ isReset self ⌝ }
+    {
+        match self {
+            Role::Resets => true,
+            Role::Plain => false,
+            Role::Places(_) => false,
+            Role::Masks(_) => false,
+            Role::Captures => false,
+            Role::Idles => false,
+        }
+    }
 }
 
 // What the parts of an intact packet say: a command, or another one, which is replied to as a Nop is and changes nothing.
@@ -190,19 +272,30 @@ fn own_data(c: Command) -> [u8; 4]
     }
 }
 
-// Whether a command's values are of their range.
-fn fits(c: Command) -> bool
-    ensures { λ r. ⌜ r ≡ fitsOf c ⌝ }
+// Whether a place is of its range.
+fn place_fits(p: Place) -> bool
+    ensures { λ r. ⌜ r ≡ placeFits p ⌝ }
 {
-    if let Command::SetAddress(p) = c {
-        let address = p.address;
-        let group = p.group;
-        if address.in_range() {
-            return group.in_range();
-        }
-        return false;
+    let address = p.address;
+    let group = p.group;
+    if address.in_range() {
+        return group.in_range();
     }
-    true
+    false
+}
+
+// Whether a command's values are of their range: only a place has one.
+fn fits(role: Role) -> bool
+    ensures { λ r. ⌜ r ≡ fitsBy role ⌝ }
+{
+    match role {
+        Role::Places(p) => place_fits(p),
+        Role::Plain => true,
+        Role::Masks(_) => true,
+        Role::Captures => true,
+        Role::Idles => true,
+        Role::Resets => true,
+    }
 }
 
 // The packet of a command whose values are of their range, to the address byte `a`.
@@ -220,7 +313,7 @@ pub fn build(to: Address, c: Command, out: &mut [u8]) -> Built
     ensures { λ r. ⌜ Lending builtNumber r (now (out .exit)) (commandBuilt to c (now (out .entry))) ⌝ }
 {
     if to.in_range() {
-        if fits(c) {
+        if fits(c.role()) {
             return build_to(to.byte(), c, out);
         }
     }

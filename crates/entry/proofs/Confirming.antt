@@ -1,45 +1,34 @@
--- A confirmed command: what is written is known and new, unless it copies a held set in doubt.
-use mathlib.Core.Bool.{Bool, true, false, true≢false}
-use mathlib.Core.Path.{_≡_, refl, sym, _∙_}
+-- A confirmed command by one law for all settings: each value is picked by its flag.
+use mathlib.Core.Bool.{Bool, true, false, cond}
+use mathlib.Core.Path.{_≡_, refl, sym, ap, _∙_}
 use Rattle.command.specs.declared.Command.{Command}
-use Rattle.command.specs.declared.Command.the-variants.{SetAddress, DefineStatus, ReadStatus, SetPwm, SynchOutput, SetOutputs, SetSynchOutput, SetTimerMode, SynchInput, Nop, HardReset}
 use Rattle.node.specs.declared.state.Settings.{Settings}
-use Rattle.node.specs.Effect.{settingsAfter}
+use Rattle.node.specs.Setting.{Setting, Value, make, get-make, make-same}
+use Rattle.node.specs.Effect.{Effect, keeps, stores, copies, effect, applied, settingsAfter}
 use Rattle.entry.specs.declared.Known.{Known}
 use Rattle.entry.specs.declared.Entry.{Entry}
-use Rattle.entry.specs.Entry.{marked, sureOf, confirmed, doubted}
+use Rattle.entry.specs.Entry.{flag, shows, newFlag, newValue, marked, confirmed, blendOf}
 
-surely : (c : Command) (e : Entry) → sureOf c (e .known) ≡ true
-    → record { settings = settingsAfter c (e .settings); known = marked c true (e .known) } ≡ confirmed c e
-surely (SetAddress p) e h = refl
-surely (DefineStatus m) e h = refl
-surely (ReadStatus m) e h = refl
-surely (SetPwm w) e h = refl
-surely SynchOutput e h = rw h
-surely (SetOutputs w) e h = refl
-surely (SetSynchOutput w) e h = refl
-surely (SetTimerMode m) e h = refl
-surely SynchInput e h = refl
-surely Nop e h = refl
-surely HardReset e h = refl
+either-way : {A : Type 0} (b : Bool) (x : A) → cond b x x ≡ x
+either-way true x = refl
+either-way false x = refl
 
-not-surely : (c : Command) (e : Entry) → sureOf c (e .known) ≡ false → doubted c e ≡ confirmed c e
-not-surely (SetAddress p) e h = absurd (true≢false h)
-not-surely (DefineStatus m) e h = absurd (true≢false h)
-not-surely (ReadStatus m) e h = absurd (true≢false h)
-not-surely (SetPwm w) e h = absurd (true≢false h)
-not-surely SynchOutput e h = rw h
-not-surely (SetOutputs w) e h = absurd (true≢false h)
-not-surely (SetSynchOutput w) e h = absurd (true≢false h)
-not-surely (SetTimerMode m) e h = absurd (true≢false h)
-not-surely SynchInput e h = absurd (true≢false h)
-not-surely Nop e h = absurd (true≢false h)
-not-surely HardReset e h = absurd (true≢false h)
+picked : {s : Setting} (f : Effect s) (e : Entry) → cond (newFlag true f (e .known)) (applied f (e .settings)) (shows e s) ≡ newValue f e
+picked {s} keeps e = either-way (flag (e .known) s) (shows e s)
+picked (stores v) e = refl
+picked (copies t f) e = refl
 
--- as the code gives it
-pub sure : (c : Command) (e : Entry) (t : Bool) (s : Settings) (k : Known) → t ≡ sureOf c (e .known) → t ≡ true
-    → s ≡ settingsAfter c (e .settings) → k ≡ marked c true (e .known) → record { settings = s; known = k } ≡ confirmed c e
-sure c e t s k p q f g = rw (f, g) (surely c e (sym p ∙ q))
+module _ (c : Command) (e : Entry) where
+  abbrev value : (s : Setting) → Value s
+  value s = newValue (effect c s) e
 
-pub unsure : (c : Command) (e r : Entry) (t : Bool) → t ≡ sureOf c (e .known) → t ≡ false → r ≡ doubted c e → r ≡ confirmed c e
-unsure c e r t p q f = f ∙ not-surely c e (sym p ∙ q)
+  abbrev chosen : (s : Setting) → Value s
+  chosen s = cond (newFlag true (effect c s) (e .known)) (applied (effect c s) (e .settings)) (shows e s)
+
+  all-picked : make chosen ≡ make value
+  all-picked = make-same chosen (make value) (λ s. picked (effect c s) e ∙ sym (get-make value s))
+
+  -- as the code gives it
+  pub blended : (known : Known) (new s : Settings) → known ≡ marked c true (e .known) → new ≡ settingsAfter c (e .settings)
+      → s ≡ blendOf known new (e .settings) → record { settings = s; known = known } ≡ confirmed c e
+  blended known new s p q h = rw (h, q, p) (ap (λ (x : Settings). record { settings = x; known = marked c true (e .known) }) all-picked)

@@ -1,36 +1,43 @@
 -- What an exchange makes of an entry, setting by setting: whoever speaks of one setting needs only its effect.
-use mathlib.Core.Bool.{Bool, true, false}
+use mathlib.Core.Bool.{Bool, true, false, true≢false}
 use mathlib.Core.Path.{_≡_, refl}
 use Rattle.command.specs.declared.Command.{Command}
 use Rattle.status.specs.declared.Answer.{Answer}
 use Rattle.status.specs.declared.Answer.the-variants.{Clear, Marked, Silent}
-use Rattle.node.specs.Setting.{Setting, place, mask, outputs, pwm, held, timer, get-make}
-use Rattle.node.specs.Effect.{effect}
+use Rattle.node.specs.Setting.{GateSetting, outputs, pwm, held, timer, Setting, place, mask, gate, get-make, make-same}
+use Rattle.node.specs.Effect.{Effect, keeps, stores, copies, effect, writes}
+use Rattle.entry.specs.declared.Known.{Known}
 use Rattle.entry.specs.declared.Entry.{Entry}
 use Rattle.entry.specs.declared.Reach.{Reach}
 use Rattle.entry.specs.declared.Reach.the-variants.{Misses, Hits, May}
-use Rattle.entry.specs.Entry.{flag, flags, knows, shows, entryUp, newFlag, newValue, confirmed, flagged, doubted, notedFlag, notedValue, noted, Quiet, nop, readStatus, synchInput}
+use Rattle.entry.specs.Entry.{gateFlag, flag, flags, knows, shows, entryUp, newFlag, marked, newValue, confirmed, doubted, notedFlag, notedValue, noted, Quiet}
+
+flag-gate : (f : Setting → Bool) (g : GateSetting) → gateFlag (flags f) g ≡ f (gate g)
+flag-gate f outputs = refl
+flag-gate f pwm = refl
+flag-gate f held = refl
+flag-gate f timer = refl
 
 flag-flags : (f : Setting → Bool) (s : Setting) → flag (flags f) s ≡ f s
 flag-flags f place = refl
 flag-flags f mask = refl
-flag-flags f outputs = refl
-flag-flags f pwm = refl
-flag-flags f held = refl
-flag-flags f timer = refl
+flag-flags f (gate g) = flag-gate f g
+
+flags-same : (f : Setting → Bool) (k : Known) → ((s : Setting) → f s ≡ flag k s) → flags f ≡ k
+flags-same f k h = rw (h place, h mask, h (gate outputs), h (gate pwm), h (gate held), h (gate timer))
 
 -- at power-up every setting is known
 pub knows-up : (s : Setting) → knows entryUp s ≡ true
 knows-up = flag-flags (λ s. true)
 
-pub knows-confirmed : (c : Command) (e : Entry) (s : Setting) → knows (confirmed c e) s ≡ newFlag (effect c s) e
-knows-confirmed c e = flag-flags (λ s. newFlag (effect c s) e)
+pub knows-confirmed : (c : Command) (e : Entry) (s : Setting) → knows (confirmed c e) s ≡ newFlag true (effect c s) (e .known)
+knows-confirmed c e = flag-flags (λ s. newFlag true (effect c s) (e .known))
 
 pub shows-confirmed : (c : Command) (e : Entry) (s : Setting) → shows (confirmed c e) s ≡ newValue (effect c s) e
 shows-confirmed c e = get-make (λ s. newValue (effect c s) e)
 
-pub knows-doubted : (c : Command) (e : Entry) (s : Setting) → knows (doubted c e) s ≡ flagged (effect c s) false (knows e s)
-knows-doubted c e = flag-flags (λ s. flagged (effect c s) false (knows e s))
+pub knows-doubted : (c : Command) (e : Entry) (s : Setting) → knows (doubted c e) s ≡ newFlag false (effect c s) (e .known)
+knows-doubted c e = flag-flags (λ s. newFlag false (effect c s) (e .known))
 
 -- doubt changes no value
 pub shows-doubted : (c : Command) (e : Entry) (s : Setting) → shows (doubted c e) s ≡ shows e s
@@ -54,22 +61,32 @@ shows-noted Silent Misses c e s = refl
 shows-noted Silent Hits c e s = refl
 shows-noted Silent May c e s = refl
 
--- Nop, Read Status and Synch Input leave an entry as it is
-pub quiet-confirmed : {c : Command} → Quiet c → (e : Entry) → confirmed c e ≡ e
-quiet-confirmed nop e = refl
-quiet-confirmed (readStatus m) e = refl
-quiet-confirmed synchInput e = refl
+-- what writes no setting leaves an entry as it is
+flag-stays : {s : Setting} (sure : Bool) (f : Effect s) (k : Known) → writes f ≡ false → newFlag sure f k ≡ flag k s
+flag-stays sure keeps k h = refl
+flag-stays sure (stores v) k h = absurd (true≢false h)
+flag-stays sure (copies t f) k h = absurd (true≢false h)
 
-pub quiet-doubted : {c : Command} → Quiet c → (e : Entry) → doubted c e ≡ e
-quiet-doubted nop e = refl
-quiet-doubted (readStatus m) e = refl
-quiet-doubted synchInput e = refl
+value-stays : {s : Setting} (f : Effect s) (e : Entry) → writes f ≡ false → newValue f e ≡ shows e s
+value-stays keeps e h = refl
+value-stays (stores v) e h = absurd (true≢false h)
+value-stays (copies t f) e h = absurd (true≢false h)
 
-pub quiet-noted : {c : Command} → Quiet c → (a : Answer) (r : Reach) (e : Entry) → noted a r c e ≡ e
-quiet-noted q Marked r e = refl
-quiet-noted q Clear Misses e = refl
-quiet-noted q Clear Hits e = quiet-confirmed q e
-quiet-noted q Clear May e = quiet-doubted q e
-quiet-noted q Silent Misses e = refl
-quiet-noted q Silent Hits e = quiet-doubted q e
-quiet-noted q Silent May e = quiet-doubted q e
+marked-stays : (c : Command) → Quiet c → (sure : Bool) (k : Known) → marked c sure k ≡ k
+marked-stays c q sure k = flags-same (λ s. newFlag sure (effect c s) k) k (λ s. flag-stays sure (effect c s) k (q s))
+
+quiet-confirmed : (c : Command) → Quiet c → (e : Entry) → confirmed c e ≡ e
+quiet-confirmed c q e =
+    rw (marked-stays c q true (e .known), make-same (λ s. newValue (effect c s) e) (e .settings) (λ s. value-stays (effect c s) e (q s)))
+
+quiet-doubted : (c : Command) → Quiet c → (e : Entry) → doubted c e ≡ e
+quiet-doubted c q e = rw (marked-stays c q false (e .known))
+
+pub quiet-noted : (c : Command) → Quiet c → (a : Answer) (r : Reach) (e : Entry) → noted a r c e ≡ e
+quiet-noted c q Marked r e = refl
+quiet-noted c q Clear Misses e = refl
+quiet-noted c q Clear Hits e = quiet-confirmed c q e
+quiet-noted c q Clear May e = quiet-doubted c q e
+quiet-noted c q Silent Misses e = refl
+quiet-noted c q Silent Hits e = quiet-doubted c q e
+quiet-noted c q Silent May e = quiet-doubted c q e

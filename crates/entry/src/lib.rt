@@ -2,11 +2,14 @@
 // Promised: only what the command writes changes, by the node's own table of effects; doubt changes no value.
 // Left to others: which nodes a command goes to (ledger), and how a reply is judged (status).
 use command::Command;
+use command::Held;
+use command::Place;
+use command::Pwm;
 use node::Settings;
 use status::Answer;
 ghost use mathlib.Core.Path.{_≡_};
-ghost use mathlib.Core.Bool.{true};
-ghost use Rattle.entry.specs.Entry.{entryUp, marked, sureOf, confirmed, doubted, noted};
+ghost use mathlib.Core.Bool.{cond, _&&_};
+ghost use Rattle.entry.specs.Entry.{entryUp, marked, blendOf, confirmed, doubted, noted};
 
 // Which of the six settings are known; the others are in doubt.
 pub struct Known {
@@ -31,48 +34,59 @@ pub enum Reach {
     May,
 }
 
-// What a command writes, set to known or in doubt.
-fn mark(known: Known, c: Command, to: bool) -> Known
-    ensures { λ r. ⌜ r ≡ marked c to known ⌝ }
+// Whether both hold. A function, since `&&` would part the arm of `mark` that needs it in two.
+fn both(a: bool, b: bool) -> bool
+    ensures { λ r. ⌜ r ≡ (a && b) ⌝ }
+{
+    if a {
+        return b;
+    }
+    false
+}
+
+// The flags after a command: what it stores is known if the command is sure, that is confirmed; what it copies, if the original is known too.
+fn mark(known: Known, c: Command, sure: bool) -> Known
+    ensures { λ r. ⌜ r ≡ marked c sure known ⌝ }
 {
     let mut k = known;
     match c {
         Command::SetAddress(_) => {
-            k.place = to;
+            k.place = sure;
             k
         }
         Command::DefineStatus(_) => {
-            k.mask = to;
+            k.mask = sure;
             k
         }
         Command::SetPwm(_) => {
-            k.pwm = to;
+            k.pwm = sure;
             k
         }
         Command::SynchOutput => {
-            k.outputs = to;
-            k.pwm = to;
+            let copied = both(sure, known.held);
+            k.outputs = copied;
+            k.pwm = copied;
             k
         }
         Command::SetOutputs(_) => {
-            k.outputs = to;
+            k.outputs = sure;
             k
         }
         Command::SetSynchOutput(_) => {
-            k.held = to;
+            k.held = sure;
             k
         }
         Command::SetTimerMode(_) => {
-            k.timer = to;
+            k.timer = sure;
             k
         }
         Command::HardReset => Known {
-            place: to,
-            mask: to,
-            outputs: to,
-            pwm: to,
-            held: to,
-            timer: to,
+            place: sure,
+            mask: sure,
+            outputs: sure,
+            pwm: sure,
+            held: sure,
+            timer: sure,
         },
         Command::ReadStatus(_) => k,
         Command::SynchInput => k,
@@ -80,22 +94,48 @@ fn mark(known: Known, c: Command, to: bool) -> Known
     }
 }
 
-// Whether what a confirmed command writes is then known: not so a copy of a held set in doubt.
-fn is_sure(known: Known, c: Command) -> bool
-    ensures { λ r. ⌜ r ≡ sureOf c known ⌝ }
+// One of two values, by a flag: a function for each type that a setting has, since the language has no generics.
+fn pick_place(flag: bool, new: Place, old: Place) -> Place
+    ensures { λ r. ⌜ r ≡ cond flag new old ⌝ }
 {
-    match c {
-        Command::SynchOutput => known.held,
-        Command::SetAddress(_) => true,
-        Command::DefineStatus(_) => true,
-        Command::ReadStatus(_) => true,
-        Command::SetPwm(_) => true,
-        Command::SetOutputs(_) => true,
-        Command::SetSynchOutput(_) => true,
-        Command::SetTimerMode(_) => true,
-        Command::SynchInput => true,
-        Command::Nop => true,
-        Command::HardReset => true,
+    if flag { new } else { old }
+}
+
+fn pick_pwm(flag: bool, new: Pwm, old: Pwm) -> Pwm
+    ensures { λ r. ⌜ r ≡ cond flag new old ⌝ }
+{
+    if flag { new } else { old }
+}
+
+fn pick_held(flag: bool, new: Held, old: Held) -> Held
+    ensures { λ r. ⌜ r ≡ cond flag new old ⌝ }
+{
+    if flag { new } else { old }
+}
+
+fn pick_word(flag: bool, new: u16, old: u16) -> u16
+    ensures { λ r. ⌜ r ≡ cond flag new old ⌝ }
+{
+    if flag { new } else { old }
+}
+
+fn pick_byte(flag: bool, new: u8, old: u8) -> u8
+    ensures { λ r. ⌜ r ≡ cond flag new old ⌝ }
+{
+    if flag { new } else { old }
+}
+
+// Each value by its flag: the new one where it is known, else the old one, which is the last known.
+fn blend(known: Known, new: Settings, old: Settings) -> Settings
+    ensures { λ r. ⌜ r ≡ blendOf known new old ⌝ }
+{
+    Settings {
+        place: pick_place(known.place, new.place, old.place),
+        mask: pick_byte(known.mask, new.mask, old.mask),
+        outputs: pick_word(known.outputs, new.outputs, old.outputs),
+        pwm: pick_pwm(known.pwm, new.pwm, old.pwm),
+        held: pick_held(known.held, new.held, old.held),
+        timer: pick_byte(known.timer, new.timer, old.timer),
     }
 }
 
@@ -131,15 +171,13 @@ impl Entry {
     fn confirm(self, c: Command) -> Entry
         ensures { λ r. ⌜ r ≡ confirmed c self ⌝ }
     {
-        let known = self.known;
-        if is_sure(known, c) {
-            let settings = self.settings;
-            return Entry {
-                settings: settings.after(c),
-                known: mark(known, c, true),
-            };
+        let before = self.known;
+        let known = mark(before, c, true);
+        let old = self.settings;
+        Entry {
+            settings: blend(known, old.after(c), old),
+            known,
         }
-        self.doubt(c)
     }
 
     // The entry after an exchange: the command, whether it went to the node, and how it was answered.

@@ -16,8 +16,7 @@ use Rattle.ledger.specs.Ledger.{leastOf, eachFrom, settled, ledFrom, isLed}
 use Rattle.session.specs.declared.Exchange.the-variants.{Waiting}
 use Rattle.session.specs.declared.Session.{Session}
 use Rattle.session.specs.declared.End.the-variants.{Done, Sent, Refused}
-use Rattle.placing.specs.Placing.{givenPlace}
-use Rattle.session.specs.Session.{validOf, closedOf, askDue, nodeAt}
+use Rattle.session.specs.Session.{validOf, closedOf, askDue, nodeAt, givenPlace}
 use Rattle.sending.specs.Sending.{waitingOf, readyCheck, opened, transmitted}
 use Rattle.walk.specs.Walk.{nextCheck, askCheck, nextOf, askOf}
 use Rattle.host.specs.Calls.{clashOf, orderCheck, regroupCheck, orderOf, regroupOf}

@@ -15,8 +15,7 @@ use Rattle.ledger.specs.Ledger.{leastOf, eachFrom, settled}
 use Rattle.session.specs.declared.Exchange.the-variants.{Idle, Waiting}
 use Rattle.session.specs.declared.Session.{Session}
 use Rattle.session.specs.declared.End.the-variants.{Done, Sent}
-use Rattle.placing.specs.Placing.{givenPlace}
-use Rattle.session.specs.Session.{validOf, closedOf, nodeAt}
+use Rattle.session.specs.Session.{validOf, closedOf, nodeAt, givenPlace}
 use Rattle.sending.specs.Sending.{waitingOf, readyCheck, opened, transmitted}
 use Rattle.host.specs.Calls.{orderCheck, orderOf}
 use Rattle.reports.specs.Report.{giving, asking, concluded, finished}

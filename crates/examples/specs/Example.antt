@@ -17,14 +17,14 @@ use Rattle.command.specs.declared.Command.{Command}
 use Rattle.command.specs.Command.{ReadsAs}
 use Rattle.command.specs.Build.{codeOf, bytesOf, commandBuilt}
 use Rattle.status.specs.declared.Answer.the-variants.{Silent}
+use Rattle.node.specs.declared.state.Settings.{Settings}
 use Rattle.entry.specs.declared.Known.{Known}
 use Rattle.entry.specs.declared.Entry.{Entry}
 use Rattle.session.specs.declared.Exchange.{Exchange}
 use Rattle.session.specs.declared.Exchange.the-variants.{Idle}
 use Rattle.session.specs.declared.Session.{Session}
 use Rattle.session.specs.declared.Step.{Step}
-use Rattle.placing.specs.Placing.{givenPlace}
-use Rattle.session.specs.Session.{stepNumber}
+use Rattle.session.specs.Session.{stepNumber, givenPlace}
 use Rattle.walk.specs.Walk.{nextOf, askOf}
 use Rattle.host.specs.Calls.{orderOf, regroupOf}
 use Rattle.reports.specs.Report.{finished, reportOf}
@@ -59,19 +59,20 @@ ran (e ∷ es) s = record { answer = stepNumber (stepOf e s) ∷ ran es (stepOf 
 abbrev pub knownBut : Bool → Bool → Bool → Known
 knownBut outputs pwm held = record { place = true; mask = true; outputs = outputs; pwm = pwm; held = held; timer = true }
 
--- a node's entry: its place, its outputs, what is known; all else as power-up has it
-abbrev pub entryWith : Place → ℕ → Known → Entry
-entryWith place outputs known = record {
-  settings = record {
-    place = place;
-    mask = 0;
-    outputs = outputs;
-    pwm = record { first = 0; second = 0 };
-    held = record { outputs = 0; pwm = record { first = 0; second = 0 } };
-    timer = 0;
-  };
-  known = known;
+-- a node's settings: its place, its outputs; all else as power-up has it
+abbrev pub settingsWith : Place → ℕ → Settings
+settingsWith place outputs = record {
+  place = place;
+  mask = 0;
+  outputs = outputs;
+  pwm = record { first = 0; second = 0 };
+  held = record { outputs = 0; pwm = record { first = 0; second = 0 } };
+  timer = 0;
 }
+
+-- and its entry, with what is known
+abbrev pub entryWith : Place → ℕ → Known → Entry
+entryWith place outputs known = record { settings = settingsWith place outputs; known = known }
 
 -- a node that was given its address and nothing else
 abbrev pub addressed : ℕ → Entry

@@ -6,8 +6,7 @@ use Rattle.command.specs.declared.Held.{Held}
 use Rattle.command.specs.declared.Command.the-variants.{SynchOutput, SetSynchOutput}
 use Rattle.entry.specs.declared.Entry.{Entry}
 use Rattle.entry.specs.Entry.{entryUp}
-use Rattle.placing.specs.Placing.{givenPlace}
-use Rattle.session.specs.Session.{nodeAt}
+use Rattle.session.specs.Session.{nodeAt, givenPlace}
 use Rattle.examples.specs.Example.{next, ask, order, regroup, silence, reply, knownBut, entryWith, addressed, Shown, ready, Example, number, course, Hold}
 use Rattle.examples.specs.Starred.{fresh}
 

@@ -5,8 +5,7 @@ use Rattle.wire.specs.declared.address.Address.the-variants as address
 use Rattle.command.specs.declared.Place.{Place}
 use Rattle.command.specs.declared.Command.the-variants.{SetAddress, ReadStatus, SynchOutput, SetOutputs, Nop}
 use Rattle.entry.specs.declared.Entry.{Entry}
-use Rattle.placing.specs.Placing.{givenPlace}
-use Rattle.session.specs.Session.{nodeAt}
+use Rattle.session.specs.Session.{nodeAt, givenPlace}
 use Rattle.examples.specs.Example.{Event, order, silence, reply, knownBut, entryWith, addressed, Shown, ready, Example, packet, number, course, Hold}
 
 -- "Set Outputs 5 to node 2"

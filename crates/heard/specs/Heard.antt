@@ -1,7 +1,6 @@
 -- Document 01, "The node": what a packet says to a node that it is meant for, and whether it is answered.
-use mathlib.Core.Bool.{Bool, true, false, cond}
-use Rattle.command.specs.declared.Command.{Command}
-use Rattle.command.specs.declared.Command.the-variants.{SetAddress, DefineStatus, ReadStatus, SetPwm, SynchOutput, SetOutputs, SetSynchOutput, SetTimerMode, SynchInput, Nop, HardReset}
+use mathlib.Core.Bool.{Bool, true, cond, not}
+use Rattle.command.specs.Role.{roleOf, isReset}
 use Rattle.command.specs.declared.Reading.{Reading}
 use Rattle.command.specs.declared.Reading.the-variants as reading
 use Rattle.heard.specs.declared.Heard.{Heard}
@@ -16,20 +15,7 @@ abbrev pub heardOf : Reading → Bool → Heard
 heardOf r intact = cond intact (heardBy r) Spoilt
 
 -- "Hard Reset, with count 0, .. sends no reply"; "Wrong sum: .. also for Hard Reset"
-abbrev pub answeredBy : Command → Bool
-answeredBy (SetAddress p) = true
-answeredBy (DefineStatus m) = true
-answeredBy (ReadStatus m) = true
-answeredBy (SetPwm w) = true
-answeredBy SynchOutput = true
-answeredBy (SetOutputs w) = true
-answeredBy (SetSynchOutput h) = true
-answeredBy (SetTimerMode m) = true
-answeredBy SynchInput = true
-answeredBy Nop = true
-answeredBy HardReset = false
-
 abbrev pub isAnswered : Heard → Bool
-isAnswered (Intact c) = answeredBy c
+isAnswered (Intact c) = not (isReset (roleOf c))
 isAnswered Other = true
 isAnswered Spoilt = true

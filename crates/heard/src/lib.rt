@@ -32,19 +32,7 @@ impl Heard {
         ensures { λ r. ⌜ r ≡ isAnswered self ⌝ }
     {
         match self {
-            Heard::Intact(c) => match c {
-                Command::HardReset => false,
-                Command::SetAddress(_) => true,
-                Command::DefineStatus(_) => true,
-                Command::ReadStatus(_) => true,
-                Command::SetPwm(_) => true,
-                Command::SynchOutput => true,
-                Command::SetOutputs(_) => true,
-                Command::SetSynchOutput(_) => true,
-                Command::SetTimerMode(_) => true,
-                Command::SynchInput => true,
-                Command::Nop => true,
-            },
+            Heard::Intact(c) => !c.role().is_reset(),
             Heard::Other => true,
             Heard::Spoilt => true,
         }

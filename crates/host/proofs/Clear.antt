@@ -13,7 +13,7 @@ use Rattle.wire.specs.declared.refusal.Refusal.the-variants.{Range, NotDue, NoN
 use Rattle.command.specs.declared.Command.{Command}
 use Rattle.ledger.specs.Ledger.{isLed}
 use Rattle.session.specs.declared.Session.{Session}
-use Rattle.placing.specs.Placing.{isPlacing}
+use Rattle.command.specs.Role.{roleOf, isPlacing}
 use Rattle.session.specs.Session.{offChain}
 use Rattle.session.proofs.Sessions.{OnChain, on-chain}
 use Rattle.sending.specs.declared.Check.{Check}
@@ -26,19 +26,19 @@ use Rattle.sending.proofs.Clear.{passed, Ready, ready-says}
 pub record OrderClear (s : Session) (to : Address) (c : Command) : Type 0 where
   pub session : Ready s
   pub ended : s .walk ≡ s .n
-  pub ordinary : isPlacing c ≡ false
+  pub ordinary : isPlacing (roleOf c) ≡ false
   pub group : badGroup to ≡ false
   pub node : offChain (s .n) to ≡ false
 
 pub order-says : (s : Session) (to : Address) (c : Command) → orderCheck s to c ≡ Clear → OrderClear s to c
 unfolding orderCheck
 order-says s to c h =
-    let k2 : Check = refuseIf (readyCheck s) (isPlacing c) Range in
+    let k2 : Check = refuseIf (readyCheck s) (isPlacing (roleOf c)) Range in
     let k3 : Check = refuseIf k2 (badGroup to) Range in
     let t = passed (refuseIf k3 (offChain (s .n) to) NoNode) (ltb (s .walk) (s .n)) NotDue h in
     let u = passed k3 (offChain (s .n) to) NoNode (t .before) in
     let v = passed k2 (badGroup to) Range (u .before) in
-    let w = passed (readyCheck s) (isPlacing c) Range (v .before) in
+    let w = passed (readyCheck s) (isPlacing (roleOf c)) Range (v .before) in
     let r = ready-says s (w .before) in
     let b = r .valid in
     let e = ltb-false (s .walk) (s .n) (t .failed) in

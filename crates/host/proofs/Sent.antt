@@ -2,8 +2,7 @@
 use Prim.Native.Nat.{ℕ, _≤_}
 use mathlib.Core.Bool.{Bool, true, false}
 use mathlib.Core.List.{List}
-use mathlib.Core.Path.{_≡_, refl}
-use native.Mathlib.Omega.{arith}
+use mathlib.Core.Path.{_≡_}
 use borrow.Author.Tests.{not-false}
 use Rattle.wire.specs.Address.{isGroup, inRange}
 use Rattle.wire.specs.declared.address.Individual.{Individual}
@@ -12,29 +11,15 @@ use Rattle.wire.specs.declared.address.Address.{Address}
 use Rattle.wire.specs.declared.address.Address.the-variants as address
 use Rattle.wire.specs.Numbers.{done}
 use Rattle.command.specs.declared.Command.{Command}
-use Rattle.command.specs.declared.Command.the-variants.{SetAddress, DefineStatus, ReadStatus, SetPwm, SynchOutput, SetOutputs, SetSynchOutput, SetTimerMode, SynchInput, Nop, HardReset}
-use Rattle.command.specs.Build.{fitsOf}
+use Rattle.command.specs.declared.Command.the-variants.{SetAddress}
+use Rattle.command.proofs.Roles.{ordinary-fits}
 use Rattle.session.specs.declared.Session.{Session}
-use Rattle.placing.specs.Placing.{isPlacing}
 use Rattle.session.specs.Session.{offChain, stepNumber}
 use Rattle.session.proofs.Sessions.{on-chain}
 use Rattle.sending.specs.declared.Check.the-variants.{Clear}
 use Rattle.host.specs.Calls.{badGroup, orderCheck, regroupCheck, orderOf, regroupOf}
 use Rattle.sending.proofs.Sent.{Sends, transmitted-sends, by-clear, node-fits, Went, went}
 use Rattle.host.proofs.Clear.{order-says, regroup-says}
-
-ordinary-fits : (c : Command) → isPlacing c ≡ false → fitsOf c ≡ true
-ordinary-fits (SetAddress p) h = absurd (let z : _≡_ {A = ℕ} 0 1 = cc in omega arith)
-ordinary-fits (DefineStatus m) h = refl
-ordinary-fits (ReadStatus m) h = refl
-ordinary-fits (SetPwm w) h = refl
-ordinary-fits SynchOutput h = refl
-ordinary-fits (SetOutputs w) h = refl
-ordinary-fits (SetSynchOutput w) h = refl
-ordinary-fits (SetTimerMode m) h = refl
-ordinary-fits SynchInput h = refl
-ordinary-fits Nop h = refl
-ordinary-fits HardReset h = refl
 
 -- what an order may go to is of its range
 pub to-fits : (n : ℕ) (to : Address) → n ≤ 31 → badGroup to ≡ false → offChain n to ≡ false → inRange to ≡ true
@@ -46,7 +31,7 @@ unfolding orderOf
 order-sent s to c out h =
     let t = order-says s to c h in
     by-clear (orderCheck s to c) s to to c out _ h
-    (transmitted-sends s to to c out (to-fits (s .n) to (t .session .valid .few) (t .group) (t .node)) (ordinary-fits c (t .ordinary)))
+    (transmitted-sends s to to c out (to-fits (s .n) to (t .session .valid .few) (t .group) (t .node)) (ordinary-fits c (t .ordinary) .0))
 
 pub regroup-sent : (s : Session) (i : Individual) (g : Group) (leader : Bool) (out : List ℕ) → regroupCheck s i g leader ≡ Clear
     → Sends s (address.Individual i) (address.Individual i) (SetAddress (record { address = i; group = g; leader = leader })) out (regroupOf s i g leader out)

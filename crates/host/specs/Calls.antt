@@ -12,10 +12,10 @@ use Rattle.wire.specs.declared.address.Address.the-variants as address
 use Rattle.wire.specs.declared.refusal.Refusal.the-variants.{Range, NotDue, NoNode, Led}
 use Rattle.command.specs.declared.Command.{Command}
 use Rattle.command.specs.declared.Command.the-variants.{SetAddress}
+use Rattle.command.specs.Role.{roleOf, isPlacing}
 use Rattle.ledger.specs.Ledger.{isLed}
 use Rattle.session.specs.declared.Session.{Session}
 use Rattle.session.specs.declared.Step.{Step}
-use Rattle.placing.specs.Placing.{isPlacing}
 use Rattle.session.specs.Session.{offChain}
 use Rattle.sending.specs.declared.Check.{Check}
 use Rattle.sending.specs.Sending.{refuseIf, readyCheck, transmitted, byCheck}
@@ -32,7 +32,7 @@ clashOf s i g leader = cond leader (isLed (i .0) g (s .n) (s .entries)) false
 -- a command of a ready session; a Set Address is none
 unfoldable pub orderCheck : Session → Address → Command → Check
 orderCheck s to c =
-    refuseIf (refuseIf (refuseIf (refuseIf (readyCheck s) (isPlacing c) Range) (badGroup to) Range) (offChain (s .n) to) NoNode) (ltb (s .walk) (s .n)) NotDue
+    refuseIf (refuseIf (refuseIf (refuseIf (readyCheck s) (isPlacing (roleOf c)) Range) (badGroup to) Range) (offChain (s .n) to) NoNode) (ltb (s .walk) (s .n)) NotDue
 
 -- a Set Address of a ready session: 6 its group, 10 its node, 11 its wish
 unfoldable pub regroupCheck : Session → Individual → Group → Bool → Check

@@ -3,7 +3,6 @@
 // Left to others: how a session becomes ready (start, walk), how long to wait for a reply (the caller), and what it comes to (reports).
 use command::Command;
 use command::Place;
-use placing::is_placing;
 use sending::Check;
 use sending::ready_check;
 use sending::transmit;
@@ -36,7 +35,7 @@ fn order_check(s: Session, to: Address, c: Command) -> Check
     ensures { λ r. ⌜ Promise checkNumber r (orderCheck s to c) ⌝ }
 {
     ready_check(s)
-        .refuse_if(is_placing(c), Refusal::Range)
+        .refuse_if(c.role().is_placing(), Refusal::Range)
         .refuse_if(is_bad_group(to), Refusal::Range)
         .refuse_if(off_chain(s.n, to), Refusal::NoNode)
         .refuse_if(s.walk < s.n, Refusal::NotDue)

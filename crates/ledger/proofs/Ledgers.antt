@@ -66,10 +66,10 @@ same-each f h j zero es = refl
 same-each f h j (suc n) [] = refl
 same-each f h j (suc n) (e ∷ es) = rw (h j e, same-each f h (suc j) n es)
 
--- Nop, Read Status and Synch Input leave the record
-pub settled-quiet : {c : Command} → Quiet c → (a : Answer) (to : Address) (n : ℕ) (es : List Entry) → settled a to c n es ≡ es
+-- a command that writes no setting leaves the record
+pub settled-quiet : (c : Command) → Quiet c → (a : Answer) (to : Address) (n : ℕ) (es : List Entry) → settled a to c n es ≡ es
 unfolding settled
-settled-quiet {c} q a to n es = same-each (settling a to c) (λ k e. quiet-noted q a (reachOf to k e) e) 1 (leastOf n) es
+settled-quiet c q a to n es = same-each (settling a to c) (λ k e. quiet-noted c q a (reachOf to k e) e) 1 (leastOf n) es
 
 -- after a Hard Reset
 pub length-forgotten : (es : List Entry) → length (forgotten es) ≡ length es

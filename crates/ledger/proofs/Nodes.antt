@@ -8,25 +8,26 @@ use Rattle.wire.specs.declared.address.Individual.{Individual}
 use Rattle.wire.specs.declared.address.Group.{Group}
 use Rattle.wire.specs.declared.address.Address.{Address}
 use Rattle.wire.specs.declared.address.Address.the-variants as address
+use Rattle.command.specs.declared.Place.{Place}
 use Rattle.entry.specs.declared.Entry.{Entry}
 use Rattle.entry.specs.declared.Reach.the-variants.{Misses, Hits, May}
-use Rattle.ledger.specs.Ledger.{reachOf, rivals}
+use Rattle.ledger.specs.Ledger.{reachBy, rivals}
 
-module _ (to : Address) (k : ℕ) (e : Entry) where
-  pub its-node : (i : Individual) → to ≡ address.Individual i → i .0 ≡ k → Hits ≡ reachOf to k e
-  its-node i p q = rw (p, eq-eqb (i .0) k q)
+module _ (to : Address) (k : ℕ) (known : Bool) (p : Place) where
+  pub its-node : (i : Individual) → to ≡ address.Individual i → i .0 ≡ k → Hits ≡ reachBy to k known p
+  its-node i e q = rw (e, eq-eqb (i .0) k q)
 
-  pub other-node : (i : Individual) → to ≡ address.Individual i → (i .0 ≡ k → ⊥) → Misses ≡ reachOf to k e
-  other-node i p q = rw (p, ne-eqb (i .0) k q)
+  pub other-node : (i : Individual) → to ≡ address.Individual i → (i .0 ≡ k → ⊥) → Misses ≡ reachBy to k known p
+  other-node i e q = rw (e, ne-eqb (i .0) k q)
 
-  pub its-group : (g : Group) → to ≡ address.Group g → e .known .place ≡ true → e .settings .place .group .0 ≡ g .0 → Hits ≡ reachOf to k e
-  its-group g p h q = rw (p, h, eq-eqb (e .settings .place .group .0) (g .0) q)
+  pub its-group : (g : Group) → to ≡ address.Group g → known ≡ true → p .group .0 ≡ g .0 → Hits ≡ reachBy to k known p
+  its-group g e h q = rw (e, h, eq-eqb (p .group .0) (g .0) q)
 
-  pub other-group : (g : Group) → to ≡ address.Group g → e .known .place ≡ true → (e .settings .place .group .0 ≡ g .0 → ⊥) → Misses ≡ reachOf to k e
-  other-group g p h q = rw (p, h, ne-eqb (e .settings .place .group .0) (g .0) q)
+  pub other-group : (g : Group) → to ≡ address.Group g → known ≡ true → (p .group .0 ≡ g .0 → ⊥) → Misses ≡ reachBy to k known p
+  other-group g e h q = rw (e, h, ne-eqb (p .group .0) (g .0) q)
 
-  pub some-group : (g : Group) → to ≡ address.Group g → e .known .place ≡ false → May ≡ reachOf to k e
-  some-group g p h = rw (p, h)
+  pub some-group : (g : Group) → to ≡ address.Group g → known ≡ false → May ≡ reachBy to k known p
+  some-group g e h = rw (e, h)
 
 module _ (k : ℕ) (g : Group) (j : ℕ) (e : Entry) where
   pub itself : j ≡ k → false ≡ rivals k g j e

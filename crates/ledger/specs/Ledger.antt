@@ -8,28 +8,19 @@ use Rattle.wire.specs.Numbers.{mostNodes}
 use Rattle.wire.specs.declared.address.Group.{Group}
 use Rattle.wire.specs.declared.address.Address.{Address}
 use Rattle.wire.specs.declared.address.Address.the-variants as address
+use Rattle.command.specs.declared.Place.{Place}
 use Rattle.command.specs.declared.Command.{Command}
 use Rattle.command.specs.declared.Command.the-variants.{HardReset}
 use Rattle.status.specs.declared.Answer.{Answer}
-use Rattle.node.specs.Setting.{place}
+use Rattle.node.specs.Setting.{place, zeroed}
 use Rattle.entry.specs.declared.Entry.{Entry}
 use Rattle.entry.specs.declared.Reach.{Reach}
 use Rattle.entry.specs.declared.Reach.the-variants.{Misses, Hits, May}
-use Rattle.entry.specs.Entry.{knows, shows, entryUp, noted, doubted}
+use Rattle.entry.specs.Entry.{flags, knows, shows, entryUp, noted, doubted}
 
 -- what an index past the record's end reads as
 abbrev pub blank : Entry
-blank = record {
-  settings = record {
-    place = record { address = record { 0 = 0 }; group = record { 0 = 0 }; leader = false };
-    mask = 0;
-    outputs = 0;
-    pwm = record { first = 0; second = 0 };
-    held = record { outputs = 0; pwm = record { first = 0; second = 0 } };
-    timer = 0;
-  };
-  known = record { place = false; mask = false; outputs = false; pwm = false; held = false; timer = false };
-}
+blank = record { settings = zeroed; known = flags (λ s. false) }
 
 -- "makes all settings known as power-up has them"
 unfoldable pub ledgerUp : List Entry
@@ -40,9 +31,14 @@ unfoldable pub leastOf : ℕ → ℕ
 leastOf n = cond (ltb mostNodes n) mostNodes n
 
 -- "Who may be written: node k for an individual command ..; for a group, nodes known to be in it and every node whose place is in doubt"
+-- by the node's place, and whether it is known
+abbrev pub reachBy : Address → ℕ → Bool → Place → Reach
+reachBy (address.Individual i) k known p = cond (eqb (i .0) k) Hits Misses
+reachBy (address.Group g) k known p = cond known (cond (eqb (p .group .0) (g .0)) Hits Misses) May
+
+-- by its entry, which is asked for no more than that
 abbrev pub reachOf : Address → ℕ → Entry → Reach
-reachOf (address.Individual i) k e = cond (eqb (i .0) k) Hits Misses
-reachOf (address.Group g) k e = cond (knows e place) (cond (eqb (shows e place .group .0) (g .0)) Hits Misses) May
+reachOf to k e = reachBy to k (knows e place) (shows e place)
 
 -- the first n entries, of nodes j, j + 1, .., by a rule; the rest stays
 unfoldable pub eachFrom : (ℕ → Entry → Entry) → ℕ → ℕ → List Entry → List Entry

@@ -2,6 +2,7 @@
 // Promised: node by node what its entry makes of the exchange; who stands in a leader's way.
 // Left to others: which command waits, and how far the walk is (session, reports).
 use command::Command;
+use command::Place;
 use entry::Entry;
 use entry::Reach;
 use status::Answer;
@@ -9,7 +10,7 @@ use wire::Address;
 use wire::Group;
 use wire::MOST_NODES;
 ghost use mathlib.Core.Path.{_≡_};
-ghost use Rattle.ledger.specs.Ledger.{ledgerUp, leastOf, reachOf, settled, forgotten, rivals, isLed};
+ghost use Rattle.ledger.specs.Ledger.{ledgerUp, leastOf, reachBy, settled, forgotten, rivals, isLed};
 
 // At power-up.
 pub fn power_up() -> [Entry; MOST_NODES]
@@ -29,15 +30,15 @@ fn least(n: u8) -> u8
     n
 }
 
-// Whether a command to an address goes to node k.
-fn reach(to: Address, k: u8, e: Entry) -> Reach
-    ensures { λ r. ⌜ r ≡ reachOf to k e ⌝ }
+// Whether a command to an address goes to node k, by its place, if that is known.
+fn reach_by(to: Address, k: u8, known: bool, place: Place) -> Reach
+    ensures { λ r. ⌜ r ≡ reachBy to k known place ⌝ }
 {
     match to {
         Address::Individual(i) => { if i.0 == k { Reach::Hits } else { Reach::Misses } }
         Address::Group(g) => {
-            if e.known.place {
-                if e.settings.place.group.0 == g.0 {
+            if known {
+                if place.group.0 == g.0 {
                     Reach::Hits
                 } else {
                     Reach::Misses
@@ -65,7 +66,8 @@ pub fn settle(
     while i < end {
         let at = i as usize;
         let e = all[at];
-        all[at] = e.note(answer, reach(to, i + 1, e), c);
+        let place = e.settings.place;
+        all[at] = e.note(answer, reach_by(to, i + 1, e.known.place, place), c);
         i += 1;
     }
     all

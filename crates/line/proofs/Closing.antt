@@ -1,6 +1,6 @@
 -- An exchange from its opening to the report: what becomes of the host's session, entry by entry.
 use Prim.Native.Nat.{ℕ, suc, _+_, _≤_, _<_}
-use mathlib.Core.Bool.{true, false, true≢false}
+use mathlib.Core.Bool.{true, false}
 use mathlib.Core.List.{List}
 use mathlib.Core.Option.{Option, none, some}
 use mathlib.Core.Path.{_≡_, refl, ap, _∙_}
@@ -10,21 +10,21 @@ use borrow.Author.Tests.{lt-ltb, le-ltb, eq-eqb}
 use Rattle.wire.specs.declared.address.Address.{Address}
 use Rattle.wire.specs.declared.address.Address.the-variants as address
 use Rattle.command.specs.declared.Command.{Command}
-use Rattle.command.specs.declared.Command.the-variants.{SetAddress, DefineStatus, ReadStatus, SetPwm, SynchOutput, SetOutputs, SetSynchOutput, SetTimerMode, SynchInput, Nop, HardReset}
+use Rattle.command.specs.declared.Command.the-variants.{SetAddress, Nop}
+use Rattle.command.specs.Role.{roleOf, isReset}
 use Rattle.status.specs.declared.Answer.{Answer}
 use Rattle.status.specs.declared.Answer.the-variants.{Clear, Marked, Silent}
 use Rattle.node.specs.Setting.{place}
-use Rattle.node.specs.Effect.{effect, writes}
+use Rattle.node.proofs.Laws.{not-reset}
 use Rattle.entry.specs.declared.Entry.{Entry}
 use Rattle.entry.specs.Entry.{knows, noted}
 use Rattle.ledger.specs.Ledger.{blank, reachOf}
 use Rattle.session.specs.declared.Exchange.the-variants.{Idle, Waiting}
 use Rattle.session.specs.declared.Session.{Session}
 use Rattle.session.specs.declared.Step.{Step}
-use Rattle.placing.specs.Placing.{givenPlace}
-use Rattle.session.specs.Session.{Sound, offChain, entryOf, askDue, nodeAt}
+use Rattle.session.specs.Session.{Sound, offChain, entryOf, askDue, nodeAt, givenPlace}
 use Rattle.session.proofs.Sessions.{valid-from, open-is}
-use Rattle.sending.specs.Sending.{isReset, opened}
+use Rattle.sending.specs.Sending.{opened}
 use Rattle.sending.proofs.Sent.{opened-waits}
 use Rattle.reports.specs.Report.{giving, asking, onWalk, concluded, finished}
 use Rattle.reports.proofs.Concluding.{meant, walkAfter, concluded-at, concluded-walk, concluded-n, concluded-idle, concluded-started, finished-waiting, report-is}
@@ -69,20 +69,7 @@ pub record Concluded (h : Session) (a : Answer) (to : Address) (c : Command) (w 
 
 -- ---- the exchange is open
 
-not-reset : (c : Command) → writes (effect c place) ≡ false → isReset c ≡ false
-not-reset (SetAddress p) e = refl
-not-reset (DefineStatus m) e = refl
-not-reset (ReadStatus m) e = refl
-not-reset (SetPwm w) e = refl
-not-reset SynchOutput e = refl
-not-reset (SetOutputs w) e = refl
-not-reset (SetSynchOutput h) e = refl
-not-reset (SetTimerMode m) e = refl
-not-reset SynchInput e = refl
-not-reset Nop e = refl
-not-reset HardReset e = absurd (true≢false e)
-
-due-waits : {h : Session} {what : Sending} {line to : Address} {c : Command} → Due h what line to c → isReset c ≡ false
+due-waits : {h : Session} {what : Sending} {line to : Address} {c : Command} → Due h what line to c → isReset (roleOf c) ≡ false
 due-waits (next l k) = refl
 due-waits (ask l k) = refl
 due-waits {c = c} (order w o e) = not-reset c e

@@ -27,14 +27,13 @@ use Rattle.entry.specs.Entry.{entryUp, doubted}
 use Rattle.ledger.specs.Ledger.{ledgerUp, leastOf, eachFrom, settled}
 use Rattle.session.specs.declared.Exchange.the-variants.{Idle, Waiting}
 use Rattle.session.specs.declared.Session.{Session}
-use Rattle.placing.specs.Placing.{givenPlace}
-use Rattle.session.specs.Session.{validOf, closedOf, askDue, nodeAt}
+use Rattle.session.specs.Session.{validOf, closedOf, askDue, nodeAt, givenPlace}
 use Rattle.start.specs.Start.{poweredOf}
 use Rattle.sending.specs.Sending.{waitingOf, readyCheck, opened, transmitted}
 use Rattle.walk.specs.Walk.{nextCheck, askCheck, nextOf, askOf}
 use Rattle.host.specs.Calls.{orderCheck, orderOf}
 use Rattle.reports.specs.Report.{giving, asking, concluded, finished, reportOf}
-use Rattle.examples.specs.Example.{buffer, knownBut, entryWith, addressed, pair}
+use Rattle.examples.specs.Example.{buffer, knownBut, entryWith, addressed, pair, settingsWith}
 use Rattle.line.specs.History.{Sending, Sent, gives, asks, sends}
 use Rattle.line.specs.Call as calls
 use Rattle.line.specs.Line.{Line, quiet, going, Arrival, came, Arrives, Returns, nodesAfter, saidAfter, reportedOf, heardIn}

@@ -16,6 +16,7 @@ use Rattle.packet.proofs.Packets.{read-says, damaged-frames, damaged-spoilt}
 use Rattle.command.specs.declared.Command.{Command}
 use Rattle.command.specs.Build.{fitsOf, Typed, packetFor}
 use Rattle.command.proofs.Commands.{built-reads}
+use Rattle.command.specs.Role.{roleOf}
 use Rattle.status.specs.Status.{judged, cleared}
 use Rattle.status.specs.declared.Answer.{Answer}
 use Rattle.status.specs.declared.Answer.the-variants.{Clear, Marked, Silent}
@@ -78,7 +79,7 @@ module _ (to : Address) (c : Command) (ns : List Node) where
   settings-if true x = refl
   settings-if false x = refl
 
-  addressed-if : (b : Bool) (x : Node) → cond b (acted c x) x .addressed ≡ cond b (addressedAfter c (x .addressed)) (x .addressed)
+  addressed-if : (b : Bool) (x : Node) → cond b (acted c x) x .addressed ≡ cond b (addressedAfter (roleOf c) (x .addressed)) (x .addressed)
   addressed-if true x = refl
   addressed-if false x = refl
 

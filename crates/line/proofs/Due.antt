@@ -1,6 +1,6 @@
 -- What may be sent while a session is open: by whom it is heard, whose record it is, and the command.
 use Prim.Native.Nat.{ℕ, _+_, _<_}
-use mathlib.Core.Bool.{Bool, true, false, true≢false}
+use mathlib.Core.Bool.{Bool, true, false}
 use mathlib.Core.List.{List, _++_}
 use mathlib.Core.Path.{_≡_, refl, sym, ap, _∙_}
 use native.Mathlib.Omega.{arith}
@@ -14,19 +14,21 @@ use Rattle.wire.specs.declared.address.Group.{Group}
 use Rattle.wire.specs.declared.address.Address.{Address}
 use Rattle.wire.specs.declared.address.Address.the-variants as address
 use Rattle.command.specs.declared.Command.{Command}
-use Rattle.command.specs.declared.Command.the-variants.{SetAddress, DefineStatus, ReadStatus, SetPwm, SynchOutput, SetOutputs, SetSynchOutput, SetTimerMode, SynchInput, Nop, HardReset}
+use Rattle.command.specs.declared.Command.the-variants.{SetAddress, Nop}
+use Rattle.command.specs.Role.{roleOf, isPlacing, isReset}
+use Rattle.command.proofs.Roles.{ordinary-fits}
 use Rattle.command.specs.Build.{fitsOf, Typed, packetFor}
 use Rattle.node.specs.Setting.{place}
 use Rattle.node.specs.Effect.{effect, writes}
+use Rattle.node.proofs.Laws.{place-writes}
 use Rattle.entry.specs.Entry.{knows}
 use Rattle.ledger.specs.Ledger.{isLed}
 use Rattle.session.specs.declared.Session.{Session}
 use Rattle.session.specs.declared.End.{End}
 use Rattle.session.specs.declared.End.the-variants.{Done, Sent}
 use Rattle.session.specs.declared.Step.{Step}
-use Rattle.placing.specs.Placing.{isPlacing, givenPlace}
-use Rattle.session.specs.Session.{offChain, entryOf, nodeAt, endNumber, stepNumber}
-use Rattle.sending.specs.Sending.{isReset, opened}
+use Rattle.session.specs.Session.{offChain, entryOf, nodeAt, endNumber, stepNumber, givenPlace}
+use Rattle.sending.specs.Sending.{opened}
 use Rattle.session.proofs.Sessions.{OnChain}
 use Rattle.sending.proofs.Clear.{Ready}
 use Rattle.walk.proofs.Clear.{next-says, ask-says}
@@ -53,18 +55,8 @@ pub data Due (h : Session) : Sending → Address → Address → Command → Typ
       (SetAddress (record { address = i; group = g; leader = leader }))
 
 -- what an order sends writes no place, unless it is a Hard Reset; and its values are of their range
-order-sends : (c : Command) → isPlacing c ≡ false → isReset c ≡ false → (writes (effect c place) ≡ false) × (fitsOf c ≡ true) × Typed c
-order-sends (SetAddress p) e f = absurd (true≢false e)
-order-sends (DefineStatus m) e f = (refl, refl, tt)
-order-sends (ReadStatus m) e f = (refl, refl, tt)
-order-sends (SetPwm w) e f = (refl, refl, tt)
-order-sends SynchOutput e f = (refl, refl, tt)
-order-sends (SetOutputs w) e f = (refl, refl, tt)
-order-sends (SetSynchOutput h) e f = (refl, refl, tt)
-order-sends (SetTimerMode m) e f = (refl, refl, tt)
-order-sends SynchInput e f = (refl, refl, tt)
-order-sends Nop e f = (refl, refl, tt)
-order-sends HardReset e f = absurd (true≢false f)
+order-sends : (c : Command) → isPlacing (roleOf c) ≡ false → isReset (roleOf c) ≡ false → (writes (effect c place) ≡ false) × (fitsOf c ≡ true) × Typed c
+order-sends c e f = let t = ordinary-fits c e in (place-writes c ∙ rw (e, f), t .0, t .1)
 
 -- a command was put on the line
 pub record Goes (s : Session) (line to : Address) (c : Command) (p : List ℕ) (t : Session) : Type 0 where

@@ -8,11 +8,14 @@ use Rattle.wire.specs.declared.address.Address.{Address}
 use Rattle.wire.specs.declared.address.Address.the-variants as address
 use Rattle.command.specs.declared.Place.{Place}
 use Rattle.command.specs.declared.Command.{Command}
-use Rattle.command.specs.declared.Command.the-variants.{SetAddress, DefineStatus, ReadStatus, SetPwm, SynchOutput, SetOutputs, SetSynchOutput, SetTimerMode, SynchInput, Nop, HardReset}
+use Rattle.command.specs.declared.Role.{Role}
+use Rattle.command.specs.declared.Role.the-variants.{Plain, Places, Masks, Captures, Idles, Resets}
+use Rattle.command.specs.Role.{roleOf}
 use Rattle.status.specs.declared.Answer.{Answer}
 use Rattle.status.specs.declared.Answer.the-variants.{Clear, Marked, Silent}
 use Rattle.node.specs.Setting.{Setting, place}
 use Rattle.node.specs.Effect.{Effect, keeps, stores, copies, effect, writes}
+use Rattle.node.proofs.Laws.{placeEffect, place-effect}
 use Rattle.entry.specs.declared.Entry.{Entry}
 use Rattle.entry.specs.declared.Reach.{Reach}
 use Rattle.entry.specs.declared.Reach.the-variants.{Misses, Hits, May}
@@ -76,18 +79,16 @@ way (address.Individual i) k e past x = way-test (eqb (i .0) k)
 way (address.Group g) k e past x = way-group (g .0) e (lastPlace past k) (inDoubt past k place) (x .known place) (x .place)
 
 -- no command copies a place
+copies-by : (r : Role) → copied (placeEffect r) (λ t. true) ≡ false
+copies-by Plain = refl
+copies-by (Places p) = refl
+copies-by (Masks m) = refl
+copies-by Captures = refl
+copies-by Idles = refl
+copies-by Resets = refl
+
 not-copied : (c : Command) → copied (effect c place) (λ t. true) ≡ false
-not-copied (SetAddress p) = refl
-not-copied (DefineStatus m) = refl
-not-copied (ReadStatus m) = refl
-not-copied (SetPwm w) = refl
-not-copied SynchOutput = refl
-not-copied (SetOutputs w) = refl
-not-copied (SetSynchOutput h) = refl
-not-copied (SetTimerMode m) = refl
-not-copied SynchInput = refl
-not-copied Nop = refl
-not-copied HardReset = refl
+not-copied c = rw (place-effect c) (copies-by (roleOf c))
 
 -- what goes to a group writes no place
 abbrev pub Sendable : Address → Command → Type 0

@@ -12,7 +12,8 @@ use Rattle.status.specs.declared.Answer.{Answer}
 use Rattle.status.specs.declared.Answer.the-variants.{Clear, Marked, Silent}
 use Rattle.node.specs.Setting.{place}
 use Rattle.node.specs.Effect.{effect, writes}
-use Rattle.entry.specs.Entry.{noted, nop}
+use Rattle.node.proofs.Laws.{nop-writes}
+use Rattle.entry.specs.Entry.{noted}
 use Rattle.entry.proofs.Entries.{quiet-noted}
 use Rattle.ledger.specs.Ledger.{reachOf}
 use Rattle.session.specs.declared.Session.{Session}
@@ -53,6 +54,6 @@ exactly-step {h} (next l n) t past x Marked k = unsent h t past x _ _ _ Marked (
 exactly-step {h} (next l n) t past x Silent k = counts h t past x _ _ _ Silent tt tt k
 exactly-step {h} (ask l n) t past x Clear k = counts h t past x _ _ _ Clear tt tt k
 exactly-step {h} (ask l n) t past x Marked k = unsent h t past x _ _ _ Marked (λ i. refl) k
-exactly-step {h} {to = to} (ask l n) t past x Silent k = unsent h t past x to Nop _ Silent (λ i. quiet-noted nop Silent (reachOf to (suc i) (entryAt h i)) (entryAt h i)) k
+exactly-step {h} {to = to} (ask l n) t past x Silent k = unsent h t past x to Nop _ Silent (λ i. quiet-noted Nop nop-writes Silent (reachOf to (suc i) (entryAt h i)) (entryAt h i)) k
 exactly-step {h} {to = to} {c = c} (order w o e) t past x a k = answered h t past x to c (h .walk) a (sendable to c e) k
 exactly-step {h} {to = to} {c = c} (regroup w o f) t past x a k = answered h t past x to c (h .walk) a tt k

@@ -9,6 +9,7 @@ use lib.ListN.{length, getD}
 use Rattle.wire.specs.declared.address.Address.{Address}
 use Rattle.command.specs.declared.Command.{Command}
 use Rattle.command.specs.Build.{placeFits}
+use Rattle.command.specs.Role.{roleOf}
 use Rattle.status.specs.declared.Answer.{Answer}
 use Rattle.status.specs.declared.Answer.the-variants.{Clear, Marked}
 use Rattle.node.specs.declared.state.Settings.{Settings}
@@ -21,9 +22,9 @@ use Rattle.survey.specs.Chain.{blank, hearsAt, repliesAt}
 use Rattle.entry.specs.declared.Entry.{Entry}
 use Rattle.entry.specs.Entry.{knows}
 use Rattle.session.specs.declared.Session.{Session}
-use Rattle.placing.specs.Placing.{givenPlace}
 use Rattle.line.proofs.Closing.{entryAt}
 use Rattle.line.proofs.Sound.{Sound}
+use Rattle.session.specs.Session.{givenPlace}
 
 -- the node of index i, node i + 1
 abbrev pub at : List Node → ℕ → Node
@@ -99,7 +100,7 @@ pub record Exchanged (line : Address) (c : Command) (ns ms : List Node) (a : Ans
   pub alike : (i j : ℕ) → did i ≡ true → acts line ns j ≡ true → did j ≡ true
   pub long : length ms ≡ length ns
   pub settings : (i : ℕ) → i < length ns → at ms i .settings ≡ cond (did i) (settingsAfter c (at ns i .settings)) (at ns i .settings)
-  pub addressed : (i : ℕ) → i < length ns → at ms i .addressed ≡ cond (did i) (addressedAfter c (at ns i .addressed)) (at ns i .addressed)
+  pub addressed : (i : ℕ) → i < length ns → at ms i .addressed ≡ cond (did i) (addressedAfter (roleOf c) (at ns i .addressed)) (at ns i .addressed)
   -- what the answer tells
   pub marked : a ≡ Marked → (i : ℕ) → did i ≡ false
   pub clear : a ≡ Clear → Answered line ns did

@@ -15,7 +15,8 @@ use Rattle.status.specs.declared.Answer.{Answer}
 use Rattle.status.specs.declared.Answer.the-variants.{Clear, Marked, Silent}
 use Rattle.node.specs.declared.state.Node.{Node}
 use Rattle.node.specs.Setting.{place}
-use Rattle.entry.specs.Entry.{knows, nop}
+use Rattle.node.proofs.Laws.{nop-writes}
+use Rattle.entry.specs.Entry.{knows}
 use Rattle.session.specs.declared.Exchange.the-variants.{Idle}
 use Rattle.session.specs.declared.Session.{Session}
 use Rattle.session.specs.declared.End.the-variants.{Sent}
@@ -65,7 +66,7 @@ module _ (h : Session) (ns : List Node) (inv : Invariant h ns) (l : h .walk < h 
 unconfirmed : (s : Session) → s .exchange ≡ Idle → (a : Answer) → (a ≡ Clear → ⊥) → concluded (waitingAt s (nodeAt (s .walk + 1)) Nop) (nodeAt (s .walk + 1)) Nop a ≡ s
 unconfirmed s e Clear n = absurd (n refl)
 unconfirmed s e Marked n = rw (opened-waits s (nodeAt (s .walk + 1)) Nop refl) at (marked-returns s (nodeAt (s .walk + 1)) Nop e refl)
-unconfirmed s e Silent n = rw (opened-waits s (nodeAt (s .walk + 1)) Nop refl) at (quiet-returns nop s (nodeAt (s .walk + 1)) e)
+unconfirmed s e Silent n = rw (opened-waits s (nodeAt (s .walk + 1)) Nop refl) at (quiet-returns Nop nop-writes s (nodeAt (s .walk + 1)) e)
 
 -- what "ask" sends, and what the report of whatever came leaves
 asked : (s t : Session) (ns ms : List Node) (p : List ℕ) → Invariant s ns → s .exchange ≡ Idle → at ns (s .walk) .addressed ≡ false

@@ -16,6 +16,7 @@ use Rattle.command.specs.declared.Place.{Place}
 use Rattle.command.specs.declared.Command.{Command}
 use Rattle.command.specs.declared.Command.the-variants.{SetAddress}
 use Rattle.command.specs.Build.{fitsOf}
+use Rattle.command.specs.Role.{roleOf}
 use Rattle.status.specs.declared.Answer.{Answer}
 use Rattle.node.specs.declared.state.Node.{Node}
 use Rattle.node.specs.Setting.{place}
@@ -80,14 +81,14 @@ module _ (h : Session) (ns : List Node) (inv : Invariant h ns) (ended : h .walk 
 
   module _ (ms : List Node) (t : Session) (to : Address) (c : Command) (a : Answer) (x : Exchanged to c ns ms a) (k : Concluded h a to c (h .walk) t) where
     placed-if : (i : ℕ) (b : Bool) → PlacedAt ns i
-        → (b ≡ true → Placed (suc i) (settingsAfter c (at ns i .settings)) (addressedAfter c (at ns i .addressed)))
-        → Placed (suc i) (cond b (settingsAfter c (at ns i .settings)) (at ns i .settings)) (cond b (addressedAfter c (at ns i .addressed)) (at ns i .addressed))
+        → (b ≡ true → Placed (suc i) (settingsAfter c (at ns i .settings)) (addressedAfter (roleOf c) (at ns i .addressed)))
+        → Placed (suc i) (cond b (settingsAfter c (at ns i .settings)) (at ns i .settings)) (cond b (addressedAfter (roleOf c) (at ns i .addressed)) (at ns i .addressed))
     placed-if i true p q = q refl
     placed-if i false p q = p
 
     -- if every node that acts keeps its number
     ready-step : fitsOf c ≡ true
-        → ((i : ℕ) → i < h .n → acts to ns i ≡ true → Placed (suc i) (settingsAfter c (at ns i .settings)) (addressedAfter c (at ns i .addressed)))
+        → ((i : ℕ) → i < h .n → acts to ns i ≡ true → Placed (suc i) (settingsAfter c (at ns i .settings)) (addressedAfter (roleOf c) (at ns i .addressed)))
         → Alone (h .n) ms
         → Invariant t ms
     ready-step fits numbers alone =

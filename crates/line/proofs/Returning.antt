@@ -1,17 +1,20 @@
 -- A command sent and answered, after which the host's session is as it was before.
 use mathlib.Core.Bool.{false}
 use mathlib.Core.List.{List}
-use mathlib.Core.Path.{_≡_, refl, sym, ap, _∙_}
+use mathlib.Core.Path.{_≡_, sym, ap, _∙_}
 use Rattle.wire.specs.declared.address.Address.{Address}
 use Rattle.command.specs.declared.Command.{Command}
+use Rattle.command.specs.Role.{roleOf, isReset}
 use Rattle.status.specs.declared.Answer.the-variants.{Marked, Silent}
 use Rattle.entry.specs.declared.Entry.{Entry}
-use Rattle.entry.specs.Entry.{Quiet, nop, readStatus, synchInput}
+use Rattle.node.specs.Setting.{place}
+use Rattle.node.proofs.Laws.{not-reset}
+use Rattle.entry.specs.Entry.{Quiet}
 use Rattle.ledger.proofs.Ledgers.{settled-quiet}
 use Rattle.session.specs.declared.Exchange.{Exchange}
 use Rattle.session.specs.declared.Exchange.the-variants.{Idle}
 use Rattle.session.specs.declared.Session.{Session}
-use Rattle.sending.specs.Sending.{isReset, opened}
+use Rattle.sending.specs.Sending.{opened}
 use Rattle.sending.proofs.Sent.{opened-waits}
 use Rattle.reports.specs.Report.{idleAt, concluded}
 use Rattle.reports.proofs.Concluding.{marked-is, silent-is}
@@ -21,17 +24,12 @@ idle-again : (s : Session) → s .exchange ≡ Idle → idleAt s (s .walk) (s .e
 idle-again s e = ap (λ (x : Exchange). record { started = s .started; n = s .n; walk = s .walk; exchange = x; entries = s .entries }) (sym e)
 
 -- by a good reply that isn't clear: the command counts as unsent, so "next" gives the same address again
-pub marked-returns : (s : Session) (to : Address) (c : Command) → s .exchange ≡ Idle → isReset c ≡ false → concluded (opened s to c) to c Marked ≡ s
+pub marked-returns : (s : Session) (to : Address) (c : Command) → s .exchange ≡ Idle → isReset (roleOf c) ≡ false → concluded (opened s to c) to c Marked ≡ s
 marked-returns s to c e h =
     ap (λ (t : Session). concluded t to c Marked) (opened-waits s to c h) ∙ marked-is (waitingAt s to c) to c ∙ idle-again s e
 
-quiet-waits : {c : Command} → Quiet c → isReset c ≡ false
-quiet-waits nop = refl
-quiet-waits (readStatus m) = refl
-quiet-waits synchInput = refl
-
--- Nop, Read Status and Synch Input by silence too, so that "ask" may follow as often as wanted
-pub quiet-returns : {c : Command} → Quiet c → (s : Session) (to : Address) → s .exchange ≡ Idle → concluded (opened s to c) to c Silent ≡ s
-quiet-returns {c} q s to e =
-    ap (λ (t : Session). concluded t to c Silent) (opened-waits s to c (quiet-waits q)) ∙ silent-is (waitingAt s to c) to c
-    ∙ ap (λ (es : List Entry). idleAt s (s .walk) es) (settled-quiet q Silent to (s .n) (s .entries)) ∙ idle-again s e
+-- a command that writes no setting by silence too, so that "ask" may follow as often as wanted
+pub quiet-returns : (c : Command) → Quiet c → (s : Session) (to : Address) → s .exchange ≡ Idle → concluded (opened s to c) to c Silent ≡ s
+quiet-returns c q s to e =
+    ap (λ (t : Session). concluded t to c Silent) (opened-waits s to c (not-reset c (q place))) ∙ silent-is (waitingAt s to c) to c
+    ∙ ap (λ (es : List Entry). idleAt s (s .walk) es) (settled-quiet c q Silent to (s .n) (s .entries)) ∙ idle-again s e

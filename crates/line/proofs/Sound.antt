@@ -7,10 +7,11 @@ use Rattle.status.specs.declared.Answer.the-variants.{Clear, Marked, Silent}
 use Rattle.node.specs.declared.state.Settings.{Settings}
 use Rattle.node.specs.Setting.{Setting, get}
 use Rattle.node.specs.Effect.{Effect, keeps, stores, copies, effect, applied, settingsAfter, get-after}
+use Rattle.entry.specs.declared.Known.{Known}
 use Rattle.entry.specs.declared.Entry.{Entry}
 use Rattle.entry.specs.declared.Reach.{Reach}
 use Rattle.entry.specs.declared.Reach.the-variants.{Misses, Hits, May}
-use Rattle.entry.specs.Entry.{knows, shows, newFlag, newValue, confirmed, flagged, doubted, noted}
+use Rattle.entry.specs.Entry.{flag, knows, shows, newFlag, newValue, confirmed, doubted, noted}
 use Rattle.entry.proofs.Entries.{knows-confirmed, shows-confirmed, knows-doubted}
 
 -- "each setting the host calls known is what the node holds"
@@ -48,7 +49,7 @@ pub hits-test : (b : Bool) → cond b Hits Misses ≡ Hits → b ≡ true
 hits-test true e = refl
 hits-test false e = absurd (true≢false (cc e))
 
-known-applied : {s : Setting} (f : Effect s) (e : Entry) (x : Settings) → Sound e x → newFlag f e ≡ true → newValue f e ≡ applied f x
+known-applied : {s : Setting} (f : Effect s) (e : Entry) (x : Settings) → Sound e x → newFlag true f (e .known) ≡ true → newValue f e ≡ applied f x
 known-applied {s} keeps e x ok k = ok s k
 known-applied (stores v) e x ok k = refl
 known-applied (copies t f) e x ok k = rw k (ap f (ok t k))
@@ -58,17 +59,17 @@ confirmed-sound : (c : Command) (e : Entry) (x : Settings) → Sound e x → Sou
 confirmed-sound c e x ok s k =
     shows-confirmed c e s ∙ known-applied (effect c s) e x ok (sym (knows-confirmed c e s) ∙ k) ∙ sym (get-after c x s)
 
-kept : {s : Setting} (f : Effect s) (x : Settings) (b : Bool) → flagged f false b ≡ true → (applied f x ≡ get x s) × (b ≡ true)
-kept keeps x b k = (refl, k)
-kept (stores v) x b k = absurd (false≢true k)
-kept (copies t f) x b k = absurd (false≢true k)
+kept : {s : Setting} (f : Effect s) (x : Settings) (k : Known) → newFlag false f k ≡ true → (applied f x ≡ get x s) × (flag k s ≡ true)
+kept keeps x k h = (refl, h)
+kept (stores v) x k h = absurd (false≢true h)
+kept (copies t f) x k h = absurd (false≢true h)
 
 -- put in doubt, whether or not the node acted
 doubted-sound : (c : Command) (e : Entry) (x : Settings) (did : Bool) → Sound e x → Sound (doubted c e) (cond did (settingsAfter c x) x)
 doubted-sound c e x did ok s k = go did
   where
     same : (applied (effect c s) x ≡ get x s) × (knows e s ≡ true)
-    same = kept (effect c s) x (knows e s) (sym (knows-doubted c e s) ∙ k)
+    same = kept (effect c s) x (e .known) (sym (knows-doubted c e s) ∙ k)
 
     go : (did : Bool) → shows e s ≡ get (cond did (settingsAfter c x) x) s
     go true = ok s (same .1) ∙ sym (get-after c x s ∙ same .0)

@@ -6,13 +6,12 @@ use mathlib.Core.Path.{_≡_, refl, sym, _∙_}
 use native.Mathlib.Omega.{arith}
 use Rattle.wire.specs.declared.address.Address.{Address}
 use Rattle.command.specs.declared.Command.{Command}
-use Rattle.command.specs.declared.Command.the-variants.{SetAddress, DefineStatus, ReadStatus, SetPwm, SynchOutput, SetOutputs, SetSynchOutput, SetTimerMode, SynchInput, Nop, HardReset}
 use Rattle.command.specs.Build.{placeFits, fitsOf}
 use Rattle.status.specs.declared.Answer.{Answer}
 use Rattle.status.specs.declared.Answer.the-variants.{Clear}
-use Rattle.node.specs.declared.state.Settings.{Settings}
 use Rattle.node.specs.declared.state.Node.{Node}
 use Rattle.node.specs.Effect.{settingsAfter}
+use Rattle.node.proofs.Laws.{fit-after}
 use Rattle.entry.specs.declared.Reach.the-variants.{Hits}
 use Rattle.entry.specs.Entry.{noted}
 use Rattle.ledger.specs.Ledger.{reachOf}
@@ -20,20 +19,6 @@ use Rattle.session.specs.declared.Session.{Session}
 use Rattle.line.proofs.Closing.{entryAt, Concluded}
 use Rattle.line.proofs.Sound.{Sound, Fits, told, noted-sound}
 use Rattle.line.proofs.Invariant.{at, PlacedAt, UnplacedAt, EdgeAt, leads, Alone, Invariant, Exchanged}
-
--- a command whose values are of their range leaves every place of its range
-fit-after : (c : Command) → fitsOf c ≡ true → (x : Settings) → placeFits (x .place) ≡ true → placeFits (settingsAfter c x .place) ≡ true
-fit-after (SetAddress p) f x h = f
-fit-after (DefineStatus m) f x h = h
-fit-after (ReadStatus m) f x h = h
-fit-after (SetPwm w) f x h = h
-fit-after SynchOutput f x h = h
-fit-after (SetOutputs w) f x h = h
-fit-after (SetSynchOutput k) f x h = h
-fit-after (SetTimerMode m) f x h = h
-fit-after SynchInput f x h = h
-fit-after Nop f x h = h
-fit-after HardReset f x h = refl
 
 module _ (h : Session) (ns ms : List Node) (inv : Invariant h ns) (line : Address) (c : Command) (a : Answer) (x : Exchanged line c ns ms a) where
   -- what is known is held, also afterwards: whom the host counts as missed has not acted, whom it counts as reached has, if the answer is clear

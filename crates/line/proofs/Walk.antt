@@ -23,12 +23,12 @@ use Rattle.survey.specs.One.{meant, answers}
 use Rattle.survey.specs.Chain.{hearsAt}
 use Rattle.entry.specs.declared.Entry.{Entry}
 use Rattle.entry.specs.declared.Reach.the-variants.{Misses, Hits}
-use Rattle.entry.specs.Entry.{knows, doubted, noted, nop}
+use Rattle.node.proofs.Laws.{nop-writes, placed-again}
+use Rattle.entry.specs.Entry.{knows, doubted, noted}
 use Rattle.entry.proofs.Entries.{quiet-noted}
 use Rattle.ledger.specs.Ledger.{reachOf}
 use Rattle.session.specs.declared.Session.{Session}
-use Rattle.placing.specs.Placing.{givenPlace}
-use Rattle.session.specs.Session.{nodeAt}
+use Rattle.session.specs.Session.{nodeAt, givenPlace}
 use Rattle.line.specs.History.{gives, asks}
 use Rattle.line.proofs.Closing.{entryAt, walked, settles, Concluded}
 use Rattle.line.proofs.Sound.{Sound, told, fits-test, hits-test, noted-sound}
@@ -176,10 +176,6 @@ next-step h t ns ms inv l known a x fits k = go a x k
 
 -- ---- "ask"
 
--- a node that has a place already is given it again: nothing changes
-again : (x : Settings) (p : Place) → x .place ≡ p → settingsAfter (SetAddress p) x ≡ x
-again x p e = ap (λ (q : Place). settingsAfter (SetAddress q) x) (sym e)
-
 -- before the node that the walk is at has its new address nobody has it, and so nobody answers
 pub nobody : (h : Session) (ns : List Node) (inv : Invariant h ns) → h .walk < h .n → UnplacedAt ns (h .walk)
     → {did : ℕ → Bool} → Answered (nodeAt (h .walk + 1)) ns did → ⊥
@@ -212,7 +208,7 @@ module _ (h t : Session) (ns ms : List Node) (inv : Invariant h ns) (l : h .walk
         → at ms i .settings ≡ cond b (settingsAfter (given h) (at ns i .settings)) (at ns i .settings)
     settings-found i p true e =
         let q : h .walk ≡ i = omega (arith, eqb-true (h .walk + 1) (suc i) e) in
-        settings-ask i p ∙ sym (again (at ns i .settings) (givenPlace (h .walk + 1)) (subst (λ (j : ℕ). at ns j .settings .place ≡ givenPlace (h .walk + 1)) q (f .0)))
+        settings-ask i p ∙ sym (placed-again (at ns i .settings) (givenPlace (h .walk + 1)) (subst (λ (j : ℕ). at ns j .settings .place ≡ givenPlace (h .walk + 1)) q (f .0)))
     settings-found i p false e = settings-ask i p
 
     held-found : (i : ℕ) → i < h .n → Sound (noted Clear (reachOf (nodeAt (h .walk + 1)) (suc i) (entryAt h i)) (given h) (entryAt h i)) (at ms i .settings)
@@ -249,4 +245,4 @@ pub ask-step : (h t : Session) (ns ms : List Node) (inv : Invariant h ns) → h 
 ask-step h t ns ms inv l Clear x k = ask-clear h t ns ms inv l Clear x (found h t ns ms inv l Clear x refl (inv .edge l)) refl k
 ask-step h t ns ms inv l Marked x k = ask-still h t ns ms inv l Marked x (λ i. refl) k
 ask-step h t ns ms inv l Silent x k =
-    ask-still h t ns ms inv l Silent x (λ i. quiet-noted nop Silent (reachOf (nodeAt (h .walk + 1)) (suc i) (entryAt h i)) (entryAt h i)) k
+    ask-still h t ns ms inv l Silent x (λ i. quiet-noted Nop nop-writes Silent (reachOf (nodeAt (h .walk + 1)) (suc i) (entryAt h i)) (entryAt h i)) k

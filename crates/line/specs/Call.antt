@@ -12,7 +12,7 @@ use Rattle.command.specs.declared.Command.{Command}
 use Rattle.command.specs.declared.Command.the-variants.{SetAddress}
 use Rattle.session.specs.declared.Session.{Session}
 use Rattle.session.specs.declared.Step.{Step}
-use Rattle.sending.specs.Sending.{isReset}
+use Rattle.command.specs.Role.{roleOf, isReset}
 use Rattle.walk.specs.Walk.{nextOf, askOf}
 use Rattle.host.specs.Calls.{orderOf, regroupOf}
 use Rattle.line.specs.History.{Sending, gives, asks, sends}
@@ -40,7 +40,7 @@ whatOf (regroup i g leader) p = sends (address.Individual i) (SetAddress (record
 abbrev pub resets : Call → Bool
 resets next = false
 resets ask = false
-resets (order to c) = isReset c
+resets (order to c) = isReset (roleOf c)
 resets (regroup i g leader) = false
 
 -- what the types of a call admit: a group is a byte

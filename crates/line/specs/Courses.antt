@@ -5,12 +5,11 @@ use mathlib.Core.List.{List, [], _∷_}
 use mathlib.Core.Path.{_≡_}
 use Rattle.command.specs.declared.Command.the-variants.{SetOutputs}
 use Rattle.status.specs.declared.Answer.the-variants.{Clear, Silent}
-use Rattle.node.specs.Setting.{Setting, place, outputs, Value, get}
+use Rattle.node.specs.Setting.{outputs, Setting, place, gate, Value, get}
 use Rattle.node.specs.Effect.{settingsUp}
 use Rattle.entry.specs.Entry.{knows, shows}
 use Rattle.session.specs.declared.Exchange.the-variants.{Idle}
-use Rattle.placing.specs.Placing.{givenPlace}
-use Rattle.session.specs.Session.{entryOf, nodeAt}
+use Rattle.session.specs.Session.{entryOf, nodeAt, givenPlace}
 use Rattle.line.specs.History.{Sent, gives, asks, sends}
 use Rattle.line.specs.World.{World, Comes}
 use Rattle.line.specs.Demand3.{nodeOf}
@@ -48,5 +47,5 @@ again = record { what = sends (nodeAt 2) (SetOutputs 5); heard = Clear } ∷ los
 pub record Courses : Type 0 where
   pub addressing : Course unasked 1 place false (settingsUp .place) (givenPlace 1)
   pub addressed : Course asked 1 place true (givenPlace 1) (givenPlace 1)
-  pub doubt : Course lost 2 outputs false 0 5
-  pub known : Course again 2 outputs true 5 5
+  pub doubt : Course lost 2 (gate outputs) false 0 5
+  pub known : Course again 2 (gate outputs) true 5 5

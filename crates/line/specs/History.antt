@@ -14,8 +14,7 @@ use Rattle.status.specs.declared.Answer.{Answer}
 use Rattle.status.specs.declared.Answer.the-variants.{Clear, Marked, Silent}
 use Rattle.node.specs.Setting.{Setting, place}
 use Rattle.node.specs.Effect.{Effect, keeps, stores, copies, effect, writes, settingsUp}
-use Rattle.placing.specs.Placing.{givenPlace}
-use Rattle.session.specs.Session.{nodeAt}
+use Rattle.session.specs.Session.{nodeAt, givenPlace}
 
 -- what the host sent: the walk's Set Address that gives k, the "ask" for it, a command to a node or a group
 pub data Sending : Type 0 where

@@ -1,10 +1,11 @@
 -- What each command does to each of the six settings: one table, which the node, the host's record and demand 3 all read.
+use Prim.Native.Nat.{ℕ}
 use mathlib.Core.Bool.{Bool, true, false}
 use mathlib.Core.Path.{_≡_}
 use Rattle.command.specs.declared.Command.{Command}
 use Rattle.command.specs.declared.Command.the-variants.{SetAddress, DefineStatus, ReadStatus, SetPwm, SynchOutput, SetOutputs, SetSynchOutput, SetTimerMode, SynchInput, Nop, HardReset}
 use Rattle.node.specs.declared.state.Settings.{Settings}
-use Rattle.node.specs.Setting.{Setting, place, mask, outputs, pwm, held, timer, Value, get, make, get-make}
+use Rattle.node.specs.Setting.{GateSetting, outputs, pwm, held, timer, Setting, place, mask, gate, Value, get, make, get-make}
 
 -- what becomes of setting s: it stays, it is stored anew, or it is copied from another
 pub data Effect (s : Setting) : Type 0 where
@@ -12,10 +13,17 @@ pub data Effect (s : Setting) : Type 0 where
   stores : Value s → Effect s
   copies : (t : Setting) → (Value t → Value s) → Effect s
 
--- "address 0x00, group 0xFF, no leader, not addressed, all else 0"
+-- "The power-up state belongs to the node kind: address 0x00, group 0xFF, no leader"
+abbrev pub addressUp : ℕ
+addressUp = 0x00
+
+abbrev pub groupUp : ℕ
+groupUp = 0xFF
+
+-- "all else 0"
 abbrev pub settingsUp : Settings
 settingsUp = record {
-  place = record { address = record { 0 = 0x00 }; group = record { 0 = 0xFF }; leader = false };
+  place = record { address = record { 0 = addressUp }; group = record { 0 = groupUp }; leader = false };
   mask = 0;
   outputs = 0;
   pwm = record { first = 0; second = 0 };
@@ -23,27 +31,44 @@ settingsUp = record {
   timer = 0;
 }
 
--- a row of the table, in the order of the settings
-abbrev pub row : Effect place → Effect mask → Effect outputs → Effect pwm → Effect held → Effect timer → (s : Setting) → Effect s
-row a b c d e f place = a
-row a b c d e f mask = b
-row a b c d e f outputs = c
-row a b c d e f pwm = d
-row a b c d e f held = e
-row a b c d e f timer = f
+-- a row of the table, by the group of settings that it writes in: none; the place; the mask; a gate's own
+abbrev pub none : (s : Setting) → Effect s
+none s = keeps
+
+abbrev pub onPlace : Effect place → (s : Setting) → Effect s
+onPlace e place = e
+onPlace e mask = keeps
+onPlace e (gate g) = keeps
+
+abbrev pub onMask : Effect mask → (s : Setting) → Effect s
+onMask e place = keeps
+onMask e mask = e
+onMask e (gate g) = keeps
+
+abbrev pub onGate : ((g : GateSetting) → Effect (gate g)) → (s : Setting) → Effect s
+onGate r place = keeps
+onGate r mask = keeps
+onGate r (gate g) = r g
+
+-- a gate's own four, in their order
+abbrev pub gateRow : Effect (gate outputs) → Effect (gate pwm) → Effect (gate held) → Effect (gate timer) → (g : GateSetting) → Effect (gate g)
+gateRow a b c d outputs = a
+gateRow a b c d pwm = b
+gateRow a b c d held = c
+gateRow a b c d timer = d
 
 -- "the other Set commands store their data, no more. Synch Output copies the held set to outputs and PWM pair"
 abbrev pub effect : Command → (s : Setting) → Effect s
-effect (SetAddress p) = row (stores p) keeps keeps keeps keeps keeps
-effect (DefineStatus m) = row keeps (stores m) keeps keeps keeps keeps
-effect (ReadStatus m) = row keeps keeps keeps keeps keeps keeps
-effect (SetPwm w) = row keeps keeps keeps (stores w) keeps keeps
-effect SynchOutput = row keeps keeps (copies held (λ h. h .outputs)) (copies held (λ h. h .pwm)) keeps keeps
-effect (SetOutputs w) = row keeps keeps (stores w) keeps keeps keeps
-effect (SetSynchOutput h) = row keeps keeps keeps keeps (stores h) keeps
-effect (SetTimerMode m) = row keeps keeps keeps keeps keeps (stores m)
-effect SynchInput = row keeps keeps keeps keeps keeps keeps
-effect Nop = row keeps keeps keeps keeps keeps keeps
+effect (SetAddress p) = onPlace (stores p)
+effect (DefineStatus m) = onMask (stores m)
+effect (ReadStatus m) = none
+effect (SetPwm w) = onGate (gateRow keeps (stores w) keeps keeps)
+effect SynchOutput = onGate (gateRow (copies (gate held) (λ h. h .outputs)) (copies (gate held) (λ h. h .pwm)) keeps keeps)
+effect (SetOutputs w) = onGate (gateRow (stores w) keeps keeps keeps)
+effect (SetSynchOutput h) = onGate (gateRow keeps keeps (stores h) keeps)
+effect (SetTimerMode m) = onGate (gateRow keeps keeps keeps (stores m))
+effect SynchInput = none
+effect Nop = none
 effect HardReset = λ s. stores (get settingsUp s)
 
 -- whether a setting is written

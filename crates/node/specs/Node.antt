@@ -1,7 +1,9 @@
 -- Document 01, "The node": what a node holds besides its settings, its power-up state, what acting makes of it, and what a packet does.
 use mathlib.Core.Bool.{Bool, true, false}
 use Rattle.command.specs.declared.Command.{Command}
-use Rattle.command.specs.declared.Command.the-variants.{SetAddress, DefineStatus, ReadStatus, SetPwm, SynchOutput, SetOutputs, SetSynchOutput, SetTimerMode, SynchInput, Nop, HardReset}
+use Rattle.command.specs.declared.Role.{Role}
+use Rattle.command.specs.declared.Role.the-variants.{Plain, Places, Masks, Captures, Idles, Resets}
+use Rattle.command.specs.Role.{roleOf}
 use Rattle.heard.specs.declared.Heard.{Heard}
 use Rattle.heard.specs.declared.Heard.the-variants.{Intact, Other, Spoilt}
 use Rattle.node.specs.declared.state.Bench.{Bench}
@@ -18,40 +20,30 @@ abbrev pub powerUp : Bench → Node
 powerUp b = record { settings = settingsUp; addressed = false; bench = b; captured = nothing }
 
 -- "The node is addressed from then on", until a Hard Reset
-abbrev pub addressedAfter : Command → Bool → Bool
-addressedAfter (SetAddress p) b = true
-addressedAfter (DefineStatus m) b = b
-addressedAfter (ReadStatus m) b = b
-addressedAfter (SetPwm w) b = b
-addressedAfter SynchOutput b = b
-addressedAfter (SetOutputs w) b = b
-addressedAfter (SetSynchOutput h) b = b
-addressedAfter (SetTimerMode m) b = b
-addressedAfter SynchInput b = b
-addressedAfter Nop b = b
-addressedAfter HardReset b = false
+abbrev pub addressedAfter : Role → Bool → Bool
+addressedAfter Plain b = b
+addressedAfter (Places p) b = true
+addressedAfter (Masks m) b = b
+addressedAfter Captures b = b
+addressedAfter Idles b = b
+addressedAfter Resets b = false
 
 -- "Synch Input copies inputs and counter to the captured ones"
-abbrev pub capturedAfter : Command → Bench → Captured → Captured
-capturedAfter (SetAddress p) b k = k
-capturedAfter (DefineStatus m) b k = k
-capturedAfter (ReadStatus m) b k = k
-capturedAfter (SetPwm w) b k = k
-capturedAfter SynchOutput b k = k
-capturedAfter (SetOutputs w) b k = k
-capturedAfter (SetSynchOutput h) b k = k
-capturedAfter (SetTimerMode m) b k = k
-capturedAfter SynchInput b k = record { inputs = b .inputs; counter = b .counter }
-capturedAfter Nop b k = k
-capturedAfter HardReset b k = nothing
+abbrev pub capturedAfter : Role → Bench → Captured → Captured
+capturedAfter Plain b k = k
+capturedAfter (Places p) b k = k
+capturedAfter (Masks m) b k = k
+capturedAfter Captures b k = record { inputs = b .inputs; counter = b .counter }
+capturedAfter Idles b k = k
+capturedAfter Resets b k = nothing
 
 -- the node after a command
 abbrev pub acted : Command → Node → Node
 acted c n = record {
   settings = settingsAfter c (n .settings);
-  addressed = addressedAfter c (n .addressed);
+  addressed = addressedAfter (roleOf c) (n .addressed);
   bench = n .bench;
-  captured = capturedAfter c (n .bench) (n .captured);
+  captured = capturedAfter (roleOf c) (n .bench) (n .captured);
 }
 
 -- "Others .. are replied to as a Nop is and change nothing"; "Wrong sum: nothing changes"

@@ -3,6 +3,7 @@ use command::Command;
 use command::Held;
 use command::Place;
 use command::Pwm;
+use command::Role;
 use heard::Heard;
 use wire::Group;
 use wire::Individual;
@@ -76,12 +77,12 @@ impl Node {
         let mut next = self;
         let settings = next.settings.after(c);
         next.settings = settings;
-        match c {
-            Command::SetAddress(_) => {
+        match c.role() {
+            Role::Places(_) => {
                 next.addressed = true;
                 next
             }
-            Command::SynchInput => {
+            Role::Captures => {
                 let bench = next.bench;
                 let found = Captured {
                     inputs: bench.inputs,
@@ -90,18 +91,13 @@ impl Node {
                 next.captured = found;
                 next
             }
-            Command::HardReset => {
+            Role::Resets => {
                 let bench = next.bench;
                 Node::power_up(bench)
             }
-            Command::DefineStatus(_) => next,
-            Command::ReadStatus(_) => next,
-            Command::SetPwm(_) => next,
-            Command::SynchOutput => next,
-            Command::SetOutputs(_) => next,
-            Command::SetSynchOutput(_) => next,
-            Command::SetTimerMode(_) => next,
-            Command::Nop => next,
+            Role::Plain => next,
+            Role::Masks(_) => next,
+            Role::Idles => next,
         }
     }
 

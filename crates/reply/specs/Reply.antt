@@ -1,8 +1,9 @@
 -- Document 01, "The node": the reply that a node sends.
 use Prim.Native.Nat.{ℕ}
 use mathlib.Core.List.{List}
-use Rattle.command.specs.declared.Command.{Command}
-use Rattle.command.specs.declared.Command.the-variants.{SetAddress, DefineStatus, ReadStatus, SetPwm, SynchOutput, SetOutputs, SetSynchOutput, SetTimerMode, SynchInput, Nop, HardReset}
+use Rattle.command.specs.declared.Role.{Role}
+use Rattle.command.specs.declared.Role.the-variants.{Plain, Places, Masks, Captures, Idles, Resets}
+use Rattle.command.specs.Role.{roleOf}
 use Rattle.status.specs.Status.{statusPacket}
 use Rattle.node.specs.declared.state.Node.{Node}
 use Rattle.heard.specs.declared.Heard.{Heard}
@@ -11,21 +12,16 @@ use Rattle.node.specs.Node.{taken}
 use Rattle.reply.specs.Items.{itemBytes}
 
 -- "Read Status uses its own mask for its one reply", every other command the one that is held
-abbrev pub ownMask : Command → ℕ → ℕ
-ownMask (SetAddress p) held = held
-ownMask (DefineStatus m) held = held
-ownMask (ReadStatus m) held = m
-ownMask (SetPwm w) held = held
-ownMask SynchOutput held = held
-ownMask (SetOutputs w) held = held
-ownMask (SetSynchOutput h) held = held
-ownMask (SetTimerMode m) held = held
-ownMask SynchInput held = held
-ownMask Nop held = held
-ownMask HardReset held = held
+abbrev pub ownMask : Role → ℕ → ℕ
+ownMask Plain held = held
+ownMask (Places p) held = held
+ownMask (Masks m) held = m
+ownMask Captures held = held
+ownMask Idles held = held
+ownMask Resets held = held
 
 abbrev pub maskOf : Heard → ℕ → ℕ
-maskOf (Intact c) held = ownMask c held
+maskOf (Intact c) held = ownMask (roleOf c) held
 maskOf Other held = held
 maskOf Spoilt held = held
 

@@ -2,7 +2,7 @@
 // Promised: every reply is good, says by bit 1 whether the sum was wrong, and reads back under its mask as the items asked for.
 // Left to others: whether the node replies at all (heard, chain).
 use buffer::Built;
-use command::Command;
+use command::Role;
 use heard::Heard;
 use node::Node;
 ghost use mathlib.Core.Path.{_≡_};
@@ -16,21 +16,16 @@ ghost use Rattle.reply.specs.Items.{bytesOf, asked, itemBytes, valuesOf}
 ghost use Rattle.reply.specs.Reply.{ownMask, maskOf, statusByte, replyOf};
 
 // The mask of a command's reply: Read Status has its own.
-fn own_mask(c: Command, held: u8) -> u8
-    ensures { λ r. ⌜ r ≡ ownMask c held ⌝ }
+fn own_mask(role: Role, held: u8) -> u8
+    ensures { λ r. ⌜ r ≡ ownMask role held ⌝ }
 {
-    match c {
-        Command::ReadStatus(mask) => mask,
-        Command::SetAddress(_) => held,
-        Command::DefineStatus(_) => held,
-        Command::SetPwm(_) => held,
-        Command::SynchOutput => held,
-        Command::SetOutputs(_) => held,
-        Command::SetSynchOutput(_) => held,
-        Command::SetTimerMode(_) => held,
-        Command::SynchInput => held,
-        Command::Nop => held,
-        Command::HardReset => held,
+    match role {
+        Role::Masks(mask) => mask,
+        Role::Plain => held,
+        Role::Places(_) => held,
+        Role::Captures => held,
+        Role::Idles => held,
+        Role::Resets => held,
     }
 }
 
@@ -39,7 +34,7 @@ fn mask_of(heard: Heard, held: u8) -> u8
     ensures { λ r. ⌜ r ≡ maskOf heard held ⌝ }
 {
     match heard {
-        Heard::Intact(c) => own_mask(c, held),
+        Heard::Intact(c) => own_mask(c.role(), held),
         Heard::Other => held,
         Heard::Spoilt => held,
     }

@@ -13,6 +13,8 @@ use Rattle.wire.specs.declared.address.Address.the-variants as address
 use Rattle.wire.specs.declared.refusal.Refusal.the-variants as refusal
 use Rattle.command.specs.declared.Place.{Place}
 use Rattle.command.specs.declared.Command.{Command}
+use Rattle.command.specs.declared.Role.{Role}
+use Rattle.command.specs.Role.{roleOf, isPlacing, isNop}
 use Rattle.command.specs.declared.Command.the-variants.{SetAddress}
 use Rattle.status.specs.Status.{judged}
 use Rattle.status.specs.declared.Answer.{Answer}
@@ -24,9 +26,7 @@ use Rattle.session.specs.declared.Exchange.the-variants.{Idle, Waiting}
 use Rattle.session.specs.declared.Session.{Session}
 use Rattle.session.specs.declared.End.the-variants.{Done}
 use Rattle.session.specs.declared.Step.{Step}
-use Rattle.placing.specs.Placing.{isPlacing, givenPlace}
-use Rattle.session.specs.Session.{stepNumber, refusedStep, closedOf, askDue}
-use Rattle.reports.specs.Report.{isNop}
+use Rattle.session.specs.Session.{stepNumber, refusedStep, closedOf, askDue, givenPlace}
 use Rattle.reports.specs.Report.{onWalk, giving, asking, idleAt, concluded, finishedBy, finished, reportOf}
 
 module _ (s : Session) (to : Address) where
@@ -37,21 +37,21 @@ module _ (s : Session) (to : Address) where
   walked i p q = rw (p, le-ltb (s .walk) (s .n) q)
 
 module _ (s : Session) (to : Address) (c : Command) (w : Bool) (by : w ≡ onWalk s to) where
-  pub giving-by : (r : Bool) → w ≡ true → r ≡ isPlacing c → r ≡ giving s to c
+  pub giving-by : (role : Role) (r : Bool) → w ≡ true → role ≡ roleOf c → r ≡ isPlacing role → r ≡ giving s to c
   unfolding giving
-  giving-by r p h = rw (← by, p) h
+  giving-by role r p of h = rw (← by, p, ← of) h
 
   pub giving-not : w ≡ false → false ≡ giving s to c
   unfolding giving
   giving-not p = rw (← by, p)
 
-  pub asking-by : (k r : Bool) → w ≡ true → k ≡ isNop c → k ≡ true → r ≡ askDue s → r ≡ asking s to c
+  pub asking-by : (role : Role) (k r : Bool) → w ≡ true → role ≡ roleOf c → k ≡ isNop role → k ≡ true → r ≡ askDue s → r ≡ asking s to c
   unfolding asking
-  asking-by k r p q y h = rw (← by, p, ← q, y) h
+  asking-by role k r p of q y h = rw (← by, p, ← of, ← q, y) h
 
-  pub asking-other : (k : Bool) → w ≡ true → k ≡ isNop c → k ≡ false → false ≡ asking s to c
+  pub asking-other : (role : Role) (k : Bool) → w ≡ true → role ≡ roleOf c → k ≡ isNop role → k ≡ false → false ≡ asking s to c
   unfolding asking
-  asking-other k p q y = rw (← by, p, ← q, y)
+  asking-other role k p of q y = rw (← by, p, ← of, ← q, y)
 
   pub asking-not : w ≡ false → false ≡ asking s to c
   unfolding asking
@@ -107,8 +107,8 @@ on-walks s (address.Group g) h = absurd (false≢true h)
 
 pub giving-walks : (b : Bool) (s : Session) (to : Address) (c : Command) → b ≡ giving s to c → b ≡ true → s .walk < s .n
 unfolding giving
-giving-walks b s to c p q = on-walks s to (both (onWalk s to) (isPlacing c) (sym p ∙ q) .0)
+giving-walks b s to c p q = on-walks s to (both (onWalk s to) (isPlacing (roleOf c)) (sym p ∙ q) .0)
 
 pub asking-walks : (b : Bool) (s : Session) (to : Address) (c : Command) → b ≡ asking s to c → b ≡ true → s .walk < s .n
 unfolding asking
-asking-walks b s to c p q = on-walks s to (both (onWalk s to) (isNop c) (both (onWalk s to && isNop c) (askDue s) (sym p ∙ q) .0) .0)
+asking-walks b s to c p q = on-walks s to (both (onWalk s to) (isNop (roleOf c)) (both (onWalk s to && isNop (roleOf c)) (askDue s) (sym p ∙ q) .0) .0)

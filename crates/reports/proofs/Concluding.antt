@@ -19,8 +19,7 @@ use Rattle.session.specs.declared.Exchange.{Exchange}
 use Rattle.session.specs.declared.Exchange.the-variants.{Idle, Waiting}
 use Rattle.session.specs.declared.Session.{Session}
 use Rattle.session.specs.declared.End.the-variants.{Done}
-use Rattle.placing.specs.Placing.{givenPlace}
-use Rattle.session.specs.Session.{refusedStep, closedOf}
+use Rattle.session.specs.Session.{refusedStep, closedOf, givenPlace}
 use Rattle.reports.specs.Report.{giving, asking, idleAt, concluded, finishedBy, finished, reportOf}
 
 -- the command that an answer is about: an "ask"'s good clear reply confirms the walk's Set Address

@@ -17,8 +17,7 @@ use Rattle.ledger.proofs.Ledgers.{length-settled}
 use Rattle.session.specs.declared.Exchange.{Exchange}
 use Rattle.session.specs.declared.Exchange.the-variants.{Idle, Waiting}
 use Rattle.session.specs.declared.Session.{Session}
-use Rattle.placing.specs.Placing.{givenPlace}
-use Rattle.session.specs.Session.{Sound, closedOf}
+use Rattle.session.specs.Session.{Sound, closedOf, givenPlace}
 use Rattle.session.proofs.Sessions.{valid-says, valid-from, either, Stays, by-test}
 use Rattle.reports.specs.Report.{giving, asking, idleAt, concluded, finishedBy, finished, reportOf}
 use Rattle.reports.proofs.Closing.{giving-walks, asking-walks}

@@ -1,13 +1,14 @@
 -- Document 01, "The host session": an exchange is "closed by reporting silence or the bytes received".
 use Prim.Native.Nat.{ℕ, _+_}
-use mathlib.Core.Bool.{Bool, true, false, cond, _&&_}
+use mathlib.Core.Bool.{Bool, false, cond, _&&_}
 use mathlib.Core.List.{List}
 use lib.Dec.{ltb, eqb}
 use Rattle.wire.specs.declared.address.Address.{Address}
 use Rattle.wire.specs.declared.address.Address.the-variants as address
 use Rattle.wire.specs.declared.refusal.Refusal.the-variants as refusal
 use Rattle.command.specs.declared.Command.{Command}
-use Rattle.command.specs.declared.Command.the-variants.{SetAddress, DefineStatus, ReadStatus, SetPwm, SynchOutput, SetOutputs, SetSynchOutput, SetTimerMode, SynchInput, Nop, HardReset}
+use Rattle.command.specs.declared.Command.the-variants.{SetAddress}
+use Rattle.command.specs.Role.{roleOf, isPlacing, isNop}
 use Rattle.status.specs.Status.{judged}
 use Rattle.status.specs.declared.Answer.{Answer}
 use Rattle.status.specs.declared.Answer.the-variants.{Clear, Marked, Silent}
@@ -18,22 +19,7 @@ use Rattle.session.specs.declared.Exchange.the-variants.{Idle, Waiting}
 use Rattle.session.specs.declared.Session.{Session}
 use Rattle.session.specs.declared.End.the-variants.{Done}
 use Rattle.session.specs.declared.Step.{Step}
-use Rattle.placing.specs.Placing.{isPlacing, givenPlace}
-use Rattle.session.specs.Session.{refusedStep, closedOf, askDue}
-
--- Nop
-abbrev pub isNop : Command → Bool
-isNop (SetAddress p) = false
-isNop (DefineStatus m) = false
-isNop (ReadStatus m) = false
-isNop (SetPwm w) = false
-isNop SynchOutput = false
-isNop (SetOutputs w) = false
-isNop (SetSynchOutput h) = false
-isNop (SetTimerMode m) = false
-isNop SynchInput = false
-isNop Nop = true
-isNop HardReset = false
+use Rattle.session.specs.Session.{refusedStep, closedOf, givenPlace, askDue}
 
 -- the exchange is about the node to which the walk gives its next address
 abbrev pub onWalk : Session → Address → Bool
@@ -42,11 +28,11 @@ onWalk s (address.Group g) = false
 
 -- it is the walk's Set Address
 unfoldable pub giving : Session → Address → Command → Bool
-giving s to c = onWalk s to && isPlacing c
+giving s to c = onWalk s to && isPlacing (roleOf c)
 
 -- it is the walk's "ask"
 unfoldable pub asking : Session → Address → Command → Bool
-asking s to c = onWalk s to && isNop c && askDue s
+asking s to c = onWalk s to && isNop (roleOf c) && askDue s
 
 abbrev pub idleAt : Session → ℕ → List Entry → Session
 idleAt s walk es = record { started = s .started; n = s .n; walk = walk; exchange = Idle; entries = es }

@@ -3,12 +3,11 @@
 // Left to others: when silence is silence (the caller).
 use command::Command;
 use entry::Entry;
-use placing::given_place;
-use placing::is_placing;
 use session::End;
 use session::Exchange;
 use session::Session;
 use session::Step;
+use session::given_place;
 use session::is_ask_due;
 use session::is_closed;
 use session::refuse;
@@ -20,25 +19,7 @@ ghost use mathlib.Core.Path.{_≡_};
 ghost use Rattle.wire.specs.Promise.{Promise};
 ghost use Rattle.session.specs.Session.{stepNumber};
 ghost use Rattle.status.specs.declared.Answer.the-variants.{Silent};
-ghost use Rattle.reports.specs.Report.{isNop, onWalk, giving, asking, idleAt, concluded, finished, reportOf};
-
-fn is_nop(c: Command) -> bool
-    ensures { λ r. ⌜ r ≡ isNop c ⌝ }
-{
-    match c {
-        Command::Nop => true,
-        Command::SetAddress(_) => false,
-        Command::DefineStatus(_) => false,
-        Command::ReadStatus(_) => false,
-        Command::SetPwm(_) => false,
-        Command::SynchOutput => false,
-        Command::SetOutputs(_) => false,
-        Command::SetSynchOutput(_) => false,
-        Command::SetTimerMode(_) => false,
-        Command::SynchInput => false,
-        Command::HardReset => false,
-    }
-}
+ghost use Rattle.reports.specs.Report.{onWalk, giving, asking, idleAt, concluded, finished, reportOf};
 
 // Whether an exchange is about the node to which the walk gives its next address.
 fn is_on_walk(s: Session, to: Address) -> bool
@@ -60,7 +41,7 @@ fn is_giving(s: Session, to: Address, c: Command) -> bool
     ensures { λ r. ⌜ r ≡ giving s to c ⌝ }
 {
     if is_on_walk(s, to) {
-        return is_placing(c);
+        return c.role().is_placing();
     }
     false
 }
@@ -70,7 +51,7 @@ fn is_asking(s: Session, to: Address, c: Command) -> bool
     ensures { λ r. ⌜ r ≡ asking s to c ⌝ }
 {
     if is_on_walk(s, to) {
-        if is_nop(c) {
+        if c.role().is_nop() {
             return is_ask_due(s);
         }
     }

@@ -15,6 +15,7 @@ use Rattle.buffer.specs.Buffer.{place}
 use Rattle.wire.specs.Numbers.{done}
 use Rattle.wire.proofs.Numbers.{not-done}
 use Rattle.command.specs.declared.Command.{Command}
+use Rattle.command.specs.Role.{roleOf, isReset}
 use Rattle.command.specs.Build.{fitsOf, packetFor}
 use Rattle.command.proofs.Commands.{built-written}
 use Rattle.ledger.specs.Ledger.{forgotten}
@@ -25,7 +26,7 @@ use Rattle.session.specs.declared.Step.{Step}
 use Rattle.session.specs.Session.{refusedStep, stepNumber}
 use Rattle.sending.specs.declared.Check.{Check}
 use Rattle.sending.specs.declared.Check.the-variants.{Clear, Refuse}
-use Rattle.sending.specs.Sending.{isReset, opened, stepBy, transmitted, byCheck}
+use Rattle.sending.specs.Sending.{opened, stepBy, transmitted, byCheck}
 
 -- the packet at the start of the buffer, and the exchange opened
 abbrev pub sending : Session → Address → Address → Command → List ℕ → Outcome Step (List ℕ)
@@ -85,12 +86,12 @@ went Clear s line to c out o h d =
 went (Refuse why) s line to c out o h d = absurd (not-done why d)
 
 -- the session then: closed and all in doubt after a Hard Reset, else waiting
-pub opened-reset : (s : Session) (to : Address) (c : Command) → isReset c ≡ true
+pub opened-reset : (s : Session) (to : Address) (c : Command) → isReset (roleOf c) ≡ true
     → opened s to c ≡ record { started = false; n = s .n; walk = s .walk; exchange = Idle; entries = forgotten (s .entries) }
 unfolding opened
 opened-reset s to c h = rw h
 
-pub opened-waits : (s : Session) (to : Address) (c : Command) → isReset c ≡ false
+pub opened-waits : (s : Session) (to : Address) (c : Command) → isReset (roleOf c) ≡ false
     → opened s to c ≡ record { started = s .started; n = s .n; walk = s .walk; exchange = Waiting to c; entries = s .entries }
 unfolding opened
 opened-waits s to c h = rw h

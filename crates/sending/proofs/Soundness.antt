@@ -8,6 +8,7 @@ use Rattle.wire.specs.declared.address.Address.{Address}
 use Rattle.buffer.specs.declared.Built.{Built}
 use Rattle.buffer.specs.declared.Built.the-variants as built
 use Rattle.command.specs.declared.Command.{Command}
+use Rattle.command.specs.Role.{roleOf, isReset}
 use Rattle.command.specs.Build.{commandBuilt}
 use Rattle.ledger.specs.Ledger.{forgotten}
 use Rattle.ledger.proofs.Ledgers.{length-forgotten}
@@ -18,7 +19,7 @@ use Rattle.session.specs.Session.{Sound, offChain}
 use Rattle.session.proofs.Sessions.{valid-says, valid-from}
 use Rattle.sending.specs.declared.Check.{Check}
 use Rattle.sending.specs.declared.Check.the-variants as check
-use Rattle.sending.specs.Sending.{isReset, opened, stepBy, transmitted, byCheck}
+use Rattle.sending.specs.Sending.{opened, stepBy, transmitted, byCheck}
 
 -- an exchange is opened with a node 1 to n, or with a group
 opened-by : (b : Bool) (s : Session) (to : Address) (c : Command) → Sound s → offChain (s .n) to ≡ false
@@ -33,7 +34,7 @@ opened-by false s to c h p =
 
 pub opened-sound : (s : Session) (to : Address) (c : Command) → Sound s → offChain (s .n) to ≡ false → Sound (opened s to c)
 unfolding opened
-opened-sound s to c = opened-by (isReset c) s to c
+opened-sound s to c = opened-by (isReset (roleOf c)) s to c
 
 by-built : (s t : Session) (b : Built) → Sound s → Sound t → Sound (stepBy s t b .session)
 by-built s t (built.Bytes n) h k = k

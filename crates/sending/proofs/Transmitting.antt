@@ -10,6 +10,8 @@ use Rattle.buffer.specs.declared.Built.{Built}
 use Rattle.buffer.specs.declared.Built.the-variants as built
 use Rattle.buffer.specs.Buffer.{builtNumber}
 use Rattle.command.specs.declared.Command.{Command}
+use Rattle.command.specs.declared.Role.{Role}
+use Rattle.command.specs.Role.{roleOf, isReset}
 use Rattle.command.specs.Build.{commandBuilt}
 use Rattle.entry.specs.declared.Entry.{Entry}
 use Rattle.ledger.specs.Ledger.{forgotten}
@@ -20,17 +22,17 @@ use Rattle.session.specs.declared.Step.{Step}
 use Rattle.session.specs.Session.{stepNumber, refusedStep}
 use Rattle.sending.specs.declared.Check.{Check}
 use Rattle.sending.specs.declared.Check.the-variants.{Refuse}
-use Rattle.sending.specs.Sending.{isReset, opened, transmitted, byCheck}
+use Rattle.sending.specs.Sending.{opened, transmitted, byCheck}
 
-module _ (s : Session) (to : Address) (c : Command) (t : Bool) (by : t ≡ isReset c) where
+module _ (s : Session) (to : Address) (c : Command) (role : Role) (of : role ≡ roleOf c) (t : Bool) (by : t ≡ isReset role) where
   pub reset-closes : (es : List Entry) → t ≡ true → es ≡ forgotten (s .entries)
       → record { started = false; n = s .n; walk = s .walk; exchange = Idle; entries = es } ≡ opened s to c
   unfolding opened
-  reset-closes es p q = rw (← by, p, q)
+  reset-closes es p q = rw (← of, ← by, p, q)
 
   pub other-waits : t ≡ false → record { started = s .started; n = s .n; walk = s .walk; exchange = Waiting to c; entries = s .entries } ≡ opened s to c
   unfolding opened
-  other-waits p = rw (← by, p)
+  other-waits p = rw (← of, ← by, p)
 
 module _ (s : Session) (line to : Address) (c : Command) (out o : List ℕ) (b : Built) (by : Lending builtNumber b o (commandBuilt line c out)) where
   pub built-sent : (n : ℕ) (t : Session) → b ≡ built.Bytes n → t ≡ opened s to c

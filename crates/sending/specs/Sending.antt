@@ -10,7 +10,7 @@ use Rattle.wire.specs.declared.refusal.Refusal.the-variants.{Busy, Closed}
 use Rattle.buffer.specs.declared.Built.{Built}
 use Rattle.buffer.specs.declared.Built.the-variants as built
 use Rattle.command.specs.declared.Command.{Command}
-use Rattle.command.specs.declared.Command.the-variants.{SetAddress, DefineStatus, ReadStatus, SetPwm, SynchOutput, SetOutputs, SetSynchOutput, SetTimerMode, SynchInput, Nop, HardReset}
+use Rattle.command.specs.Role.{roleOf, isReset}
 use Rattle.command.specs.Build.{commandBuilt}
 use Rattle.ledger.specs.Ledger.{forgotten}
 use Rattle.session.specs.declared.Exchange.{Exchange}
@@ -46,24 +46,10 @@ waitingOf s = cond (closedOf s) false (waits (s .exchange))
 unfoldable pub readyCheck : Session → Check
 readyCheck s = refuseIf (refuseIf Clear (closedOf s) Closed) (waitingOf s) Busy
 
--- Hard Reset
-abbrev pub isReset : Command → Bool
-isReset (SetAddress p) = false
-isReset (DefineStatus m) = false
-isReset (ReadStatus m) = false
-isReset (SetPwm w) = false
-isReset SynchOutput = false
-isReset (SetOutputs w) = false
-isReset (SetSynchOutput h) = false
-isReset (SetTimerMode m) = false
-isReset SynchInput = false
-isReset Nop = false
-isReset HardReset = true
-
 -- "Each sent command but Hard Reset opens an exchange"; "Hard Reset closes the session and puts all settings in doubt"
 unfoldable pub opened : Session → Address → Command → Session
 opened s to c =
-    cond (isReset c)
+    cond (isReset (roleOf c))
     (record { started = false; n = s .n; walk = s .walk; exchange = Idle; entries = forgotten (s .entries) })
     (record { started = s .started; n = s .n; walk = s .walk; exchange = Waiting to c; entries = s .entries })
 

@@ -14,7 +14,7 @@ use wire::Refusal;
 ghost use mathlib.Core.Path.{_≡_};
 ghost use Rattle.wire.specs.Promise.{Promise, Lending};
 ghost use Rattle.session.specs.Session.{stepNumber};
-ghost use Rattle.sending.specs.Sending.{checkNumber, refuseIf, waits, waitingOf, readyCheck, isReset, opened, transmitted};
+ghost use Rattle.sending.specs.Sending.{checkNumber, refuseIf, waits, waitingOf, readyCheck, opened, transmitted};
 
 // What the tests so far came to.
 pub enum Check {
@@ -68,31 +68,12 @@ pub fn ready_check(s: Session) -> Check
         .refuse_if(is_waiting(s), Refusal::Busy)
 }
 
-// Hard Reset closes the session and opens no exchange.
-fn is_reset(c: Command) -> bool
-    ensures { λ r. ⌜ r ≡ isReset c ⌝ }
-{
-    match c {
-        Command::HardReset => true,
-        Command::SetAddress(_) => false,
-        Command::DefineStatus(_) => false,
-        Command::ReadStatus(_) => false,
-        Command::SetPwm(_) => false,
-        Command::SynchOutput => false,
-        Command::SetOutputs(_) => false,
-        Command::SetSynchOutput(_) => false,
-        Command::SetTimerMode(_) => false,
-        Command::SynchInput => false,
-        Command::Nop => false,
-    }
-}
-
 // The session with a command on the line: Hard Reset closes it and opens no exchange, any other command waits.
 fn open_exchange(s: Session, to: Address, c: Command) -> Session
     ensures { λ r. ⌜ r ≡ opened s to c ⌝ }
 {
     let entries = s.entries;
-    if is_reset(c) {
+    if c.role().is_reset() {
         return Session {
             started: false,
             n: s.n,

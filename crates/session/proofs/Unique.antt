@@ -6,6 +6,7 @@ use Rattle.session.proofs.Seen.number.Reads as seen-number
 use Rattle.session.proofs.look.Reads as look
 use Rattle.session.proofs.is_closed.Reads as is-closed
 use Rattle.session.proofs.is_ask_due.Reads as is-ask-due
+use Rattle.session.proofs.given_place.Reads as given-place
 use Rattle.session.proofs.off_chain.Reads as off-chain
 use Rattle.session.proofs.refuse.Reads as refuse
 
@@ -23,6 +24,9 @@ is-closed-unique κs a r r′ s s′ p q = p ∙ sym q
 
 pub is-ask-due-unique : OneResult is-ask-due.Post
 is-ask-due-unique κs a r r′ s s′ p q = p ∙ sym q
+
+pub given-place-unique : OneResult given-place.Post
+given-place-unique κs a r r′ s s′ p q = p ∙ sym q
 
 pub off-chain-unique : OneResult off-chain.Post
 off-chain-unique κs a r r′ s s′ p q = p ∙ sym q

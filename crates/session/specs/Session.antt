@@ -10,8 +10,9 @@ use Rattle.wire.specs.declared.address.Address.{Address}
 use Rattle.wire.specs.declared.address.Address.the-variants as address
 use Rattle.wire.specs.declared.refusal.Refusal.{Refusal}
 use Rattle.wire.specs.declared.refusal.Refusal.the-variants.{NoNode}
-use Rattle.command.specs.declared.Command.{Command}
+use Rattle.command.specs.declared.Place.{Place}
 use Rattle.node.specs.Setting.{place}
+use Rattle.node.specs.Effect.{groupUp}
 use Rattle.entry.specs.declared.Entry.{Entry}
 use Rattle.entry.specs.Entry.{knows}
 use Rattle.ledger.specs.Ledger.{blank}
@@ -72,6 +73,10 @@ lookNumber (seen.Refused why) = numberOf why
 -- 12: "session closed"
 unfoldable pub closedOf : Session → Bool
 closedOf s = cond (validOf s) (not (s .started)) true
+
+-- "the next address of 1, 2, .. n and second byte 0xFF": the group of power-up, and no leader
+abbrev pub givenPlace : ℕ → Place
+givenPlace k = record { address = record { 0 = k }; group = record { 0 = groupUp }; leader = false }
 
 -- the place of the walk's next node is in doubt: its Set Address is unconfirmed
 unfoldable pub askDue : Session → Bool

@@ -1,15 +1,18 @@
 // The host's session by value: what it shows, and what the calls and the reports both ask of it.
-// Promised: a look at a node; which sessions count as closed.
+// Promised: a look at a node; which sessions count as closed; the place that the walk gives.
 // Left to others: how one starts (start), sending (sending, walk, host), and closing an exchange (reports).
 use command::Command;
+use command::Place;
 use entry::Entry;
+use node::Node;
 use wire::Address;
+use wire::Group;
 use wire::Individual;
 use wire::MOST_NODES;
 use wire::Refusal;
 ghost use mathlib.Core.Path.{_≡_};
 ghost use Rattle.wire.specs.Promise.{Promise};
-ghost use Rattle.session.specs.Session.{endNumber, stepNumber, refusedStep, offChain, strayOf, validOf, closedOf, askDue, lookNumber, lookOf};
+ghost use Rattle.session.specs.Session.{endNumber, stepNumber, refusedStep, offChain, strayOf, validOf, closedOf, givenPlace, askDue, lookNumber, lookOf};
 
 // What waits for an answer: nothing, or a command that was sent to an address. The walk's Set Address has the node that it gives its number.
 pub enum Exchange {
@@ -144,6 +147,17 @@ pub fn is_closed(s: Session) -> bool
         return !s.started;
     }
     true
+}
+
+// The place that the walk gives to node k: its number, and the rest as at power-up.
+pub fn given_place(k: u8) -> Place
+    ensures { λ r. ⌜ r ≡ givenPlace k ⌝ }
+{
+    Place {
+        address: Individual(k),
+        group: Group(Node::GROUP),
+        leader: Node::LEADER,
+    }
 }
 
 // Whether the walk's next node has its place in doubt, so that "ask" is due and "next" is not.

@@ -9,7 +9,6 @@ use fields::lent;
 use fields::malformed;
 use fields::nothing;
 use fields::numbered;
-use placing::is_placing;
 use session::End;
 use session::Session;
 use session::Step;
@@ -32,7 +31,7 @@ pub struct Tried {
 // Whether s is an ORDER of a ready session: Set Address is not among its ten commands.
 fn is_ready_order(s: &[u8]) -> bool {
     if is_order(s) {
-        return !is_placing(read_command(s));
+        return !read_command(s).role().is_placing();
     }
     false
 }

@@ -6,8 +6,7 @@ use native.Mathlib.Omega.{arith}
 use Rattle.wire.specs.Numbers.{done}
 use Rattle.command.specs.declared.Command.the-variants.{SetAddress, Nop}
 use Rattle.session.specs.declared.Session.{Session}
-use Rattle.placing.specs.Placing.{givenPlace}
-use Rattle.session.specs.Session.{nodeAt, stepNumber}
+use Rattle.session.specs.Session.{nodeAt, stepNumber, givenPlace}
 use Rattle.sending.specs.declared.Check.the-variants.{Clear}
 use Rattle.walk.specs.Walk.{nextCheck, askCheck, nextOf, askOf}
 use Rattle.sending.proofs.Sent.{Sends, transmitted-sends, by-clear, node-fits, Went, went}

@@ -8,8 +8,7 @@ use Rattle.command.specs.declared.Command.the-variants.{SetAddress, Nop}
 use Rattle.command.specs.declared.Place.{Place}
 use Rattle.session.specs.declared.Session.{Session}
 use Rattle.session.specs.declared.Step.{Step}
-use Rattle.placing.specs.Placing.{givenPlace}
-use Rattle.session.specs.Session.{stepNumber, refusedStep, nodeAt}
+use Rattle.session.specs.Session.{stepNumber, refusedStep, nodeAt, givenPlace}
 use Rattle.sending.specs.declared.Check.{Check}
 use Rattle.sending.specs.declared.Check.the-variants.{Clear, Refuse}
 use Rattle.sending.specs.Sending.{transmitted}

@@ -6,10 +6,10 @@ use lib.Dec.{leb}
 use Rattle.wire.specs.Promise.{Outcome}
 use Rattle.wire.specs.declared.refusal.Refusal.the-variants.{NotDue}
 use Rattle.command.specs.declared.Command.the-variants.{SetAddress, Nop}
+use Rattle.node.specs.Effect.{addressUp}
 use Rattle.session.specs.declared.Session.{Session}
 use Rattle.session.specs.declared.Step.{Step}
-use Rattle.placing.specs.Placing.{givenPlace}
-use Rattle.session.specs.Session.{askDue, nodeAt}
+use Rattle.session.specs.Session.{givenPlace, askDue, nodeAt}
 use Rattle.sending.specs.declared.Check.{Check}
 use Rattle.sending.specs.Sending.{refuseIf, readyCheck, transmitted, byCheck}
 
@@ -23,7 +23,7 @@ askCheck s = refuseIf (refuseIf (readyCheck s) (leb (s .n) (s .walk)) NotDue) (n
 
 -- "'next' sends Set Address to 0x00 with the next address"
 unfoldable pub nextOf : Session → List ℕ → Outcome Step (List ℕ)
-nextOf s out = byCheck (nextCheck s) s out (transmitted s (nodeAt 0x00) (nodeAt (s .walk + 1)) (SetAddress (givenPlace (s .walk + 1))) out)
+nextOf s out = byCheck (nextCheck s) s out (transmitted s (nodeAt addressUp) (nodeAt (s .walk + 1)) (SetAddress (givenPlace (s .walk + 1))) out)
 
 -- "a Nop to the new address"
 unfoldable pub askOf : Session → List ℕ → Outcome Step (List ℕ)

@@ -2,12 +2,13 @@
 // Promised: the refusals in the paper's order, else "next" sends Set Address to 0x00, or "ask" a Nop to the new address; any number but 0 changes nothing.
 // Left to others: how a walk starts (start), what an answer makes of it (reports), how long to wait for one (the caller).
 use command::Command;
-use placing::given_place;
+use node::Node;
 use sending::Check;
 use sending::ready_check;
 use sending::transmit;
 use session::Session;
 use session::Step;
+use session::given_place;
 use session::is_ask_due;
 use session::refuse;
 use wire::Address;
@@ -37,7 +38,7 @@ fn ask_check(s: Session) -> Check
         .refuse_if(!is_ask_due(s), Refusal::NotDue)
 }
 
-// Set Address to 0x00 with the next address of 1, 2, .. n.
+// Set Address, to the address of power-up, 0x00, with the next address of 1, 2, .. n.
 pub fn next(s: Session, out: &mut [u8]) -> Step
     ensures { λ r. ⌜ Lending stepNumber r (now (out .exit)) (nextOf s (now (out .entry))) ⌝ }
 {
@@ -48,7 +49,7 @@ pub fn next(s: Session, out: &mut [u8]) -> Step
             let c = Command::SetAddress(given_place(k));
             transmit(
                 s,
-                Address::Individual(Individual(0)),
+                Address::Individual(Individual(Node::ADDRESS)),
                 Address::Individual(Individual(k)),
                 c,
                 out,

@@ -3,7 +3,7 @@ use borrow.Author.Needs.{needs}
 use Prim.Native.Nat.{ℕ}
 use mathlib.Core.Bool.{Bool, true, false}
 use mathlib.Core.List.{List}
-use mathlib.Core.Path.{_≡_, sym, _∙_}
+use mathlib.Core.Path.{_≡_, sym, ap, _∙_}
 use Rattle.wire.specs.Promise.{Lending, lent}
 use Rattle.wire.specs.Address.{inRange, byteOf}
 use Rattle.buffer.specs.Buffer.{builtNumber, place}
@@ -11,8 +11,10 @@ use Rattle.wire.specs.declared.address.Address.{Address}
 use Rattle.wire.specs.declared.refusal.Refusal.the-variants.{Range}
 use Rattle.buffer.specs.declared.Built.{Built}
 use Rattle.buffer.specs.declared.Built.the-variants.{Refused}
-use Rattle.command.specs.Build.{fitsOf, packetTo, buildFor, commandBuilt}
+use Rattle.command.specs.Build.{fitsBy, fitsOf, packetTo, buildFor, commandBuilt}
+use Rattle.command.specs.Role.{roleOf}
 use Rattle.command.specs.declared.Command.{Command}
+use Rattle.command.specs.declared.Role.{Role}
 use Rattle.command.proofs.build.Statement.{statement}
 use Rattle.command.proofs.build.Tie as tie
 
@@ -21,7 +23,10 @@ module _ (to : Address) (k : Command) (out : List ℕ) (ok : Bool) (e : ok ≡ i
   unfolding commandBuilt
   no-address h = lent (rw (sym e ∙ h))
 
-  module _ (yes : ok ≡ true) (fit : Bool) (f : fit ≡ fitsOf k) where
+  module _ (yes : ok ≡ true) (role : Role) (p : role ≡ roleOf k) (fit : Bool) (q : fit ≡ fitsBy role) where
+    f : fit ≡ fitsOf k
+    f = q ∙ ap (λ (x : Role). fitsBy x) p
+
     unfit : fit ≡ false → Lending builtNumber (Refused Range) out (commandBuilt to k out)
     unfolding commandBuilt buildFor
     unfit h = lent (rw (sym e ∙ yes, sym f ∙ h))
@@ -35,6 +40,7 @@ pub build-spec : {M : Type 1} → statement M
 build-spec =
     tie.close
     (tie.spec
+    (λ c κs. search needs)
     (λ c κs. search needs)
     (λ c κs. search needs)
     (λ c κs. search needs)

@@ -21,9 +21,9 @@ start c = (omega arith, least-31 _ _ (c .least .ensures), search needs, refl)
 
 again : tie.Need-loop-again Inv-loop μ-loop
 again c =
-    let w : _ = c .before .before .before .before .loop .inv in
-    let a : _ = c .before .before .before .before .before .before .args in
-    (omega arith, w .1, w .2, settle-turn (a .answer) (a .to) (a .c) _ (a .entries) _ _ _ blank (w .3) (c .before .reach .ensures) (c .note .ensures) (omega arith))
+    let w : _ = c .before .before .before .before .before .loop .inv in
+    let a : _ = c .before .before .before .before .before .before .before .args in
+    (omega arith, w .1, w .2, settle-turn (a .answer) (a .to) (a .c) _ (a .entries) _ _ _ blank (w .3) (c .before .reach-by .ensures) (c .note .ensures) (omega arith))
 
 done : tie.Need-returns Inv-loop μ-loop
 done c =

@@ -11,6 +11,7 @@ is-asking-spec =
     (λ c κs. search needs)
     (λ c κs. search needs)
     (λ c κs. search needs)
+    (λ c κs. search needs)
     (λ c. search asking-by)
     (λ c. search asking-other)
     (λ c. search asking-not))

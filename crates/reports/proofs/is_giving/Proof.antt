@@ -10,5 +10,6 @@ is-giving-spec =
     (tie.spec
     (λ c κs. search needs)
     (λ c κs. search needs)
+    (λ c κs. search needs)
     (λ c. search giving-by)
     (λ c. search giving-not))

@@ -10,5 +10,6 @@ open-exchange-spec =
     (tie.spec
     (λ c κs. search needs)
     (λ c κs. search needs)
+    (λ c κs. search needs)
     (λ c. search reset-closes)
     (λ c. search other-waits))

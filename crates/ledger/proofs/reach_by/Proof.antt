@@ -1,11 +1,11 @@
 -- One law for each exit.
 use borrow.Author.Needs.{needs}
 use Rattle.ledger.proofs.Nodes.{its-node, other-node, its-group, other-group, some-group}
-use Rattle.ledger.proofs.reach.Statement.{statement}
-use Rattle.ledger.proofs.reach.Tie as tie
+use Rattle.ledger.proofs.reach_by.Statement.{statement}
+use Rattle.ledger.proofs.reach_by.Tie as tie
 
-pub reach-spec : {M : Type 1} → statement M
-reach-spec =
+pub reach-by-spec : {M : Type 1} → statement M
+reach-by-spec =
     tie.close
     (tie.spec
     (λ c. search needs)

@@ -1,0 +1,47 @@
+-- What a command is beside its data: one table. Whatever treats some commands alike goes by the role, so that a new command is one line here.
+use mathlib.Core.Bool.{Bool, true, false}
+use Rattle.command.specs.declared.Command.{Command}
+use Rattle.command.specs.declared.Command.the-variants.{SetAddress, DefineStatus, ReadStatus, SetPwm, SynchOutput, SetOutputs, SetSynchOutput, SetTimerMode, SynchInput, Nop, HardReset}
+use Rattle.command.specs.declared.Role.{Role}
+use Rattle.command.specs.declared.Role.the-variants.{Plain, Places, Masks, Captures, Idles, Resets}
+
+-- Set Address places, Read Status has its own mask, Synch Input captures, Hard Reset resets; Nop does nothing, and the others store or copy settings, no more
+abbrev pub roleOf : Command → Role
+roleOf (SetAddress p) = Places p
+roleOf (DefineStatus m) = Plain
+roleOf (ReadStatus m) = Masks m
+roleOf (SetPwm w) = Plain
+roleOf SynchOutput = Plain
+roleOf (SetOutputs w) = Plain
+roleOf (SetSynchOutput h) = Plain
+roleOf (SetTimerMode m) = Plain
+roleOf SynchInput = Captures
+roleOf Nop = Idles
+roleOf HardReset = Resets
+
+-- Set Address: sent by "next" and by "regroup" alone
+abbrev pub isPlacing : Role → Bool
+isPlacing Plain = false
+isPlacing (Places p) = true
+isPlacing (Masks m) = false
+isPlacing Captures = false
+isPlacing Idles = false
+isPlacing Resets = false
+
+-- Nop: what "ask" sends
+abbrev pub isNop : Role → Bool
+isNop Plain = false
+isNop (Places p) = false
+isNop (Masks m) = false
+isNop Captures = false
+isNop Idles = true
+isNop Resets = false
+
+-- Hard Reset: it "sends no reply", and "closes the session"
+abbrev pub isReset : Role → Bool
+isReset Plain = false
+isReset (Places p) = false
+isReset (Masks m) = false
+isReset Captures = false
+isReset Idles = false
+isReset Resets = true

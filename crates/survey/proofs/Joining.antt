@@ -3,7 +3,6 @@ use Prim.Native.Nat.{ℕ, zero, suc, _≤_, _<_}
 use mathlib.Core.Bool.{Bool, true, false, cond, _&&_}
 use mathlib.Core.List.{List, [], _∷_}
 use mathlib.Core.Path.{_≡_, refl, sym, ap, _∙_}
-use native.Mathlib.Omega.{arith}
 use native.Mathlib.Nat.{not-suc-le-zero, le-of-suc-le-suc}
 use lib.Dec.{leb}
 use lib.ListN.{length, getD}
@@ -41,7 +40,7 @@ use Rattle.survey.specs.Decision.{decidedBuilt, decidedOne, decidedBy, d
 use Rattle.survey.specs.Delivery.{Lent, valid, onBuilt, onSaid, deliveredTo, onFrame, deliveredOn, refused, deliveryNumber}
 use Rattle.survey.proofs.Flags.{flags, setOf, seen-acting, seen-replying, seen-sound, repliers-are, actors-turn}
 use Rattle.survey.proofs.Visiting.{visit-none}
-use Rattle.survey.proofs.Meaning.{replier-below}
+use Rattle.survey.proofs.Meaning.{none-one, replier-below}
 
 -- what a decision comes to, on the nodes ns
 abbrev came : Outcome Decided (List ℕ) → List Node → Outcome Delivery Lent
@@ -69,9 +68,6 @@ module _ (to : Address) (h : Heard) (ns : List Node) (out : List ℕ) (acting : 
   by-replier None b = rw acted
   by-replier (One i) b = rw (getD-any ns i nobody blank (b i refl)) (by-built (place (replyOf h (getD ns i blank)) out .answer) (place (replyOf h (getD ns i blank)) out .left))
   by-replier Several b = rw acted
-
-none-one : (i : ℕ) → None ≡ One i → ⊥
-none-one i e = let z : _≡_ {A = ℕ} 0 1 = cc in omega arith
 
 -- who replies, if the packet is answered at all
 answered : (h : Heard) (ns : List Node) (b : Bool) (r : Replier) → cond b (saidBy h ns r) silence ≡ saidBy h ns (cond b r None)

@@ -125,7 +125,7 @@ shift to near n ns i m f = record {
   back zero y = y
   back (suc j) y = y
 
-none-one : (m : ℕ) → None ≡ One m → ⊥
+pub none-one : (m : ℕ) → None ≡ One m → ⊥
 none-one m e = let z : _≡_ {A = ℕ} 0 1 = cc in omega arith
 
 alone : (i m : ℕ) (rest : List ℕ) → replierOf (i ∷ rest) ≡ One m → m ≡ i

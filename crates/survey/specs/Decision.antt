@@ -1,4 +1,4 @@
--- How a delivery is decided by its plan, and how those that act are gone through.
+-- How a delivery is done; the paper does not speak of it. How it is decided by its plan, and how those that act are gone through.
 use Prim.Native.Nat.{ℕ, _/_, _%_}
 use mathlib.Core.Bool.{cond}
 use mathlib.Core.List.{List, [], _∷_}

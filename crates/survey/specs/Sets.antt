@@ -1,4 +1,4 @@
--- A set of nodes is a number: node i is in it exactly if its binary digit i, counted from the lowest, is 1.
+-- How a delivery is done; the paper does not speak of it. A set of nodes is a number: node i is in it exactly if its binary digit i, counted from the lowest, is 1.
 use Prim.Native.Nat.{ℕ, zero, suc, _+_, _-_, _/_, _%_, _^_}
 use mathlib.Core.Bool.{Bool, cond}
 use mathlib.Core.List.{List, [], _∷_}

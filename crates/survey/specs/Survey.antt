@@ -1,4 +1,4 @@
--- How a delivery comes by its plan: a look at each node in order, then the tests of document 01 in their order.
+-- How a delivery is done; the paper does not speak of it. How it comes by its plan: a look at each node in order, then the tests of document 01 in their order.
 use Prim.Native.Nat.{ℕ, _+_, _%_, _^_}
 use mathlib.Core.Bool.{Bool, true, cond, _&&_}
 use mathlib.Core.List.{List, [], _∷_}

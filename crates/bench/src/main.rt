@@ -13,6 +13,7 @@ fn input_room() -> [u8; 65537]
 }
 
 // Room for the longest output (script/proofs/Bound).
+// A function of its own, as its sister: an array of this length in `main` exhausts the check.
 fn output_room() -> [u8; 655360]
     ensures { λ r. ⌜ 655360 ≡ length r ⌝ }
 {

@@ -35,6 +35,7 @@ pub struct Held {
     pub pwm: Pwm,
 }
 
+// A match on it has an arm for each case, and no `_`, which would leave a proof only the number of the case.
 pub enum Command {
     SetAddress(Place),
     DefineStatus(u8),

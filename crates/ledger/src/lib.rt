@@ -21,6 +21,7 @@ pub fn power_up() -> [Entry; MOST_NODES]
 }
 
 // n, or 31 where n is more: how many entries n counts.
+// So a loop stays within the record, for every n.
 fn least(n: u8) -> u8
     ensures { λ r. ⌜ r ≡ leastOf n ⌝ }
 {

@@ -71,6 +71,7 @@ impl Node {
     }
 
     // The node after a command.
+    // A field goes through a local, here and below: there is no plan for a store to a field of a field.
     fn act(self, c: Command) -> Node
         ensures { λ r. ⌜ r ≡ acted c self ⌝ }
     {

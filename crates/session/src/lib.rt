@@ -161,6 +161,7 @@ pub fn given_place(k: u8) -> Place
 }
 
 // Whether the walk's next node has its place in doubt, so that "ask" is due and "next" is not.
+// The test for 30 keeps the index within the record: of a walk of 31 there is no next node.
 pub fn is_ask_due(s: Session) -> bool
     ensures { λ r. ⌜ r ≡ askDue s ⌝ }
 {

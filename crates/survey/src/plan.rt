@@ -146,6 +146,7 @@ pub fn plan_of(incoming: Incoming, seen: Seen, n: usize) -> Plan
 }
 
 // The index of the node that replies; 32, past every chain, where none does alone.
+// A number and no enum: the walk over the lent table takes it as an index in its next line.
 pub fn speaker(p: Plan) -> usize
     ensures { λ r. ⌜ r ≡ speakerOf p ⌝ }
 {
@@ -159,6 +160,7 @@ pub fn speaker(p: Plan) -> usize
     }
 }
 
+// Apart from `speaker`, since a match within a match makes long proofs.
 fn speaker_in(r: Replier) -> usize
     ensures { λ i. ⌜ i ≡ speakerIn r ⌝ }
 {

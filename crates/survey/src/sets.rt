@@ -21,6 +21,7 @@ pub(crate) fn join(set: u32, weight: u32, joins: bool) -> u32
 }
 
 // The first node of the set; 32 if it has none.
+// 32 is past every chain, so that the walk over the lent table needs no second test.
 pub fn first(set: u32) -> usize
     ensures { λ r. ⌜ r ≡ firstOf set ⌝ }
 {

@@ -21,6 +21,7 @@ pub struct Delivered {
 }
 
 // n, or 33 where n is more: how many records n counts.
+// So the part that is lent lies within the array, for every count.
 fn least(n: usize) -> usize
     ensures { λ r. ⌜ r ≡ leastOf n ⌝ }
 {
@@ -31,6 +32,7 @@ fn least(n: usize) -> usize
 }
 
 // The nodes, their count and the answer, as one.
+// A function of its own, since `lend` is walked by hand, and a literal of a large struct is the costly part of a check.
 fn delivered_of(nodes: [Node; 33], count: usize, answer: Delivery) -> Delivered
     ensures { λ r. ⌜ r ≡ deliveredWith nodes count answer ⌝ }
 {

@@ -1,6 +1,6 @@
 -- Document 01, "Examples": what an example is, and when it holds. Each kind is held to the definitions that the contracts cite.
 use Prim.Native.Nat.{ℕ}
-use mathlib.Core.Bool.{Bool, true}
+use mathlib.Core.Bool.{Bool, true, false}
 use mathlib.Core.List.{List, [], _∷_}
 use mathlib.Core.Path.{_≡_}
 use lib.ListN.{replicate}
@@ -18,6 +18,7 @@ use Rattle.command.specs.Command.{ReadsAs}
 use Rattle.command.specs.Build.{codeOf, bytesOf, commandBuilt}
 use Rattle.status.specs.declared.Answer.the-variants.{Silent}
 use Rattle.node.specs.declared.state.Settings.{Settings}
+use Rattle.node.specs.Effect.{settingsUp}
 use Rattle.entry.specs.declared.Known.{Known}
 use Rattle.entry.specs.declared.Entry.{Entry}
 use Rattle.session.specs.declared.Exchange.{Exchange}
@@ -73,6 +74,10 @@ settingsWith place outputs = record {
 -- and its entry, with what is known
 abbrev pub entryWith : Place → ℕ → Known → Entry
 entryWith place outputs known = record { settings = settingsWith place outputs; known = known }
+
+-- a node at power-up whose place, and nothing else, is in doubt
+abbrev pub placeInDoubt : Entry
+placeInDoubt = entryWith (settingsUp .place) 0 (record { place = false; mask = true; outputs = true; pwm = true; held = true; timer = true })
 
 -- a node that was given its address and nothing else
 abbrev pub addressed : ℕ → Entry

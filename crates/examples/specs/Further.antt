@@ -7,7 +7,7 @@ use Rattle.command.specs.declared.Command.the-variants.{SynchOutput, SetSynchOu
 use Rattle.entry.specs.declared.Entry.{Entry}
 use Rattle.entry.specs.Entry.{entryUp}
 use Rattle.session.specs.Session.{nodeAt, givenPlace}
-use Rattle.examples.specs.Example.{next, ask, order, regroup, silence, reply, knownBut, entryWith, addressed, Shown, ready, Example, number, course, Hold}
+use Rattle.examples.specs.Example.{next, ask, order, regroup, silence, reply, knownBut, entryWith, placeInDoubt, addressed, Shown, ready, Example, number, course, Hold}
 use Rattle.examples.specs.Starred.{fresh}
 
 -- a held set
@@ -26,11 +26,7 @@ abbrev pub up : Shown
 up = record { walk = 0; first = entryUp; second = entryUp }
 
 abbrev pub unplaced : Shown
-unplaced = record {
-  walk = 0;
-  first = record { settings = entryUp .settings; known = record { place = false; mask = true; outputs = true; pwm = true; held = true; timer = true } };
-  second = entryUp;
-}
+unplaced = record { walk = 0; first = placeInDoubt; second = entryUp }
 
 abbrev pub confirmed1 : Shown
 confirmed1 = record { walk = 1; first = addressed 1; second = entryUp }

@@ -23,7 +23,7 @@ use Rattle.reply.specs.Reply.{replyOf}
 use Rattle.survey.specs.One.{acts, replies, turned}
 use Rattle.survey.specs.Chain.{blank, after, replierIn, reply, said}
 use Rattle.entry.specs.declared.Entry.{Entry}
-use Rattle.entry.specs.Entry.{entryUp, doubted}
+use Rattle.entry.specs.Entry.{entryUp}
 use Rattle.ledger.specs.Ledger.{ledgerUp, leastOf, eachFrom, settled}
 use Rattle.session.specs.declared.Exchange.the-variants.{Idle, Waiting}
 use Rattle.session.specs.declared.Session.{Session}
@@ -33,7 +33,7 @@ use Rattle.sending.specs.Sending.{waitingOf, readyCheck, opened, transmitted}
 use Rattle.walk.specs.Walk.{nextCheck, askCheck, nextOf, askOf}
 use Rattle.host.specs.Calls.{orderCheck, orderOf}
 use Rattle.reports.specs.Report.{giving, asking, concluded, finished, reportOf}
-use Rattle.examples.specs.Example.{buffer, knownBut, entryWith, addressed, pair, settingsWith}
+use Rattle.examples.specs.Example.{buffer, knownBut, entryWith, placeInDoubt, addressed, pair}
 use Rattle.line.specs.History.{Sending, Sent, gives, asks, sends}
 use Rattle.line.specs.Call as calls
 use Rattle.line.specs.Line.{Line, quiet, going, Arrival, came, Arrives, Returns, nodesAfter, saidAfter, reportedOf, heardIn}
@@ -72,10 +72,6 @@ set5 = 0xAA ∷ 0x02 ∷ 0x26 ∷ 0x05 ∷ 0x00 ∷ 0x2D ∷ []
 abbrev good : List ℕ
 good = 0x00 ∷ 0x00 ∷ []
 
--- the entry of a node whose place alone is in doubt
-abbrev doubtful : Entry
-doubtful = doubted (SetAddress (givenPlace 1)) entryUp
-
 -- one exchange: the call, the packet as it arrives, the reply as it comes, the report
 round : {w : World} → Comes w → (k : calls.Call) → calls.Typed k → (s t : Session) (ns ms : List Node) (past : List Sent) (what : Sending) (p : List ℕ)
     (q : Arrival) (r : Option (List ℕ)) (a : Answer) → called k buffer w ≡ worldAt s ns (going what p) past → Arrives p q → Returns (saidAfter q ns) r
@@ -100,8 +96,8 @@ module _ (es : List Entry) where
   unfolding nextOf nextCheck readyCheck closedOf validOf waitingOf askDue transmitted opened commandBuilt buildFor place total
   next-2 past = refl
 
-  ask-1 : (past : List Sent) → called calls.ask buffer (worldAt (pair 0 Idle doubtful entryUp es) (placed 1 0 ∷ up ∷ []) quiet past)
-      ≡ worldAt (pair 0 (Waiting (nodeAt 1) Nop) doubtful entryUp es) (placed 1 0 ∷ up ∷ []) (going (asks 1) nop1) past
+  ask-1 : (past : List Sent) → called calls.ask buffer (worldAt (pair 0 Idle placeInDoubt entryUp es) (placed 1 0 ∷ up ∷ []) quiet past)
+      ≡ worldAt (pair 0 (Waiting (nodeAt 1) Nop) placeInDoubt entryUp es) (placed 1 0 ∷ up ∷ []) (going (asks 1) nop1) past
   unfolding askOf askCheck readyCheck closedOf validOf waitingOf askDue transmitted opened commandBuilt buildFor place total
   ask-1 past = refl
 
@@ -115,11 +111,11 @@ module _ (es : List Entry) where
   unfolding reportOf finished closedOf validOf concluded giving asking settled eachFrom leastOf judged endsInSum total
   good-1 = refl
 
-  silent-1 : reportedOf (pair 0 (Waiting (nodeAt 1) (SetAddress (givenPlace 1))) entryUp entryUp es) none .session ≡ pair 0 Idle doubtful entryUp es
+  silent-1 : reportedOf (pair 0 (Waiting (nodeAt 1) (SetAddress (givenPlace 1))) entryUp entryUp es) none .session ≡ pair 0 Idle placeInDoubt entryUp es
   unfolding finished closedOf validOf concluded giving asking settled eachFrom leastOf
   silent-1 = refl
 
-  good-ask : reportedOf (pair 0 (Waiting (nodeAt 1) Nop) doubtful entryUp es) (some good) .session ≡ pair 1 Idle (addressed 1) entryUp es
+  good-ask : reportedOf (pair 0 (Waiting (nodeAt 1) Nop) placeInDoubt entryUp es) (some good) .session ≡ pair 1 Idle (addressed 1) entryUp es
   unfolding reportOf finished closedOf validOf concluded giving asking askDue settled eachFrom leastOf judged endsInSum total
   good-ask = refl
 
@@ -175,7 +171,7 @@ unfolding frameOf dataOf intactOf endsInSum total readingOf rowsOf said replierI
 says-5 old = refl
 
 -- the first "next": the reply is lost; "ask" is replied to
-unanswered : Comes (worldAt (pair 0 Idle doubtful entryUp rest) (placed 1 0 ∷ up ∷ []) quiet unasked)
+unanswered : Comes (worldAt (pair 0 Idle placeInDoubt entryUp rest) (placed 1 0 ∷ up ∷ []) quiet unasked)
 unanswered =
     round powers calls.next tt _ _ (up ∷ up ∷ []) _ [] (gives 1) (given 1) (came (given 1)) none Silent (next-1 rest) line.whole (rw says-1 (line.lost line.unheard))
     takes-1 (silent-1 rest) refl

@@ -47,12 +47,12 @@ module _ (rest : List Entry) where
   pub starred : Starred rest
   unfolding total endsInSum dataOf frameOf intactOf readOf buildOf rowsOf readingOf buildFor commandBuilt
   starred =
-      (record { built = λ out. refl; packed = λ out. refl; reads = record { command = 0xE; count = 0; whole = refl; known = refl } }) and
-      (record { built = λ out. refl; packed = λ out. refl; reads = record { command = 0x1; count = 2; whole = refl; known = refl } }) and
-      (record { built = λ out. refl; packed = λ out. refl; reads = record { command = 0x3; count = 1; whole = refl; known = refl } }) and
-      (record { built = λ out. refl; packed = λ out. refl; reads = record { command = 0x6; count = 2; whole = refl; known = refl } }) and
-      (record { built = λ out. refl; packed = λ out. refl; reads = record { command = 0x5; count = 0; whole = refl; known = refl } }) and
-      (record { built = λ out. refl; packed = λ out. refl; reads = record { command = 0x1; count = 2; whole = refl; known = refl } }) and
+      (record { built = λ out. refl; packed = λ out. refl; reads = record { command = 0xE; end = 4; whole = refl; known = refl } }) and
+      (record { built = λ out. refl; packed = λ out. refl; reads = record { command = 0x1; end = 6; whole = refl; known = refl } }) and
+      (record { built = λ out. refl; packed = λ out. refl; reads = record { command = 0x3; end = 5; whole = refl; known = refl } }) and
+      (record { built = λ out. refl; packed = λ out. refl; reads = record { command = 0x6; end = 6; whole = refl; known = refl } }) and
+      (record { built = λ out. refl; packed = λ out. refl; reads = record { command = 0x5; end = 4; whole = refl; known = refl } }) and
+      (record { built = λ out. refl; packed = λ out. refl; reads = record { command = 0x1; end = 6; whole = refl; known = refl } }) and
       refl and
       refl and
       refl and

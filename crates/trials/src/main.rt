@@ -63,10 +63,7 @@ fn answer(kind: u8, args: &[u8]) -> Answer {
 fn attempt(s: Session, kind: u8, args: &[u8]) -> Tried {
     match kind {
         0x30..=0x38 => tryhost::attempt(s, kind, args),
-        _ => Tried {
-            answer: answer(kind, args),
-            session: s,
-        },
+        _ => tryhost::with_session(answer(kind, args), s),
     }
 }
 

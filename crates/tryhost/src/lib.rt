@@ -28,6 +28,11 @@ pub struct Tried {
     pub session: Session,
 }
 
+// Both in one: a literal of structs so large is dear to check, so it stands here alone.
+pub fn with_session(answer: Answer, session: Session) -> Tried {
+    Tried { answer, session }
+}
+
 // Whether s is an ORDER of a ready session: Set Address is not among its ten commands.
 fn is_ready_order(s: &[u8]) -> bool {
     if is_order(s) {
@@ -111,11 +116,7 @@ fn call(s: Session, kind: u8, args: &[u8], lent: &mut [u8]) -> Step {
 fn called(s: Session, kind: u8, args: &[u8], lent: &mut [u8]) -> Tried {
     let step = call(s, kind, args, lent);
     let end = step.end;
-    let session = step.session;
-    Tried {
-        answer: numbered(end.number(), lent),
-        session,
-    }
+    with_session(numbered(end.number(), lent), step.session)
 }
 
 // Makes it with what it lends: only the calls that send have a room.
@@ -144,5 +145,5 @@ pub fn attempt(s: Session, kind: u8, args: &[u8]) -> Tried {
         0x37 => show(s, args),
         _ => malformed(),
     };
-    Tried { answer, session: s }
+    with_session(answer, s)
 }

@@ -10,6 +10,7 @@ use borrow.Author.Tests.{eqb-true, ltb-true, ltb-false, le-leb}
 use Rattle.wire.specs.Address.{isIndividual}
 use Rattle.buffer.specs.Change.{AllBytes}
 use Rattle.wire.proofs.Choice.{chose-first}
+use Rattle.wire.proofs.Impossible.{impossible}
 use Rattle.command.specs.Command.{wordOf, placeOf, rowsOf}
 use Rattle.command.specs.Build.{codeOf, bytesOf, fitsOf, placeFits, groupByte, Typed}
 use Rattle.command.specs.declared.Command.{Command}
@@ -40,7 +41,7 @@ pub record Says (k n : ℕ) (d : List ℕ) (c : Command) : Type 0 where
   pub typed : Typed c
 
 other-not : {c : Command} → Other ≡ Known c → ⊥
-other-not e = let z : _≡_ {A = ℕ} 0 1 = cc in omega arith
+other-not e = impossible cc
 
 -- a command that is read is read by this row, or by those behind it
 met : {G : Type 0} (t u : Bool) {r rest : Reading} {c : Command} → cond t (cond u r Other) rest ≡ Known c

@@ -1,6 +1,7 @@
 -- A confirmed command by one law for all settings: each value is picked by its flag.
-use mathlib.Core.Bool.{Bool, true, false, cond}
+use mathlib.Core.Bool.{true, cond}
 use mathlib.Core.Path.{_≡_, refl, sym, ap, _∙_}
+use Rattle.wire.proofs.Choice.{same}
 use Rattle.command.specs.declared.Command.{Command}
 use Rattle.node.specs.declared.state.Settings.{Settings}
 use Rattle.node.specs.Setting.{Setting, Value, make, get-make, make-same}
@@ -9,12 +10,8 @@ use Rattle.entry.specs.declared.Known.{Known}
 use Rattle.entry.specs.declared.Entry.{Entry}
 use Rattle.entry.specs.Entry.{flag, shows, newFlag, newValue, marked, confirmed, blendOf}
 
-either-way : {A : Type 0} (b : Bool) (x : A) → cond b x x ≡ x
-either-way true x = refl
-either-way false x = refl
-
 picked : {s : Setting} (f : Effect s) (e : Entry) → cond (newFlag true f (e .known)) (applied f (e .settings)) (shows e s) ≡ newValue f e
-picked {s} keeps e = either-way (flag (e .known) s) (shows e s)
+picked {s} keeps e = same (flag (e .known) s) (shows e s)
 picked (stores v) e = refl
 picked (copies t f) e = refl
 

@@ -1,10 +1,9 @@
 -- What a clear check says: each of its tests failed.
-use Prim.Native.Nat.{ℕ}
 use mathlib.Core.Bool.{Bool, true, false, true≢false}
 use mathlib.Core.Path.{_≡_, refl}
-use native.Mathlib.Omega.{arith}
 use Rattle.wire.specs.declared.refusal.Refusal.{Refusal}
 use Rattle.wire.specs.declared.refusal.Refusal.the-variants.{Busy, Closed}
+use Rattle.wire.proofs.Impossible.{impossible}
 use Rattle.session.specs.declared.Exchange.{Exchange}
 use Rattle.session.specs.declared.Exchange.the-variants.{Idle, Waiting}
 use Rattle.session.specs.declared.Session.{Session}
@@ -20,8 +19,8 @@ pub record Passed (k : Check) (test : Bool) : Type 0 where
   pub failed : test ≡ false
 
 pub passed : (k : Check) (test : Bool) (why : Refusal) → refuseIf k test why ≡ Clear → Passed k test
-passed (Refuse first) test why h = absurd (let z : _≡_ {A = ℕ} 0 1 = cc in omega arith)
-passed Clear true why h = absurd (let z : _≡_ {A = ℕ} 0 1 = cc in omega arith)
+passed (Refuse first) test why h = impossible cc
+passed Clear true why h = impossible cc
 passed Clear false why h = record { before = refl; failed = refl }
 
 -- a started session with nothing on the line

@@ -6,6 +6,7 @@ use mathlib.Core.Path.{_≡_, refl}
 use native.Mathlib.Omega.{arith}
 use lib.ListN.{length, getD}
 use Rattle.wire.specs.declared.address.Address.{Address}
+use Rattle.wire.proofs.Impossible.{impossible}
 use Rattle.node.specs.declared.state.Node.{Node}
 use Rattle.heard.specs.declared.Heard.{Heard}
 use Rattle.heard.specs.Heard.{isAnswered}
@@ -28,7 +29,7 @@ record Some (to : Address) (near : Bool) (l : List Node) : Type 0 where
   replying : At to near l index
 
 some-from : (to : Address) (i : ℕ) (near : Bool) (l : List Node) (m : ℕ) (rest : List ℕ) → repliersFrom to i near l ≡ m ∷ rest → Some to near l
-some-from to i near [] m rest e = let z : _≡_ {A = ℕ} 0 1 = cc in absurd (omega arith)
+some-from to i near [] m rest e = impossible cc
 some-from to i near (n ∷ ns) m rest e = go (replies to near n) refl (some-from to (suc i) (n .addressed) ns m rest) e
   where
     go : (t : Bool) → replies to near n ≡ t → (repliersFrom to (suc i) (n .addressed) ns ≡ m ∷ rest → Some to (n .addressed) ns)
@@ -47,12 +48,12 @@ record Pair (to : Address) (near : Bool) (l : List Node) : Type 0 where
   two : At to near l second
 
 pair-from : (to : Address) (i : ℕ) (near : Bool) (l : List Node) → replierOf (repliersFrom to i near l) ≡ Several → Pair to near l
-pair-from to i near [] e = let z : _≡_ {A = ℕ} 0 1 = cc in absurd (omega arith)
+pair-from to i near [] e = impossible cc
 pair-from to i near (n ∷ ns) e = go (replies to near n) refl (pair-from to (suc i) (n .addressed) ns) (repliersFrom to (suc i) (n .addressed) ns) refl e
   where
     go : (t : Bool) → replies to near n ≡ t → (replierOf (repliersFrom to (suc i) (n .addressed) ns) ≡ Several → Pair to (n .addressed) ns)
         → (l : List ℕ) → repliersFrom to (suc i) (n .addressed) ns ≡ l → replierOf (cond t (i ∷ l) l) ≡ Several → Pair to near (n ∷ ns)
-    go true y later [] q f = let z : _≡_ {A = ℕ} 0 1 = cc in absurd (omega arith)
+    go true y later [] q f = impossible cc
     go true y later (m ∷ rest) q f =
         let s = some-from to (suc i) (n .addressed) ns m rest q in
         record { first = 0; second = suc (s .index); apart = omega arith; inside = omega (arith, s .inside); one = y; two = shift to near n ns (s .index) (s .replying) }
@@ -68,10 +69,10 @@ pair-from to i near (n ∷ ns) e = go (replies to near n) refl (pair-from to (su
         }
 
 several : (h : Heard) (l : List Node) (t : Bool) (r : Replier) → cond t (saidBy h l r) silence ≡ clash → r ≡ Several
-several h l true None e = let z : _≡_ {A = ℕ} 0 1 = cc in absurd (omega arith)
-several h l true (One i) e = let z : _≡_ {A = ℕ} 0 1 = cc in absurd (omega arith)
+several h l true None e = impossible cc
+several h l true (One i) e = impossible cc
 several h l true Several e = refl
-several h l false r e = let z : _≡_ {A = ℕ} 0 1 = cc in absurd (omega arith)
+several h l false r e = impossible cc
 
 -- two nodes that hear and answer
 pub record Two (to : Address) (l : List Node) : Type 0 where

@@ -12,6 +12,7 @@ use Rattle.wire.specs.Promise.{Outcome}
 use Rattle.buffer.specs.Buffer.{place}
 use Rattle.wire.specs.declared.address.Address.{Address}
 use Rattle.wire.specs.declared.refusal.Refusal.the-variants.{Short, Header, Long, Room, Range}
+use Rattle.wire.proofs.Impossible.{impossible}
 use Rattle.buffer.specs.declared.Built.{Built}
 use Rattle.buffer.specs.declared.Built.the-variants as built
 use Rattle.buffer.proofs.Writing.{place-long}
@@ -103,12 +104,12 @@ frame-whys p = go (ltb (length p) 1) (not (eqb (getD p 0 0) 0xAA)) (ltb (length 
     go : (a b c d e : Bool)
         → cond a (framed.Refused Short) (cond b (framed.Refused Header) (cond c (framed.Refused Short) (cond d (framed.Refused Short) (cond e (framed.Refused Long) (partsOf p)))))
         ≡ framed.Refused Room → ⊥
-    go true b c d e x = let z : _≡_ {A = ℕ} 0 1 = cc in omega arith
-    go false true c d e x = let z : _≡_ {A = ℕ} 0 1 = cc in omega arith
-    go false false true d e x = let z : _≡_ {A = ℕ} 0 1 = cc in omega arith
-    go false false false true e x = let z : _≡_ {A = ℕ} 0 1 = cc in omega arith
-    go false false false false true x = let z : _≡_ {A = ℕ} 0 1 = cc in omega arith
-    go false false false false false x = let z : _≡_ {A = ℕ} 0 1 = cc in omega arith
+    go true b c d e x = impossible cc
+    go false true c d e x = impossible cc
+    go false false true d e x = impossible cc
+    go false false false true e x = impossible cc
+    go false false false false true x = impossible cc
+    go false false false false false x = impossible cc
 
 module _ (ns : List Node) (out : List ℕ) (room : 19 ≤ length out) where
   reply-fits : (to : Address) (h : Heard) (r : List ℕ) → said to h ns ≡ reply r → length r ≤ length out
@@ -119,11 +120,11 @@ module _ (ns : List Node) (out : List ℕ) (room : 19 ≤ length out) where
 
   said-roomy : (s : Said) (to : Address) (h : Heard) → said to h ns ≡ s → onSaid s to h ns out .answer ≡ Refused Room → ⊥
   unfolding place
-  said-roomy silence to h e x = let z : _≡_ {A = ℕ} 0 1 = cc in omega arith
+  said-roomy silence to h e x = impossible cc
   said-roomy (reply r) to h e x =
       let y : Replied (length r) ≡ Refused Room = rw (le-ltb (length out) (length r) (reply-fits to h r e)) at x in
-      let z : _≡_ {A = ℕ} 0 1 = cc in omega arith
-  said-roomy clash to h e x = let z : _≡_ {A = ℕ} 0 1 = cc in omega arith
+      impossible cc
+  said-roomy clash to h e x = impossible cc
 
   frame-roomy : (f : Framed) (p : List ℕ) → frameOf p ≡ f → onFrame f p ns out .answer ≡ Refused Room → ⊥
   unfolding deliveredTo
@@ -138,4 +139,4 @@ module _ (ns : List Node) (out : List ℕ) (room : 19 ≤ length out) where
     where
       go : (v : Bool) → cond v (onFrame (frameOf p) p ns out) (refused Range ns out) .answer ≡ Refused Room → ⊥
       go true x = frame-roomy (frameOf p) p refl x
-      go false x = let z : _≡_ {A = ℕ} 0 1 = cc in omega arith
+      go false x = impossible cc

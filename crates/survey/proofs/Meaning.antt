@@ -8,6 +8,7 @@ use native.Mathlib.Nat.{not-suc-le-zero, le-of-suc-le-suc, add-suc, suc-add, add
 use lib.ListN.{length, getD}
 use Rattle.wire.specs.declared.address.Address.{Address}
 use Rattle.wire.proofs.Choice.{same}
+use Rattle.wire.proofs.Impossible.{impossible}
 use Rattle.node.specs.declared.state.Node.{Node}
 use Rattle.heard.specs.declared.Heard.{Heard}
 use Rattle.heard.specs.declared.Heard.the-variants.{Other, Spoilt}
@@ -126,11 +127,11 @@ shift to near n ns i m f = record {
   back (suc j) y = y
 
 pub none-one : (m : ℕ) → None ≡ One m → ⊥
-none-one m e = let z : _≡_ {A = ℕ} 0 1 = cc in omega arith
+none-one m e = impossible cc
 
 alone : (i m : ℕ) (rest : List ℕ) → replierOf (i ∷ rest) ≡ One m → m ≡ i
 alone i m [] e = cc
-alone i m (x ∷ rest) e = let z : _≡_ {A = ℕ} 0 1 = cc in absurd (omega arith)
+alone i m (x ∷ rest) e = impossible cc
 
 found-step : (to : Address) (near : Bool) (n : Node) (ns : List Node) (i m : ℕ) (t : Bool) → replies to near n ≡ t
     → (replierOf (repliersFrom to (suc i) (n .addressed) ns) ≡ One m → Found to (n .addressed) ns (suc i) m)
@@ -157,16 +158,16 @@ pub record Replying (to : Address) (h : Heard) (l : List Node) (r : List ℕ) : 
 
 replying : (to : Address) (h : Heard) (l : List Node) (r : List ℕ) (w : Replier) → replierIn to l ≡ w → isAnswered h ≡ true → saidBy h l w ≡ reply r → Replying to h l r
 unfolding replierIn replies
-replying to h l r None q a e = let z : _≡_ {A = ℕ} 0 1 = cc in absurd (omega arith)
+replying to h l r None q a e = impossible cc
 replying to h l r (One m) q a e =
     let f = found-from to 0 true l m q in
     let k : m ≡ f .at = f .index ∙ zero-add (f .at) in
     record { at = f .at; inside = f .inside; calling = f .answering; answered = a; bytes = rw (← k) (cc e) }
-replying to h l r Several q a e = let z : _≡_ {A = ℕ} 0 1 = cc in absurd (omega arith)
+replying to h l r Several q a e = impossible cc
 
 answered-by : (t : Bool) (s : Said) (r : List ℕ) → cond t s silence ≡ reply r → (t ≡ true) × (s ≡ reply r)
 answered-by true s r e = (refl, e)
-answered-by false s r e = let z : _≡_ {A = ℕ} 0 1 = cc in absurd (omega arith)
+answered-by false s r e = impossible cc
 
 pub said-says : (to : Address) (h : Heard) (l : List Node) (r : List ℕ) → said to h l ≡ reply r → Replying to h l r
 unfolding said

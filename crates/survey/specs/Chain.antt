@@ -5,6 +5,7 @@ use mathlib.Core.List.{List, [], _∷_}
 use lib.ListN.{getD}
 use Rattle.wire.specs.declared.address.Address.{Address}
 use Rattle.node.specs.declared.state.Node.{Node}
+use Rattle.node.specs.Setting.{zeroed}
 use Rattle.heard.specs.declared.Heard.{Heard}
 use Rattle.heard.specs.Heard.{isAnswered}
 use Rattle.reply.specs.Reply.{replyOf}
@@ -46,14 +47,7 @@ pub data Said : Type 0 where
 -- what an index past a list's end reads as
 abbrev pub blank : Node
 blank = record {
-  settings = record {
-    place = record { address = record { 0 = 0 }; group = record { 0 = 0 }; leader = false };
-    mask = 0;
-    outputs = 0;
-    pwm = record { first = 0; second = 0 };
-    held = record { outputs = 0; pwm = record { first = 0; second = 0 } };
-    timer = 0;
-  };
+  settings = zeroed;
   addressed = false;
   bench = record { inputs = 0; counter = 0; analog0 = 0; analog1 = 0; analog2 = 0; id = 0; version = 0 };
   captured = record { inputs = 0; counter = 0 };

@@ -9,22 +9,22 @@ use lib.Dec.{ltb}
 use lib.ListN.{length, length-append}
 use lib.Seq.{sets, sets-eq}
 use borrow.Author.Tests.{le-ltb, ltb-true, ltb-false}
-use Rattle.buffer.specs.Buffer.{putAt}
+use Rattle.buffer.specs.Buffer.{putOf}
 use Rattle.buffer.specs.Wrote.{Wrote}
 use Rattle.buffer.proofs.Writing.{put-not, length-put, sets-append}
 
-put-sets : (out : List ℕ) (at : ℕ) (d : List ℕ) → at + length d ≤ length out → putAt out at d ≡ sets out at d
-unfolding putAt
+put-sets : (out : List ℕ) (at : ℕ) (d : List ℕ) → at + length d ≤ length out → putOf out at d ≡ sets out at d
+unfolding putOf
 put-sets out at d h = rw (le-ltb (length out) (at + length d) h) (sym (sets-eq d out at h))
 
-put-keeps : (out : List ℕ) (at : ℕ) (d : List ℕ) → length (putAt out at d) ≡ length out
+put-keeps : (out : List ℕ) (at : ℕ) (d : List ℕ) → length (putOf out at d) ≡ length out
 put-keeps out at d = go (ltb (length out) (at + length d)) refl
   where
-    go : (t : Bool) → ltb (length out) (at + length d) ≡ t → length (putAt out at d) ≡ length out
+    go : (t : Bool) → ltb (length out) (at + length d) ≡ t → length (putOf out at d) ≡ length out
     go true e = ap (λ (l : List ℕ). length l) (sym (put-not out at d (ltb-true (length out) (at + length d) e)))
     go false e = length-put out at d (ltb-false (length out) (at + length d) e)
 
-pub put-wrote : (out left d : List ℕ) (at : ℕ) → left ≡ putAt out at d → Wrote d at out (at + length d) left
+pub put-wrote : (out left d : List ℕ) (at : ℕ) → left ≡ putOf out at d → Wrote d at out (at + length d) left
 put-wrote out left d at e = record {
   behind = refl;
   bytes = λ h. e ∙ put-sets out at d h;

@@ -7,7 +7,7 @@ use lib.Dec.{ltb}
 use lib.ListN.{length}
 use Rattle.wire.specs.Promise.{Outcome}
 use Rattle.wire.specs.Numbers.{done}
-use Rattle.buffer.specs.Buffer.{written, refused, place, builtNumber}
+use Rattle.buffer.specs.Buffer.{atStart, refused, written, builtNumber}
 use Rattle.wire.specs.declared.refusal.Refusal.{Refusal}
 use Rattle.wire.specs.declared.refusal.Refusal.the-variants.{Room}
 use Rattle.buffer.specs.declared.Built.{Built}
@@ -16,13 +16,13 @@ use Rattle.buffer.specs.declared.Built.{Built}
 abbrev pub Spares : List ℕ → Outcome Built (List ℕ) → Type 0
 Spares out o = (builtNumber (o .answer) ≡ done → ⊥) → o .left ≡ out
 
-chosen : (t : Bool) (p out : List ℕ) → Spares out (cond t (refused Room out) (written p out))
+chosen : (t : Bool) (p out : List ℕ) → Spares out (cond t (refused Room out) (atStart p out))
 chosen true p out n = refl
 chosen false p out n = absurd (n refl)
 
-pub place-spares : (p out : List ℕ) → Spares out (place p out)
-unfolding place
-place-spares p out = chosen (ltb (length out) (length p)) p out
+pub written-spares : (p out : List ℕ) → Spares out (written p out)
+unfolding written
+written-spares p out = chosen (ltb (length out) (length p)) p out
 
 -- a refusal by a test that comes before
 pub test-spares : (t : Bool) (why : Refusal) (out : List ℕ) (o : Outcome Built (List ℕ)) → Spares out o → Spares out (cond t (refused why out) o)

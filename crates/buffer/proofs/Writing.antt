@@ -1,4 +1,4 @@
--- A packet laid out by stores, and what placing it leaves in the buffer: `packet::build`, `status::build`.
+-- A packet laid out by stores, and what writing it leaves in the buffer: `packet::build`, `status::build`.
 use Prim.Native.Nat.{ℕ, suc, _+_, _≤_, _<_}
 use mathlib.Core.Bool.{Bool, true, false, cond}
 use mathlib.Core.Path.{_≡_, refl, sym, ap, _∙_}
@@ -10,7 +10,7 @@ use lib.ListN.{length, take, drop, set, length-append, length-drop}
 use lib.Seq.{paste, sets, sets-eq, length-sets, length-paste, take-length, take-at, drop-drop}
 use borrow.Author.Tests.{lt-ltb, le-ltb, ltb-false}
 use Rattle.wire.specs.Promise.{Outcome, Lending, lent}
-use Rattle.buffer.specs.Buffer.{putAt, written, refused, place, builtNumber}
+use Rattle.buffer.specs.Buffer.{putOf, atStart, refused, written, builtNumber}
 use Rattle.wire.specs.declared.refusal.Refusal.{Refusal}
 use Rattle.wire.specs.declared.refusal.Refusal.the-variants.{Room}
 use Rattle.buffer.specs.declared.Built.{Built}
@@ -31,16 +31,16 @@ laid-behind [] d r m h = rw zero-add (laid-tail d r m h)
 laid-behind (x ∷ p) d r m h = rw suc-add (ap (λ (l : List ℕ). x ∷ l) (laid-behind p d r m h))
 
 -- d has room, from `at` on
-pub put-fits : (out : List ℕ) (at : ℕ) (d : List ℕ) → at + length d ≤ length out → putAt out at d ≡ paste out at d (length d)
-unfolding putAt
+pub put-fits : (out : List ℕ) (at : ℕ) (d : List ℕ) → at + length d ≤ length out → putOf out at d ≡ paste out at d (length d)
+unfolding putOf
 put-fits out at d h = rw (le-ltb (length out) (at + length d) h, take-length)
 
 -- it has none
-pub put-not : (out : List ℕ) (at : ℕ) (d : List ℕ) → length out < at + length d → out ≡ putAt out at d
-unfolding putAt
+pub put-not : (out : List ℕ) (at : ℕ) (d : List ℕ) → length out < at + length d → out ≡ putOf out at d
+unfolding putOf
 put-not out at d h = rw (lt-ltb (length out) (at + length d) h)
 
-pub length-put : (out : List ℕ) (at : ℕ) (d : List ℕ) → at + length d ≤ length out → length (putAt out at d) ≡ length out
+pub length-put : (out : List ℕ) (at : ℕ) (d : List ℕ) → at + length d ≤ length out → length (putOf out at d) ≡ length out
 length-put out at d h = ap length (put-fits out at d h) ∙ length-paste out at d (length d) h (omega arith)
 
 -- d stored from the start on
@@ -48,30 +48,30 @@ pub sets-start : (out d : List ℕ) → length d ≤ length out → sets out 0 d
 sets-start out d h = rw zero-add at (sets-eq d out 0 (rw zero-add h))
 
 -- p by single stores, d put behind it, and m behind that
-pub laid : (p d out o : List ℕ) (m e : ℕ) → o ≡ putAt (sets out 0 p) (length p) d → e ≡ suc (length p + length d) → e ≤ length out
+pub laid : (p d out o : List ℕ) (m e : ℕ) → o ≡ putOf (sets out 0 p) (length p) d → e ≡ suc (length p + length d) → e ≤ length out
     → set o (length p + length d) m ≡ (p ++ (d ++ (m ∷ []))) ++ drop e out
 laid p d out o m e f g k =
     let w : length p + suc (length d) ≡ e = omega arith in
-    let r : putAt (sets out 0 p) (length p) d ≡ paste (sets out 0 p) (length p) d (length d) =
+    let r : putOf (sets out 0 p) (length p) d ≡ paste (sets out 0 p) (length p) d (length d) =
     put-fits (sets out 0 p) (length p) d (omega (arith, length-sets out 0 p)) in
     ap (λ (l : List ℕ). set l (length p + length d) m) (f ∙ r ∙ ap (λ (l : List ℕ). paste l (length p) d (length d)) (sets-start out p (omega arith)))
     ∙ laid-behind p d (drop (length p) out) m (rw length-drop (omega arith))
     ∙ ap (λ (l : List ℕ). (p ++ (d ++ (m ∷ []))) ++ l) (drop-drop (suc (length d)) (length p) out ∙ ap (λ (n : ℕ). drop n out) w)
 
 -- a packet p that is longer than the buffer
-pub no-room : (p out : List ℕ) → length out < length p → Lending builtNumber (Refused Room) out (place p out)
-unfolding place
+pub no-room : (p out : List ℕ) → length out < length p → Lending builtNumber (Refused Room) out (written p out)
+unfolding written
 no-room p out h = lent (rw (lt-ltb (length out) (length p) h))
 
 -- a packet p of n bytes that fits, and stands at the start of what is left
-pub has-room : (p out : List ℕ) (n : ℕ) (o : List ℕ) → length p ≡ n → n ≤ length out → o ≡ p ++ drop n out → Lending builtNumber (Bytes n) o (place p out)
-unfolding place
+pub has-room : (p out : List ℕ) (n : ℕ) (o : List ℕ) → length p ≡ n → n ≤ length out → o ≡ p ++ drop n out → Lending builtNumber (Bytes n) o (written p out)
+unfolding written
 has-room p out n o e h f = lent (rw (le-ltb (length out) (length p) (omega arith), e, f))
 
 -- a packet that has room is written
-pub place-written : (p out : List ℕ) → length p ≤ length out → place p out ≡ written p out
-unfolding place
-place-written p out h = rw (le-ltb (length out) (length p) h)
+pub written-fits : (p out : List ℕ) → length p ≤ length out → written p out ≡ atStart p out
+unfolding written
+written-fits p out h = rw (le-ltb (length out) (length p) h)
 
 -- a builder answered n bytes, number 0, and left this
 abbrev pub wrote : ℕ → List ℕ → Outcome Built (List ℕ)
@@ -83,23 +83,23 @@ wrote-not why out left n e =
     impossible cc
 
 -- then the first n bytes are the packet
-pub place-wrote : (p out left : List ℕ) (n : ℕ) → place p out ≡ wrote n left → take n left ≡ p
-unfolding place
-place-wrote p out left n e =
+pub written-wrote : (p out left : List ℕ) (n : ℕ) → written p out ≡ wrote n left → take n left ≡ p
+unfolding written
+written-wrote p out left n e =
     let w = chose-second (ltb (length out) (length p)) e (wrote-not Room out left n) .1 in
     let b : Bytes (length p) ≡ Bytes n = ap (λ (o : Outcome Built (List ℕ)). o .answer) w in
     rw (← (ap (λ (o : Outcome Built (List ℕ)). o .left) w)) (take-at p (drop (length p) out) n (cc))
 
-placed-long : (t : Bool) (p out : List ℕ) → ltb (length out) (length p) ≡ t → length (cond t (refused Room out) (written p out) .left) ≡ length out
-placed-long true p out e = refl
-placed-long false p out e =
+at-start-long : (t : Bool) (p out : List ℕ) → ltb (length out) (length p) ≡ t → length (cond t (refused Room out) (atStart p out) .left) ≡ length out
+at-start-long true p out e = refl
+at-start-long false p out e =
     let h : length p ≤ length out = ltb-false (length out) (length p) e in
     omega (arith, length-append p (drop (length p) out), length-drop (length p) out)
 
--- a buffer in which something was placed, or refused, keeps its length
-pub place-long : (p out : List ℕ) → length (place p out .left) ≡ length out
-unfolding place
-place-long p out = placed-long (ltb (length out) (length p)) p out refl
+-- a buffer to which something was written, or refused, keeps its length
+pub written-long : (p out : List ℕ) → length (written p out .left) ≡ length out
+unfolding written
+written-long p out = at-start-long (ltb (length out) (length p)) p out refl
 
 -- d is stored, and e behind it
 pub sets-append : (l : List ℕ) (i : ℕ) (d e : List ℕ) → sets (sets l i d) (i + length d) e ≡ sets l i (d ++ e)

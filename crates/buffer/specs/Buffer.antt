@@ -12,20 +12,20 @@ use Rattle.buffer.specs.declared.Built.{Built}
 use Rattle.buffer.specs.declared.Built.the-variants.{Bytes, Refused}
 
 -- d from `at` on, if all of it has room there; the rest stays
-unfoldable pub putAt : List ℕ → ℕ → List ℕ → List ℕ
-putAt out at d = cond (ltb (length out) (at + length d)) out (take at out ++ d ++ drop (at + length d) out)
+unfoldable pub putOf : List ℕ → ℕ → List ℕ → List ℕ
+putOf out at d = cond (ltb (length out) (at + length d)) out (take at out ++ d ++ drop (at + length d) out)
 
 -- packet p at the start of the buffer, the rest stays
-abbrev pub written : List ℕ → List ℕ → Outcome Built (List ℕ)
-written p out = record { answer = Bytes (length p); left = p ++ drop (length p) out }
+abbrev pub atStart : List ℕ → List ℕ → Outcome Built (List ℕ)
+atStart p out = record { answer = Bytes (length p); left = p ++ drop (length p) out }
 
 -- a refusal leaves the buffer as it stood
 abbrev pub refused : Refusal → List ℕ → Outcome Built (List ℕ)
 refused why out = record { answer = Refused why; left = out }
 
 -- "output buffer too small", or written
-unfoldable pub place : List ℕ → List ℕ → Outcome Built (List ℕ)
-place p out = cond (ltb (length out) (length p)) (refused Room out) (written p out)
+unfoldable pub written : List ℕ → List ℕ → Outcome Built (List ℕ)
+written p out = cond (ltb (length out) (length p)) (refused Room out) (atStart p out)
 
 -- the number of what building answers
 abbrev pub builtNumber : Built → ℕ

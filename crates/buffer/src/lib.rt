@@ -4,7 +4,7 @@
 use wire::Refusal;
 ghost use mathlib.Core.Path.{_≡_};
 ghost use Rattle.buffer.specs.Sum.{sumOf, endsInSum};
-ghost use Rattle.buffer.specs.Buffer.{builtNumber, putAt};
+ghost use Rattle.buffer.specs.Buffer.{builtNumber, putOf};
 
 // The 8-bit sum of bytes, wrapping past 255.
 pub fn sum(s: &[u8]) -> u8
@@ -51,7 +51,7 @@ impl Built {
 
 // Copies `src` into `out` from `at` on, if all of it has room there.
 pub fn put(out: &mut [u8], at: usize, src: &[u8])
-    ensures { λ _. ⌜ now (out .exit) ≡ putAt (now (out .entry)) at (now (src .entry)) ⌝ }
+    ensures { λ _. ⌜ now (out .exit) ≡ putOf (now (out .entry)) at (now (src .entry)) ⌝ }
 {
     if out.len() < at {
         return;

@@ -1,5 +1,5 @@
 pub mod Walk
 pub mod Record
-pub mod Seeing
-pub mod Shared
+mod Seeing
+mod Shared
 pub mod Unique

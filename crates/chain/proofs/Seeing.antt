@@ -9,7 +9,7 @@ use Rattle.survey.specs.declared.plan.Incoming.{Incoming}
 use Rattle.survey.specs.declared.plan.Plan.{Plan}
 use Rattle.survey.specs.declared.plan.Seen.{Seen}
 use Rattle.survey.specs.declared.plan.Survey.{Survey}
-use Rattle.survey.specs.Survey.{glanceOf, glancesOf, start, planOf, speakerOf, surveyWith, surveyAlone, surveyOf, nobody}
+use Rattle.survey.specs.Survey.{glanceOf, glancesOf, chainStart, planOf, speakerOf, surveyWith, surveyAlone, surveyAll, nobody}
 
 module _ (c : Incoming) where
   -- the first i nodes are seen
@@ -30,15 +30,15 @@ module _ (c : Incoming) where
   rest-end s (suc i) (n ∷ ns) p = rest-end s i ns (le-of-suc-le-suc p)
 
   -- the plan, and the index of the one that replies: within the table, or past it
-  module _ (ns : List Node) (s : Seen) (p : Plan) (k : ℕ) (seen : s ≡ glancesOf c start ns) (planned : p ≡ planOf c s (length ns)) (spoken : k ≡ speakerOf p) where
-    by-plan : surveyWith p (getD ns k nobody) ≡ surveyOf c ns
-    unfolding surveyOf
+  module _ (ns : List Node) (s : Seen) (p : Plan) (k : ℕ) (seen : s ≡ glancesOf c chainStart ns) (planned : p ≡ planOf c s (length ns)) (spoken : k ≡ speakerOf p) where
+    by-plan : surveyWith p (getD ns k nobody) ≡ surveyAll c ns
+    unfolding surveyAll
     by-plan = ap (λ (i : ℕ). surveyWith p (getD ns i nobody)) spoken ∙ ap (λ (q : Plan). surveyWith q (getD ns (speakerOf q) nobody)) (planned ∙ ap (λ (t : Seen). planOf c t (length ns)) seen)
 
-    pub survey-within : (r : Survey) → r ≡ surveyWith p (getD ns k nobody) → r ≡ surveyOf c ns
+    pub survey-within : (r : Survey) → r ≡ surveyWith p (getD ns k nobody) → r ≡ surveyAll c ns
     survey-within r e = e ∙ by-plan
 
-    pub survey-past : (r : Survey) → length ns ≤ k → r ≡ surveyAlone p → r ≡ surveyOf c ns
+    pub survey-past : (r : Survey) → length ns ≤ k → r ≡ surveyAlone p → r ≡ surveyAll c ns
     survey-past r l e = e ∙ sym (ap (λ (n : Node). surveyWith p n) (List·getD-eq-default ns nobody {n = k} l)) ∙ by-plan
 
 -- the plan alone, as the code makes it

@@ -12,14 +12,14 @@ use denote.Triple.Entry.{Args, Res}
 use denote.Triple.Clauses.{AtExit}
 use denote.Ref.{now}
 use Rattle.wire.specs.Promise.{Lending}
-use Rattle.survey.specs.Delivery.{Lent, deliveredOn, deliveryNumber}
+use Rattle.survey.specs.Delivery.{Lent, deliverOf, deliveryNumber}
 use Rattle.chain.proofs.deliver as deliver
 
 module _ (κs : Lfts (deliver.ended .signature .lifetimes)) (a : Args (deliver.ended .signature) κs) where
   -- what the contract says of the result r and the parameters e at exit
   abbrev pub Post : Res (deliver.ended .signature) κs → AtExit deliver.ended κs → Type 0
   Post r e =
-      Lending deliveryNumber r (record { nodes = now (e .0); reply = now (e .1 .1 .0) }) (deliveredOn (now (a .0)) (now (a .1 .0)) (now (a .1 .1 .0)))
+      Lending deliveryNumber r (record { nodes = now (e .0); reply = now (e .1 .1 .0) }) (deliverOf (now (a .0)) (now (a .1 .0)) (now (a .1 .1 .0)))
 
   pub deliver-reads : {M : Type 1} (𝓤 : URA M) (H : Heap 𝓤) (A : Atoms 𝓤) (mem : Memory → SProp 𝓤) (run : Routine → Fun 𝓤)
       (g : deliver.clauses 𝓤 H A mem run κs a .ghost) (r : Res (deliver.ended .signature) κs) (e : AtExit deliver.ended κs)

@@ -10,13 +10,13 @@ use survey::Incoming;
 use survey::Survey;
 ghost use mathlib.Core.Path.{_≡_};
 ghost use Rattle.wire.specs.Promise.{Lending};
-ghost use Rattle.survey.specs.Survey.{surveyOf};
-ghost use Rattle.survey.specs.Decision.{visited};
-ghost use Rattle.survey.specs.Delivery.{deliveredOn, deliveryNumber};
+ghost use Rattle.survey.specs.Survey.{surveyAll};
+ghost use Rattle.survey.specs.Decision.{actAll};
+ghost use Rattle.survey.specs.Delivery.{deliverOf, deliveryNumber};
 
 // A look at every node, in order, and then at the one that replies.
 fn survey_all(table: &[Node], incoming: Incoming) -> Survey
-    ensures { λ r. ⌜ r ≡ surveyOf incoming (now (table .entry)) ⌝ }
+    ensures { λ r. ⌜ r ≡ surveyAll incoming (now (table .entry)) ⌝ }
 {
     let n = table.len();
     let mut seen = steps::start();
@@ -35,13 +35,13 @@ fn survey_all(table: &[Node], incoming: Incoming) -> Survey
 
 // Every node that is to act acts once.
 fn act_all(table: &mut [Node], decided: Decided)
-    ensures { λ _. ⌜ now (table .exit) ≡ visited (decided .heard) (decided .acting) (now (table .entry)) ⌝ }
+    ensures { λ _. ⌜ now (table .exit) ≡ actAll (decided .message) (decided .acting) (now (table .entry)) ⌝ }
 {
-    let n = steps::reach(table.len());
+    let n = steps::span(table.len());
     let mut rest = decided.acting;
     let mut i = survey::first(rest);
     while i < n {
-        table[i] = steps::act(table[i], decided);
+        table[i] = steps::take(table[i], decided);
         rest = survey::without_first(rest);
         i = survey::first(rest);
     }
@@ -49,9 +49,9 @@ fn act_all(table: &mut [Node], decided: Decided)
 
 // A packet to the chain. 6 comes first, then 1, 2 and 3 as the packet is read, then 5, before any node acts.
 pub fn deliver(table: &mut [Node], packet: &[u8], reply: &mut [u8]) -> Delivery
-    ensures { λ r. ⌜ Lending deliveryNumber r (record { nodes = now (table .exit); reply = now (reply .exit) }) (deliveredOn (now (table .entry)) (now (packet .entry)) (now (reply .entry))) ⌝ }
+    ensures { λ r. ⌜ Lending deliveryNumber r (record { nodes = now (table .exit); reply = now (reply .exit) }) (deliverOf (now (table .entry)) (now (packet .entry)) (now (reply .entry))) ⌝ }
 {
-    let incoming = survey::hear(packet);
+    let incoming = survey::receive(packet);
     let seen = survey_all(table, incoming);
     let decided = survey::decide(seen, reply);
     act_all(table, decided);

@@ -7,20 +7,20 @@ use survey::Plan;
 use survey::Seen;
 use survey::Survey;
 ghost use mathlib.Core.Path.{_≡_};
-ghost use Rattle.node.specs.Node.{taken};
-ghost use Rattle.survey.specs.Survey.{start, surveyWith, surveyAlone};
-ghost use Rattle.survey.specs.Decision.{reachOf};
+ghost use Rattle.node.specs.Node.{takeOf};
+ghost use Rattle.survey.specs.Survey.{chainStart, surveyWith, surveyAlone};
+ghost use Rattle.survey.specs.Decision.{spanOf};
 
 // Before the first node.
 pub(crate) fn start() -> Seen
-    ensures { λ r. ⌜ r ≡ start ⌝ }
+    ensures { λ r. ⌜ r ≡ chainStart ⌝ }
 {
     Seen {
         near: true,
         weight: 1,
         acting: 0,
         replying: 0,
-        sound: true,
+        ranged: true,
     }
 }
 
@@ -53,9 +53,9 @@ pub(crate) fn survey_alone(p: Plan) -> Survey
     }
 }
 
-// How far a set of nodes reaches along a table of n.
-pub(crate) fn reach(n: usize) -> usize
-    ensures { λ r. ⌜ r ≡ reachOf n ⌝ }
+// How far a set of nodes spans along a table of n.
+pub(crate) fn span(n: usize) -> usize
+    ensures { λ r. ⌜ r ≡ spanOf n ⌝ }
 {
     if 32 < n {
         return 32;
@@ -64,11 +64,11 @@ pub(crate) fn reach(n: usize) -> usize
 }
 
 // A node that acts.
-pub(crate) fn act(n: Node, d: Decided) -> Node
-    ensures { λ r. ⌜ r ≡ taken (d .heard) n ⌝ }
+pub(crate) fn take(n: Node, d: Decided) -> Node
+    ensures { λ r. ⌜ r ≡ takeOf (d .message) n ⌝ }
 {
-    let heard = d.heard;
-    n.take(heard)
+    let message = d.message;
+    n.take(message)
 }
 
 // The answer alone.

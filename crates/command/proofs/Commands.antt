@@ -6,20 +6,20 @@ use mathlib.Core.Path.{_≡_, refl, _∙_}
 use native.Mathlib.Omega.{arith}
 use lib.ListN.{length, getD, take}
 use borrow.Author.Tests.{lt-ltb, le-ltb, leb-true}
-use Rattle.wire.specs.Address.{isIndividual, isGroup, inRange, byteOf}
-use Rattle.buffer.specs.Buffer.{written, place}
+use Rattle.wire.specs.Address.{individualInRange, groupInRange, inRange, byteOf}
+use Rattle.buffer.specs.Buffer.{atStart, written}
 use Rattle.buffer.specs.Change.{AllBytes}
 use Rattle.wire.specs.declared.address.Address.{Address}
 use Rattle.wire.specs.declared.refusal.Refusal.the-variants.{Range}
 use Rattle.wire.proofs.Addresses.{address-back, address-in-range}
 use Rattle.wire.proofs.Choice.{chose-first, both}
-use Rattle.buffer.proofs.Writing.{place-written, wrote, wrote-not, place-wrote}
-use Rattle.buffer.proofs.Refusals.{Spares, place-spares, else-spares}
-use Rattle.packet.specs.Packet.{dataOf}
+use Rattle.buffer.proofs.Writing.{written-fits, wrote, wrote-not, written-wrote}
+use Rattle.buffer.proofs.Refusals.{Spares, written-spares, else-spares}
+use Rattle.packet.specs.Packet.{dataPart}
 use Rattle.packet.proofs.Packets as packets
 use Rattle.packet.proofs.Laws as packet
-use Rattle.command.specs.Command.{wordOf, placeOf, rowsOf, readingOf, ReadsAs}
-use Rattle.command.specs.Build.{codeOf, bytesOf, fitsOf, Typed, packetFor, buildFor, commandBuilt}
+use Rattle.command.specs.Command.{wordOf, placeOf, listedOf, commandRead, ReadsAs}
+use Rattle.command.specs.Build.{codeOf, ownData, fitsOf, Typed, packetFor, buildFor, commandBuild}
 use Rattle.command.specs.declared.Command.{Command}
 use Rattle.command.specs.declared.Command.the-variants.{SetAddress, DefineStatus, ReadStatus, SetPwm, SynchOutput, SetOutputs, SetSynchOutput, SetTimerMode, SynchInput, Nop, HardReset}
 use Rattle.command.specs.declared.Reading.the-variants.{Known}
@@ -40,10 +40,10 @@ place-back a g false h k =
 word-back : (w : ℕ) → wordOf (w % 256) (w / 256) ≡ w
 word-back w = omega arith
 
-pub read-back : (c : Command) → fitsOf c ≡ true → Typed c → readingOf (codeOf c) (bytesOf c) ≡ Known c
-unfolding readingOf rowsOf
+pub read-back : (c : Command) → fitsOf c ≡ true → Typed c → commandRead (codeOf c) (ownData c) ≡ Known c
+unfolding commandRead listedOf
 read-back (SetAddress p) h t =
-    let f = both (isIndividual (p .address .0)) (isGroup (p .group .0)) h in
+    let f = both (individualInRange (p .address .0)) (groupInRange (p .group .0)) h in
     rw (f .0, place-back (p .address .0) (p .group .0) (p .leader) (leb-true 0x80 (p .group .0) (f .1)) t)
 read-back (DefineStatus m) h t = refl
 read-back (ReadStatus m) h t = refl
@@ -57,8 +57,8 @@ read-back Nop h t = refl
 read-back HardReset h t = refl
 
 -- and a command that is read comes from its own number and data bytes, and is of its range
-pub read-from : (k : ℕ) (d : List ℕ) (c : Command) → AllBytes d → readingOf k d ≡ Known c → (codeOf c ≡ k) × (bytesOf c ≡ d) × (fitsOf c ≡ true)
-unfolding readingOf
+pub read-from : (k : ℕ) (d : List ℕ) (c : Command) → AllBytes d → commandRead k d ≡ Known c → (codeOf c ≡ k) × (ownData c ≡ d) × (fitsOf c ≡ true)
+unfolding commandRead
 read-from k d c h e = let s = says k (length d) d c e in (s .code, s .bytes refl h, s .fits)
 
 -- ---- from bytes to bytes
@@ -70,46 +70,46 @@ built-reads a c h f t =
     let small : codeOf c < 16 = omega arith in
     record {
       command = codeOf c;
-      end = 4 + length (bytesOf c);
-      whole = rw (address-back a h) at (packets.built-reads (byteOf a) (codeOf c) (bytesOf c) small);
-      known = rw (packets.built-data (byteOf a) (codeOf c) (bytesOf c) small) (read-back c f t);
+      end = 4 + length (ownData c);
+      whole = rw (address-back a h) at (packets.built-reads (byteOf a) (codeOf c) (ownData c) small);
+      known = rw (packets.built-data (byteOf a) (codeOf c) (ownData c) small) (read-back c f t);
     }
 
 -- an accepted packet is the one that we would build from its parts
 pub reads-built : (s : List ℕ) (a : Address) (c : Command) → AllBytes s → ReadsAs s a c → s ≡ packetFor a c
 reads-built s a c h r =
-    let e = read-from (r .command) (dataOf s) c (packet.data-bytes s h) (r .known) in
+    let e = read-from (r .command) (dataPart s) c (packet.data-bytes s h) (r .known) in
     rw (e .0, e .1) (packets.accepted-built s a (r .command) (r .end) (r .whole))
 
 -- whose address and command are of their ranges, so that they are built and read back
 pub reads-in-range : (s : List ℕ) (a : Address) (c : Command) → ReadsAs s a c → (inRange a ≡ true) × (fitsOf c ≡ true) × Typed c
-unfolding readingOf
+unfolding commandRead
 reads-in-range s a c r =
     let f = packets.framing s a (r .command) (r .end) (packets.read-says s a (r .command) (r .end) (r .whole) .0) in
-    let g = says (r .command) (length (dataOf s)) (dataOf s) c (r .known) in
+    let g = says (r .command) (length (dataPart s)) (dataPart s) c (r .known) in
     (rw (← (f .address)) (address-in-range (getD s 1 0)), g .fits, g .typed)
 
 -- ---- what building answers
 
-pub built-written : (to : Address) (c : Command) (out : List ℕ) → inRange to ≡ true → fitsOf c ≡ true → commandBuilt to c out ≡ place (packetFor to c) out
-unfolding commandBuilt buildFor
+pub built-written : (to : Address) (c : Command) (out : List ℕ) → inRange to ≡ true → fitsOf c ≡ true → commandBuild to c out ≡ written (packetFor to c) out
+unfolding commandBuild buildFor
 built-written to c out h f = rw (h, f)
 
 -- what the builder writes, n bytes, reads back as the same command
-pub written-reads : (to : Address) (c : Command) (out left : List ℕ) (n : ℕ) → Typed c → commandBuilt to c out ≡ wrote n left → ReadsAs (take n left) to c
-unfolding commandBuilt buildFor
+pub written-reads : (to : Address) (c : Command) (out left : List ℕ) (n : ℕ) → Typed c → commandBuild to c out ≡ wrote n left → ReadsAs (take n left) to c
+unfolding commandBuild buildFor
 written-reads to c out left n t e =
     let h = chose-first (inRange to) e (wrote-not Range out left n) in
     let f = chose-first (fitsOf c) (h .1) (wrote-not Range out left n) in
-    rw (place-wrote (packetFor to c) out left n (f .1)) (built-reads to c (h .0) (f .0) t)
+    rw (written-wrote (packetFor to c) out left n (f .1)) (built-reads to c (h .0) (f .0) t)
 
 -- an accepted packet is, where it has room, the one that the builder writes from its address and command
-pub reads-written : (s : List ℕ) (a : Address) (c : Command) (out : List ℕ) → AllBytes s → ReadsAs s a c → length s ≤ length out → commandBuilt a c out ≡ written s out
+pub reads-written : (s : List ℕ) (a : Address) (c : Command) (out : List ℕ) → AllBytes s → ReadsAs s a c → length s ≤ length out → commandBuild a c out ≡ atStart s out
 reads-written s a c out b r h =
     let f = reads-in-range s a c r in
-    built-written a c out (f .0) (f .1) ∙ rw (← (reads-built s a c b r)) (place-written s out h)
+    built-written a c out (f .0) (f .1) ∙ rw (← (reads-built s a c b r)) (written-fits s out h)
 
 -- any number but 0 leaves the buffer as it stood
-pub command-spares : (to : Address) (c : Command) (out : List ℕ) → Spares out (commandBuilt to c out)
-unfolding commandBuilt buildFor
-command-spares to c out = else-spares (inRange to) Range out _ (else-spares (fitsOf c) Range out _ (place-spares (packetFor to c) out))
+pub command-spares : (to : Address) (c : Command) (out : List ℕ) → Spares out (commandBuild to c out)
+unfolding commandBuild buildFor
+command-spares to c out = else-spares (inRange to) Range out _ (else-spares (fitsOf c) Range out _ (written-spares (packetFor to c) out))

@@ -1,5 +1,5 @@
 pub mod Roles
-pub mod Rows
-pub mod Building
+mod Rows
+mod Building
 pub mod Commands
 pub mod Unique

@@ -7,19 +7,19 @@ use native.Mathlib.Omega.{arith}
 use lib.Dec.{eqb, ltb}
 use lib.ListN.{length, getD}
 use borrow.Author.Tests.{eqb-true, ltb-true, ltb-false, le-leb}
-use Rattle.wire.specs.Address.{isIndividual}
+use Rattle.wire.specs.Address.{individualInRange}
 use Rattle.buffer.specs.Change.{AllBytes}
 use Rattle.wire.proofs.Choice.{chose-first}
 use Rattle.wire.proofs.Impossible.{impossible}
-use Rattle.command.specs.Command.{wordOf, placeOf, rowsOf}
-use Rattle.command.specs.Build.{codeOf, bytesOf, fitsOf, placeFits, groupByte, Typed}
+use Rattle.command.specs.Command.{wordOf, placeOf, listedOf}
+use Rattle.command.specs.Build.{codeOf, ownData, fitsOf, placeFits, groupByte, Typed}
 use Rattle.command.specs.declared.Command.{Command}
 use Rattle.command.specs.declared.Command.the-variants.{SetAddress, DefineStatus, ReadStatus, SetPwm, SynchOutput, SetOutputs, SetSynchOutput, SetTimerMode, SynchInput, Nop, HardReset}
 use Rattle.command.specs.declared.Reading.{Reading}
 use Rattle.command.specs.declared.Reading.the-variants.{Known, Other}
 
 -- a command's number is a nibble, and it has at most four data bytes
-pub sized : (c : Command) → (codeOf c ≤ 15) × (length (bytesOf c) ≤ 4)
+pub sized : (c : Command) → (codeOf c ≤ 15) × (length (ownData c) ≤ 4)
 sized (SetAddress p) = (omega arith, omega arith)
 sized (DefineStatus m) = (omega arith, omega arith)
 sized (ReadStatus m) = (omega arith, omega arith)
@@ -35,8 +35,8 @@ sized HardReset = (omega arith, omega arith)
 -- what the rows say of the number, the count and the data bytes from which they read a command
 pub record Says (k n : ℕ) (d : List ℕ) (c : Command) : Type 0 where
   pub code : codeOf c ≡ k
-  pub count : length (bytesOf c) ≡ n
-  pub bytes : length d ≡ n → AllBytes d → bytesOf c ≡ d
+  pub count : length (ownData c) ≡ n
+  pub bytes : length d ≡ n → AllBytes d → ownData c ≡ d
   pub fits : fitsOf c ≡ true
   pub typed : Typed c
 
@@ -51,11 +51,11 @@ met true false e f g = absurd (other-not e)
 met false u e f g = g e
 
 -- the row of v, if the data bytes of v are those that are read
-said : (k n : ℕ) (d : List ℕ) (c v : Command) → eqb k (codeOf v) ≡ true → eqb n (length (bytesOf v)) ≡ true → Known v ≡ Known c
-    → (length d ≡ length (bytesOf v) → AllBytes d → bytesOf v ≡ d) → fitsOf v ≡ true → Typed v → Says k n d c
+said : (k n : ℕ) (d : List ℕ) (c v : Command) → eqb k (codeOf v) ≡ true → eqb n (length (ownData v)) ≡ true → Known v ≡ Known c
+    → (length d ≡ length (ownData v) → AllBytes d → ownData v ≡ d) → fitsOf v ≡ true → Typed v → Says k n d c
 said k n d c v a b q h f t =
     let e : v ≡ c = cc in
-    let m = eqb-true n (length (bytesOf v)) b in
+    let m = eqb-true n (length (ownData v)) b in
     rw (← e) (record { code = sym (eqb-true k (codeOf v) a); count = sym m; bytes = λ i. h (i ∙ m); fits = f; typed = t })
 
 -- so many data bytes are those that were looked at
@@ -101,14 +101,14 @@ placed [] n h = absurd (omega arith)
 placed (x ∷ []) n h = absurd (omega arith)
 placed (x ∷ g ∷ d) n h = rw (group-back (ltb g 0x80) g refl (h .1 .0)) (two (x ∷ g ∷ d) n h)
 
-place-fits : (a g : ℕ) → isIndividual a ≡ true → placeFits (placeOf a g) ≡ true
+place-fits : (a g : ℕ) → individualInRange a ≡ true → placeFits (placeOf a g) ≡ true
 place-fits a g h = rw (h, le-leb 0x80 (g % 0x80 + 0x80) (omega arith))
 
 -- row by row
-pub says : (k n : ℕ) (d : List ℕ) (c : Command) → rowsOf k n d ≡ Known c → Says k n d c
-unfolding rowsOf
+pub says : (k n : ℕ) (d : List ℕ) (c : Command) → listedOf k n d ≡ Known c → Says k n d c
+unfolding listedOf
 says k n d c e =
-    met (eqb k 0x1) (eqb n 2) e (λ a b q. let t = chose-first (isIndividual (getD d 0 0)) q other-not in said k n d c _ a b (t .1) (placed d) (place-fits (getD d 0 0) (getD d 1 0) (t .0)) (omega arith))
+    met (eqb k 0x1) (eqb n 2) e (λ a b q. let t = chose-first (individualInRange (getD d 0 0)) q other-not in said k n d c _ a b (t .1) (placed d) (place-fits (getD d 0 0) (getD d 1 0) (t .0)) (omega arith))
     (λ e. met (eqb k 0x2) (eqb n 1) e (λ a b q. said k n d c _ a b q (one d) refl tt)
     (λ e. met (eqb k 0x3) (eqb n 1) e (λ a b q. said k n d c _ a b q (one d) refl tt)
     (λ e. met (eqb k 0x4) (eqb n 2) e (λ a b q. said k n d c _ a b q (two d) refl tt)
@@ -127,16 +127,16 @@ unknown (Known c) f = absurd (f c refl)
 unknown Other f = refl
 
 module _ (k n : ℕ) (d : List ℕ) where
-  pub above : 15 < k → Other ≡ rowsOf k n d
-  above h = unknown (rowsOf k n d) (λ c e. let s = says k n d c e in let z = sized c in omega arith)
+  pub above : 15 < k → Other ≡ listedOf k n d
+  above h = unknown (listedOf k n d) (λ c e. let s = says k n d c e in let z = sized c in omega arith)
 
-  pub beyond : 15 < n → Other ≡ rowsOf k n d
-  beyond h = unknown (rowsOf k n d) (λ c e. let s = says k n d c e in let z = sized c in omega arith)
+  pub beyond : 15 < n → Other ≡ listedOf k n d
+  beyond h = unknown (listedOf k n d) (λ c e. let s = says k n d c e in let z = sized c in omega arith)
 
 -- a command byte that is in none of the rows
 module _ (h : ℕ) (d : List ℕ) (place : h ≡ 0x21 → ⊥) (define : h ≡ 0x12 → ⊥) (ask : h ≡ 0x13 → ⊥) (pwm : h ≡ 0x24 → ⊥) (copy : h ≡ 0x05 → ⊥)
     (outputs : h ≡ 0x26 → ⊥) (held : h ≡ 0x47 → ⊥) (timer : h ≡ 0x18 → ⊥) (capture : h ≡ 0x0C → ⊥) (nop : h ≡ 0x0E → ⊥) (reset : h ≡ 0x0F → ⊥) where
-  not-read : (c : Command) → codeOf c ≡ h % 16 → length (bytesOf c) ≡ h / 16 → ⊥
+  not-read : (c : Command) → codeOf c ≡ h % 16 → length (ownData c) ≡ h / 16 → ⊥
   not-read (SetAddress p) e n = place (omega arith)
   not-read (DefineStatus m) e n = define (omega arith)
   not-read (ReadStatus m) e n = ask (omega arith)
@@ -149,5 +149,5 @@ module _ (h : ℕ) (d : List ℕ) (place : h ≡ 0x21 → ⊥) (define : h ≡ 0
   not-read Nop e n = nop (omega arith)
   not-read HardReset e n = reset (omega arith)
 
-  pub unlisted : Other ≡ rowsOf (h % 16) (h / 16) d
-  unlisted = unknown (rowsOf (h % 16) (h / 16) d) (λ c e. let s = says (h % 16) (h / 16) d c e in not-read c (s .code) (s .count))
+  pub unlisted : Other ≡ listedOf (h % 16) (h / 16) d
+  unlisted = unknown (listedOf (h % 16) (h / 16) d) (λ c e. let s = says (h % 16) (h / 16) d c e in not-read c (s .code) (s .count))

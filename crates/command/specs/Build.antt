@@ -1,11 +1,10 @@
 -- A command's number and data bytes, and what building its packet answers and leaves.
-use Prim.Native.Nat.{ℕ, _+_, _-_, _*_, _%_, _/_, _<_}
+use Prim.Native.Nat.{ℕ, _+_, _%_, _/_, _<_}
 use mathlib.Core.Bool.{Bool, true, cond, _&&_}
-use mathlib.Core.List.{List, [], _∷_, _++_}
-use lib.ListN.{length, replicate}
+use mathlib.Core.List.{List, [], _∷_}
 use Rattle.wire.specs.Promise.{Outcome}
-use Rattle.wire.specs.Address.{isIndividual, isGroup, inRange, byteOf}
-use Rattle.buffer.specs.Buffer.{refused, place}
+use Rattle.wire.specs.Address.{individualInRange, groupInRange, inRange, byteOf}
+use Rattle.buffer.specs.Buffer.{refused, written}
 use Rattle.wire.specs.declared.address.Address.{Address}
 use Rattle.wire.specs.declared.refusal.Refusal.the-variants.{Range}
 use Rattle.buffer.specs.declared.Built.{Built}
@@ -36,30 +35,22 @@ abbrev pub groupByte : Place → ℕ
 groupByte p = cond (p .leader) (p .group .0 % 0x80) (p .group .0 % 0x80 + 0x80)
 
 -- its data bytes; "wide values go least significant byte first"
-abbrev pub bytesOf : Command → List ℕ
-bytesOf (SetAddress p) = p .address .0 ∷ groupByte p ∷ []
-bytesOf (DefineStatus m) = m ∷ []
-bytesOf (ReadStatus m) = m ∷ []
-bytesOf (SetPwm w) = w .first ∷ w .second ∷ []
-bytesOf SynchOutput = []
-bytesOf (SetOutputs w) = w % 256 ∷ w / 256 ∷ []
-bytesOf (SetSynchOutput h) = h .outputs % 256 ∷ h .outputs / 256 ∷ h .pwm .first ∷ h .pwm .second ∷ []
-bytesOf (SetTimerMode m) = m ∷ []
-bytesOf SynchInput = []
-bytesOf Nop = []
-bytesOf HardReset = []
-
--- the command byte: "The low nibble of the command byte is the command, the high nibble the number of data bytes"
-abbrev pub headOf : Command → ℕ
-headOf c = codeOf c + length (bytesOf c) * 16
-
--- four bytes: some data bytes, and zeros behind them
-abbrev pub filled : List ℕ → List ℕ
-filled d = d ++ replicate (4 - length d) 0
+abbrev pub ownData : Command → List ℕ
+ownData (SetAddress p) = p .address .0 ∷ groupByte p ∷ []
+ownData (DefineStatus m) = m ∷ []
+ownData (ReadStatus m) = m ∷ []
+ownData (SetPwm w) = w .first ∷ w .second ∷ []
+ownData SynchOutput = []
+ownData (SetOutputs w) = w % 256 ∷ w / 256 ∷ []
+ownData (SetSynchOutput h) = h .outputs % 256 ∷ h .outputs / 256 ∷ h .pwm .first ∷ h .pwm .second ∷ []
+ownData (SetTimerMode m) = m ∷ []
+ownData SynchInput = []
+ownData Nop = []
+ownData HardReset = []
 
 -- a place of its range
 abbrev pub placeFits : Place → Bool
-placeFits p = isIndividual (p .address .0) && isGroup (p .group .0)
+placeFits p = individualInRange (p .address .0) && groupInRange (p .group .0)
 
 -- a command whose values are of their range, by its role: only a place has one
 abbrev pub fitsBy : Role → Bool
@@ -87,14 +78,14 @@ Typed c = typedBy (roleOf c)
 
 -- the packet of a command to an address byte, and to an address
 abbrev pub packetTo : ℕ → Command → List ℕ
-packetTo a c = packetOf a (codeOf c) (bytesOf c)
+packetTo a c = packetOf a (codeOf c) (ownData c)
 
 abbrev pub packetFor : Address → Command → List ℕ
 packetFor to c = packetTo (byteOf to) c
 
 -- 6, then 5
 unfoldable pub buildFor : ℕ → Command → List ℕ → Outcome Built (List ℕ)
-buildFor a c out = cond (fitsOf c) (place (packetTo a c) out) (refused Range out)
+buildFor a c out = cond (fitsOf c) (written (packetTo a c) out) (refused Range out)
 
-unfoldable pub commandBuilt : Address → Command → List ℕ → Outcome Built (List ℕ)
-commandBuilt to c out = cond (inRange to) (buildFor (byteOf to) c out) (refused Range out)
+unfoldable pub commandBuild : Address → Command → List ℕ → Outcome Built (List ℕ)
+commandBuild to c out = cond (inRange to) (buildFor (byteOf to) c out) (refused Range out)

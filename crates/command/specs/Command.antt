@@ -5,9 +5,9 @@ use mathlib.Core.List.{List}
 use mathlib.Core.Path.{_≡_}
 use lib.Dec.{ltb, eqb}
 use lib.ListN.{length, getD}
-use Rattle.wire.specs.Address.{isIndividual}
+use Rattle.wire.specs.Address.{individualInRange}
 use Rattle.wire.specs.declared.address.Address.{Address}
-use Rattle.packet.specs.Packet.{readOf, dataOf}
+use Rattle.packet.specs.Packet.{readOf, dataPart}
 use Rattle.packet.specs.declared.Framed.the-variants.{Whole}
 use Rattle.command.specs.declared.Place.{Place}
 use Rattle.command.specs.declared.Command.{Command}
@@ -25,34 +25,34 @@ placeOf a g = record { address = record { 0 = a }; group = record { 0 = g % 0x80
 
 -- "a first byte of 0x80 or more changes nothing": it is no Set Address of ours
 abbrev pub placedBy : ℕ → ℕ → Reading
-placedBy a g = cond (isIndividual a) (Known (SetAddress (placeOf a g))) Other
+placedBy a g = cond (individualInRange a) (Known (SetAddress (placeOf a g))) Other
 
 -- r, if the data bytes, n of them, number m: "a count that isn't the one given" is another command
-abbrev pub counted : ℕ → ℕ → Reading → Reading
-counted n m r = cond (eqb n m) r Other
+abbrev pub ifCounted : ℕ → ℕ → Reading → Reading
+ifCounted n m r = cond (eqb n m) r Other
 
 -- command k with data bytes d, n of them: row by row as the paper lists them
-unfoldable pub rowsOf : ℕ → ℕ → List ℕ → Reading
-rowsOf k n d =
-    cond (eqb k 0x1) (counted n 2 (placedBy (getD d 0 0) (getD d 1 0)))
-    (cond (eqb k 0x2) (counted n 1 (Known (DefineStatus (getD d 0 0))))
-    (cond (eqb k 0x3) (counted n 1 (Known (ReadStatus (getD d 0 0))))
-    (cond (eqb k 0x4) (counted n 2 (Known (SetPwm (record { first = getD d 0 0; second = getD d 1 0 }))))
-    (cond (eqb k 0x5) (counted n 0 (Known SynchOutput))
-    (cond (eqb k 0x6) (counted n 2 (Known (SetOutputs (wordOf (getD d 0 0) (getD d 1 0)))))
-    (cond (eqb k 0x7) (counted n 4 (Known (SetSynchOutput (record { outputs = wordOf (getD d 0 0) (getD d 1 0); pwm = record { first = getD d 2 0; second = getD d 3 0 } }))))
-    (cond (eqb k 0x8) (counted n 1 (Known (SetTimerMode (getD d 0 0))))
-    (cond (eqb k 0xC) (counted n 0 (Known SynchInput))
-    (cond (eqb k 0xE) (counted n 0 (Known Nop))
-    (cond (eqb k 0xF) (counted n 0 (Known HardReset))
+unfoldable pub listedOf : ℕ → ℕ → List ℕ → Reading
+listedOf k n d =
+    cond (eqb k 0x1) (ifCounted n 2 (placedBy (getD d 0 0) (getD d 1 0)))
+    (cond (eqb k 0x2) (ifCounted n 1 (Known (DefineStatus (getD d 0 0))))
+    (cond (eqb k 0x3) (ifCounted n 1 (Known (ReadStatus (getD d 0 0))))
+    (cond (eqb k 0x4) (ifCounted n 2 (Known (SetPwm (record { first = getD d 0 0; second = getD d 1 0 }))))
+    (cond (eqb k 0x5) (ifCounted n 0 (Known SynchOutput))
+    (cond (eqb k 0x6) (ifCounted n 2 (Known (SetOutputs (wordOf (getD d 0 0) (getD d 1 0)))))
+    (cond (eqb k 0x7) (ifCounted n 4 (Known (SetSynchOutput (record { outputs = wordOf (getD d 0 0) (getD d 1 0); pwm = record { first = getD d 2 0; second = getD d 3 0 } }))))
+    (cond (eqb k 0x8) (ifCounted n 1 (Known (SetTimerMode (getD d 0 0))))
+    (cond (eqb k 0xC) (ifCounted n 0 (Known SynchInput))
+    (cond (eqb k 0xE) (ifCounted n 0 (Known Nop))
+    (cond (eqb k 0xF) (ifCounted n 0 (Known HardReset))
     Other))))))))))
 
-unfoldable pub readingOf : ℕ → List ℕ → Reading
-readingOf k d = rowsOf k (length d) d
+unfoldable pub commandRead : ℕ → List ℕ → Reading
+commandRead k d = listedOf k (length d) d
 
 -- some bytes are one whole packet with a right sum, which says command c to address a
 pub record ReadsAs (s : List ℕ) (a : Address) (c : Command) : Type 0 where
   pub command : ℕ
   pub end : ℕ
   pub whole : readOf s ≡ Whole a command end
-  pub known : readingOf command (dataOf s) ≡ Known c
+  pub known : commandRead command (dataPart s) ≡ Known c

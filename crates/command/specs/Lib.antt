@@ -1,3 +1,4 @@
 pub mod Command
 pub mod Role
 pub mod Build
+pub mod Filling

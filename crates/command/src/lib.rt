@@ -11,10 +11,11 @@ ghost use Prim.Native.Nat.{_%_, _/_};
 ghost use mathlib.Core.List.{[], _∷_};
 ghost use lib.ListN.{getD};
 ghost use Rattle.wire.specs.Promise.{Lending};
-ghost use Rattle.buffer.specs.Buffer.{builtNumber, place};
-ghost use Rattle.command.specs.Command.{wordOf, placeOf, rowsOf, readingOf};
+ghost use Rattle.buffer.specs.Buffer.{builtNumber, written};
+ghost use Rattle.command.specs.Command.{wordOf, placeOf, listedOf, commandRead};
 ghost use Rattle.command.specs.Role.{roleOf, isPlacing, isNop, isReset};
-ghost use Rattle.command.specs.Build.{bytesOf, groupByte, placeFits, fitsBy, headOf, filled, packetTo, commandBuilt};
+ghost use Rattle.command.specs.Build.{ownData, groupByte, placeFits, fitsBy, packetTo, commandBuild};
+ghost use Rattle.command.specs.Filling.{commandHead, filled};
 
 // Where a node stands: its individual address, its group, and whether it leads that group.
 pub struct Place {
@@ -155,7 +156,7 @@ fn place_of(address: u8, group: u8) -> Place
     }
 }
 
-// The data byte at a place.
+// The data byte at a position.
 fn byte(bytes: &[u8], at: usize) -> u8
     ensures { λ r. ⌜ r ≡ getD (now (bytes .entry)) at 0 ⌝ }
 {
@@ -167,7 +168,7 @@ fn byte(bytes: &[u8], at: usize) -> u8
 
 // The command of a command byte, count and command as the manual lists them, and the first four data bytes.
 fn listed(head: u8, one: u8, two: u8, three: u8, four: u8) -> Reading
-    ensures { λ r. ⌜ r ≡ rowsOf (head % 16) (head / 16) (one ∷ two ∷ three ∷ four ∷ []) ⌝ }
+    ensures { λ r. ⌜ r ≡ listedOf (head % 16) (head / 16) (one ∷ two ∷ three ∷ four ∷ []) ⌝ }
 {
     let c = match head {
         0x21 => {
@@ -202,7 +203,7 @@ fn listed(head: u8, one: u8, two: u8, three: u8, four: u8) -> Reading
 
 // The command of a packet's command nibble and data bytes.
 pub fn read(command: u8, bytes: &[u8]) -> Reading
-    ensures { λ r. ⌜ r ≡ readingOf command (now (bytes .entry)) ⌝ }
+    ensures { λ r. ⌜ r ≡ commandRead command (now (bytes .entry)) ⌝ }
 {
     if 15 < command {
         return Reading::Other;
@@ -237,7 +238,7 @@ fn word_then(w: u16, third: u8, fourth: u8) -> [u8; 4]
 
 // The command byte: how many data bytes, and the command.
 fn head(c: Command) -> u8
-    ensures { λ r. ⌜ r ≡ headOf c ⌝ }
+    ensures { λ r. ⌜ r ≡ commandHead c ⌝ }
 {
     match c {
         Command::SetAddress(_) => 0x21,
@@ -256,7 +257,7 @@ fn head(c: Command) -> u8
 
 // A command's own data, and zeros behind it.
 fn own_data(c: Command) -> [u8; 4]
-    ensures { λ r. ⌜ r ≡ filled (bytesOf c) ⌝ }
+    ensures { λ r. ⌜ r ≡ filled (ownData c) ⌝ }
 {
     match c {
         Command::SetAddress(p) => [p.address.0, group_byte(p), 0, 0],
@@ -286,7 +287,7 @@ fn place_fits(p: Place) -> bool
 }
 
 // Whether a command's values are of their range: only a place has one.
-fn fits(role: Role) -> bool
+fn fits_by(role: Role) -> bool
     ensures { λ r. ⌜ r ≡ fitsBy role ⌝ }
 {
     match role {
@@ -300,8 +301,8 @@ fn fits(role: Role) -> bool
 }
 
 // The packet of a command whose values are of their range, to the address byte `a`.
-fn build_to(a: u8, c: Command, out: &mut [u8]) -> Built
-    ensures { λ r. ⌜ Lending builtNumber r (now (out .exit)) (place (packetTo a c) (now (out .entry))) ⌝ }
+fn put_packet_to(a: u8, c: Command, out: &mut [u8]) -> Built
+    ensures { λ r. ⌜ Lending builtNumber r (now (out .exit)) (written (packetTo a c) (now (out .entry))) ⌝ }
 {
     let command_byte = head(c);
     let bytes = own_data(c);
@@ -311,11 +312,11 @@ fn build_to(a: u8, c: Command, out: &mut [u8]) -> Built
 
 // Builds the packet of a command at the start of `out`, whose rest stays. 6 where the address or a place is not of its range, then 5.
 pub fn build(to: Address, c: Command, out: &mut [u8]) -> Built
-    ensures { λ r. ⌜ Lending builtNumber r (now (out .exit)) (commandBuilt to c (now (out .entry))) ⌝ }
+    ensures { λ r. ⌜ Lending builtNumber r (now (out .exit)) (commandBuild to c (now (out .entry))) ⌝ }
 {
     if to.in_range() {
-        if fits(c.role()) {
-            return build_to(to.byte(), c, out);
+        if fits_by(c.role()) {
+            return put_packet_to(to.byte(), c, out);
         }
     }
     Built::Refused(Refusal::Range)

@@ -8,7 +8,7 @@ use Rattle.node.specs.Setting.{Setting, Value, make, get-make, make-same}
 use Rattle.node.specs.Effect.{Effect, keeps, stores, copies, effect, applied, settingsAfter}
 use Rattle.entry.specs.declared.Known.{Known}
 use Rattle.entry.specs.declared.Entry.{Entry}
-use Rattle.entry.specs.Entry.{flag, shows, newFlag, newValue, marked, confirmed, blendOf}
+use Rattle.entry.specs.Entry.{flag, shows, newFlag, newValue, markOf, confirmOf, blendOf}
 
 picked : {s : Setting} (f : Effect s) (e : Entry) → cond (newFlag true f (e .known)) (applied f (e .settings)) (shows e s) ≡ newValue f e
 picked {s} keeps e = same (flag (e .known) s) (shows e s)
@@ -26,6 +26,6 @@ module _ (c : Command) (e : Entry) where
   all-picked = make-same chosen (make value) (λ s. picked (effect c s) e ∙ sym (get-make value s))
 
   -- as the code gives it
-  pub blended : (known : Known) (new s : Settings) → known ≡ marked c true (e .known) → new ≡ settingsAfter c (e .settings)
-      → s ≡ blendOf known new (e .settings) → record { settings = s; known = known } ≡ confirmed c e
-  blended known new s p q h = rw (h, q, p) (ap (λ (x : Settings). record { settings = x; known = marked c true (e .known) }) all-picked)
+  pub blended : (known : Known) (new s : Settings) → known ≡ markOf c true (e .known) → new ≡ settingsAfter c (e .settings)
+      → s ≡ blendOf known new (e .settings) → record { settings = s; known = known } ≡ confirmOf c e
+  blended known new s p q h = rw (h, q, p) (ap (λ (x : Settings). record { settings = x; known = markOf c true (e .known) }) all-picked)

@@ -10,7 +10,7 @@ use Rattle.entry.specs.declared.Known.{Known}
 use Rattle.entry.specs.declared.Entry.{Entry}
 use Rattle.entry.specs.declared.Reach.{Reach}
 use Rattle.entry.specs.declared.Reach.the-variants.{Misses, Hits, May}
-use Rattle.entry.specs.Entry.{gateFlag, flag, flags, knows, shows, entryUp, newFlag, marked, newValue, confirmed, doubted, notedFlag, notedValue, noted, Quiet}
+use Rattle.entry.specs.Entry.{gateFlag, flag, flags, knows, shows, entryPowerUp, newFlag, markOf, newValue, confirmOf, doubtOf, noteFlag, noteValue, noteOf, Quiet}
 
 flag-gate : (f : Setting → Bool) (g : GateSetting) → gateFlag (flags f) g ≡ f (gate g)
 flag-gate f outputs = refl
@@ -27,23 +27,23 @@ flags-same : (f : Setting → Bool) (k : Known) → ((s : Setting) → f s ≡ f
 flags-same f k h = rw (h place, h mask, h (gate outputs), h (gate pwm), h (gate held), h (gate timer))
 
 -- at power-up every setting is known
-pub knows-up : (s : Setting) → knows entryUp s ≡ true
+pub knows-up : (s : Setting) → knows entryPowerUp s ≡ true
 knows-up = flag-flags (λ s. true)
 
-pub knows-confirmed : (c : Command) (e : Entry) (s : Setting) → knows (confirmed c e) s ≡ newFlag true (effect c s) (e .known)
+pub knows-confirmed : (c : Command) (e : Entry) (s : Setting) → knows (confirmOf c e) s ≡ newFlag true (effect c s) (e .known)
 knows-confirmed c e = flag-flags (λ s. newFlag true (effect c s) (e .known))
 
-pub shows-confirmed : (c : Command) (e : Entry) (s : Setting) → shows (confirmed c e) s ≡ newValue (effect c s) e
+pub shows-confirmed : (c : Command) (e : Entry) (s : Setting) → shows (confirmOf c e) s ≡ newValue (effect c s) e
 shows-confirmed c e = get-make (λ s. newValue (effect c s) e)
 
-pub knows-doubted : (c : Command) (e : Entry) (s : Setting) → knows (doubted c e) s ≡ newFlag false (effect c s) (e .known)
+pub knows-doubted : (c : Command) (e : Entry) (s : Setting) → knows (doubtOf c e) s ≡ newFlag false (effect c s) (e .known)
 knows-doubted c e = flag-flags (λ s. newFlag false (effect c s) (e .known))
 
 -- doubt changes no value
-pub shows-doubted : (c : Command) (e : Entry) (s : Setting) → shows (doubted c e) s ≡ shows e s
+pub shows-doubted : (c : Command) (e : Entry) (s : Setting) → shows (doubtOf c e) s ≡ shows e s
 shows-doubted c e s = refl
 
-pub knows-noted : (a : Answer) (r : Reach) (c : Command) (e : Entry) (s : Setting) → knows (noted a r c e) s ≡ notedFlag a r (effect c s) e
+pub knows-noted : (a : Answer) (r : Reach) (c : Command) (e : Entry) (s : Setting) → knows (noteOf a r c e) s ≡ noteFlag a r (effect c s) e
 knows-noted Marked r c e s = refl
 knows-noted Clear Misses c e s = refl
 knows-noted Clear Hits c e s = knows-confirmed c e s
@@ -52,7 +52,7 @@ knows-noted Silent Misses c e s = refl
 knows-noted Silent Hits c e s = knows-doubted c e s
 knows-noted Silent May c e s = knows-doubted c e s
 
-pub shows-noted : (a : Answer) (r : Reach) (c : Command) (e : Entry) (s : Setting) → shows (noted a r c e) s ≡ notedValue a r (effect c s) e
+pub shows-noted : (a : Answer) (r : Reach) (c : Command) (e : Entry) (s : Setting) → shows (noteOf a r c e) s ≡ noteValue a r (effect c s) e
 shows-noted Marked r c e s = refl
 shows-noted Clear Misses c e s = refl
 shows-noted Clear Hits c e s = shows-confirmed c e s
@@ -72,17 +72,17 @@ value-stays keeps e h = refl
 value-stays (stores v) e h = absurd (true≢false h)
 value-stays (copies t f) e h = absurd (true≢false h)
 
-marked-stays : (c : Command) → Quiet c → (sure : Bool) (k : Known) → marked c sure k ≡ k
+marked-stays : (c : Command) → Quiet c → (sure : Bool) (k : Known) → markOf c sure k ≡ k
 marked-stays c q sure k = flags-same (λ s. newFlag sure (effect c s) k) k (λ s. flag-stays sure (effect c s) k (q s))
 
-quiet-confirmed : (c : Command) → Quiet c → (e : Entry) → confirmed c e ≡ e
+quiet-confirmed : (c : Command) → Quiet c → (e : Entry) → confirmOf c e ≡ e
 quiet-confirmed c q e =
     rw (marked-stays c q true (e .known), make-same (λ s. newValue (effect c s) e) (e .settings) (λ s. value-stays (effect c s) e (q s)))
 
-quiet-doubted : (c : Command) → Quiet c → (e : Entry) → doubted c e ≡ e
+quiet-doubted : (c : Command) → Quiet c → (e : Entry) → doubtOf c e ≡ e
 quiet-doubted c q e = rw (marked-stays c q false (e .known))
 
-pub quiet-noted : (c : Command) → Quiet c → (a : Answer) (r : Reach) (e : Entry) → noted a r c e ≡ e
+pub quiet-noted : (c : Command) → Quiet c → (a : Answer) (r : Reach) (e : Entry) → noteOf a r c e ≡ e
 quiet-noted c q Marked r e = refl
 quiet-noted c q Clear Misses e = refl
 quiet-noted c q Clear Hits e = quiet-confirmed c q e

@@ -1,3 +1,3 @@
-pub mod Confirming
+mod Confirming
 pub mod Entries
 pub mod Unique

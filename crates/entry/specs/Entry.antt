@@ -6,7 +6,7 @@ use Rattle.status.specs.declared.Answer.{Answer}
 use Rattle.status.specs.declared.Answer.the-variants.{Clear, Marked, Silent}
 use Rattle.node.specs.declared.state.Settings.{Settings}
 use Rattle.node.specs.Setting.{GateSetting, outputs, pwm, held, timer, Setting, place, mask, gate, Value, get, make}
-use Rattle.node.specs.Effect.{Effect, keeps, stores, copies, effect, writes, settingsUp}
+use Rattle.node.specs.Effect.{Effect, keeps, stores, copies, effect, writes, settingsPowerUp}
 use Rattle.entry.specs.declared.Known.{Known}
 use Rattle.entry.specs.declared.Entry.{Entry}
 use Rattle.entry.specs.declared.Reach.{Reach}
@@ -43,8 +43,8 @@ abbrev pub shows : Entry → (s : Setting) → Value s
 shows e s = get (e .settings) s
 
 -- "makes all settings known as power-up has them"
-abbrev pub entryUp : Entry
-entryUp = record { settings = settingsUp; known = flags (λ s. true) }
+abbrev pub entryPowerUp : Entry
+entryPowerUp = record { settings = settingsPowerUp; known = flags (λ s. true) }
 
 -- the flag of a setting after a command, confirmed or not: "A confirmed command makes what it writes known and new, .. except copies of a held set
 -- in doubt: those go into doubt. Unconfirmed: all that it may write goes into doubt"
@@ -53,8 +53,8 @@ newFlag {s} sure keeps k = flag k s
 newFlag sure (stores v) k = sure
 newFlag sure (copies t f) k = sure && flag k t
 
-abbrev pub marked : Command → Bool → Known → Known
-marked c sure k = flags (λ s. newFlag sure (effect c s) k)
+abbrev pub markOf : Command → Bool → Known → Known
+markOf c sure k = flags (λ s. newFlag sure (effect c s) k)
 
 -- the value of a setting after a confirmed command; "A setting in doubt shows its last known value"
 abbrev pub newValue : {s : Setting} → Effect s → Entry → Value s
@@ -62,40 +62,40 @@ newValue {s} keeps e = shows e s
 newValue (stores v) e = v
 newValue {s} (copies t f) e = cond (knows e t) (f (shows e t)) (shows e s)
 
-abbrev pub confirmed : Command → Entry → Entry
-confirmed c e = record { settings = make (λ s. newValue (effect c s) e); known = marked c true (e .known) }
+abbrev pub confirmOf : Command → Entry → Entry
+confirmOf c e = record { settings = make (λ s. newValue (effect c s) e); known = markOf c true (e .known) }
 
 -- unconfirmed: no value changes
-abbrev pub doubted : Command → Entry → Entry
-doubted c e = record { settings = e .settings; known = marked c false (e .known) }
+abbrev pub doubtOf : Command → Entry → Entry
+doubtOf c e = record { settings = e .settings; known = markOf c false (e .known) }
 
 -- "Good and clear confirms the command. Good and not clear: the record stays as before. All else counts as silence: unconfirmed";
 -- confirmed "except at nodes in doubt about their place when it went to a group"
-abbrev pub noted : Answer → Reach → Command → Entry → Entry
-noted Marked r c e = e
-noted Clear Misses c e = e
-noted Clear Hits c e = confirmed c e
-noted Clear May c e = doubted c e
-noted Silent Misses c e = e
-noted Silent Hits c e = doubted c e
-noted Silent May c e = doubted c e
+abbrev pub noteOf : Answer → Reach → Command → Entry → Entry
+noteOf Marked r c e = e
+noteOf Clear Misses c e = e
+noteOf Clear Hits c e = confirmOf c e
+noteOf Clear May c e = doubtOf c e
+noteOf Silent Misses c e = e
+noteOf Silent Hits c e = doubtOf c e
+noteOf Silent May c e = doubtOf c e
 
 -- the same of one setting: its flag and its value, by what becomes of it
-abbrev pub notedFlag : Answer → Reach → {s : Setting} → Effect s → Entry → Bool
-notedFlag Marked r {s} f e = knows e s
-notedFlag Clear Misses {s} f e = knows e s
-notedFlag Clear Hits f e = newFlag true f (e .known)
-notedFlag Clear May f e = newFlag false f (e .known)
-notedFlag Silent Misses {s} f e = knows e s
-notedFlag Silent Hits f e = newFlag false f (e .known)
-notedFlag Silent May f e = newFlag false f (e .known)
+abbrev pub noteFlag : Answer → Reach → {s : Setting} → Effect s → Entry → Bool
+noteFlag Marked r {s} f e = knows e s
+noteFlag Clear Misses {s} f e = knows e s
+noteFlag Clear Hits f e = newFlag true f (e .known)
+noteFlag Clear May f e = newFlag false f (e .known)
+noteFlag Silent Misses {s} f e = knows e s
+noteFlag Silent Hits f e = newFlag false f (e .known)
+noteFlag Silent May f e = newFlag false f (e .known)
 
-abbrev pub notedValue : Answer → Reach → {s : Setting} → Effect s → Entry → Value s
-notedValue Clear Hits f e = newValue f e
-notedValue Clear Misses {s} f e = shows e s
-notedValue Clear May {s} f e = shows e s
-notedValue Marked r {s} f e = shows e s
-notedValue Silent r {s} f e = shows e s
+abbrev pub noteValue : Answer → Reach → {s : Setting} → Effect s → Entry → Value s
+noteValue Clear Hits f e = newValue f e
+noteValue Clear Misses {s} f e = shows e s
+noteValue Clear May {s} f e = shows e s
+noteValue Marked r {s} f e = shows e s
+noteValue Silent r {s} f e = shows e s
 
 -- each value by its flag: the new one where it is known, else the old one
 abbrev pub blendOf : Known → Settings → Settings → Settings

@@ -9,7 +9,7 @@ use node::Settings;
 use status::Answer;
 ghost use mathlib.Core.Path.{_≡_};
 ghost use mathlib.Core.Bool.{cond, _&&_};
-ghost use Rattle.entry.specs.Entry.{entryUp, marked, blendOf, confirmed, doubted, noted};
+ghost use Rattle.entry.specs.Entry.{entryPowerUp, markOf, blendOf, confirmOf, doubtOf, noteOf};
 
 // Which of the six settings are known; the others are in doubt.
 pub struct Known {
@@ -46,7 +46,7 @@ fn both(a: bool, b: bool) -> bool
 
 // The flags after a command: what it stores is known if the command is sure, that is confirmed; what it copies, if the original is known too.
 fn mark(known: Known, c: Command, sure: bool) -> Known
-    ensures { λ r. ⌜ r ≡ marked c sure known ⌝ }
+    ensures { λ r. ⌜ r ≡ markOf c sure known ⌝ }
 {
     let mut k = known;
     match c {
@@ -142,7 +142,7 @@ fn blend(known: Known, new: Settings, old: Settings) -> Settings
 impl Entry {
     // At power-up every setting is known.
     pub fn power_up() -> Entry
-        ensures { λ r. ⌜ r ≡ entryUp ⌝ }
+        ensures { λ r. ⌜ r ≡ entryPowerUp ⌝ }
     {
         Entry {
             settings: Settings::power_up(),
@@ -159,7 +159,7 @@ impl Entry {
 
     // All that a command may write goes into doubt.
     pub fn doubt(self, c: Command) -> Entry
-        ensures { λ r. ⌜ r ≡ doubted c self ⌝ }
+        ensures { λ r. ⌜ r ≡ doubtOf c self ⌝ }
     {
         let known = self.known;
         let mut e = self;
@@ -169,7 +169,7 @@ impl Entry {
 
     // A confirmed command makes what it writes known and new; a copy of a held set in doubt goes into doubt.
     fn confirm(self, c: Command) -> Entry
-        ensures { λ r. ⌜ r ≡ confirmed c self ⌝ }
+        ensures { λ r. ⌜ r ≡ confirmOf c self ⌝ }
     {
         let before = self.known;
         let known = mark(before, c, true);
@@ -182,7 +182,7 @@ impl Entry {
 
     // The entry after an exchange: the command, whether it went to the node, and how it was answered.
     pub fn note(self, answer: Answer, reach: Reach, c: Command) -> Entry
-        ensures { λ r. ⌜ r ≡ noted answer reach c self ⌝ }
+        ensures { λ r. ⌜ r ≡ noteOf answer reach c self ⌝ }
     {
         match answer {
             Answer::Marked => self,

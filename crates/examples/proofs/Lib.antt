@@ -1,3 +1,3 @@
-pub mod Rows
+mod Rows
 pub mod Starred
 pub mod Further

@@ -3,22 +3,22 @@ use mathlib.Core.Bool.{Bool, true, false}
 use mathlib.Core.List.{List}
 use mathlib.Core.Path.{_≡_, refl}
 use Rattle.buffer.specs.Sum.{total, endsInSum}
-use Rattle.buffer.specs.Buffer.{place}
-use Rattle.packet.specs.Packet.{dataOf, frameOf, intactOf, readOf}
+use Rattle.buffer.specs.Buffer.{written}
+use Rattle.packet.specs.Packet.{dataPart, frameOf, isIntact, readOf}
 use Rattle.packet.specs.Build.{buildOf}
 use Rattle.command.specs.declared.Command.the-variants.{SetOutputs}
-use Rattle.command.specs.Command.{rowsOf, readingOf}
-use Rattle.command.specs.Build.{buildFor, commandBuilt}
+use Rattle.command.specs.Command.{listedOf, commandRead}
+use Rattle.command.specs.Build.{buildFor, commandBuild}
 use Rattle.status.specs.declared.Answer.the-variants as answer
 use Rattle.entry.specs.declared.Entry.{Entry}
-use Rattle.ledger.specs.Ledger.{leastOf, eachFrom, settled}
+use Rattle.ledger.specs.Ledger.{ledgerLeast, eachFrom, settleOf}
 use Rattle.session.specs.declared.Exchange.the-variants.{Idle, Waiting}
 use Rattle.session.specs.declared.Session.{Session}
 use Rattle.session.specs.declared.End.the-variants.{Done, Sent}
-use Rattle.session.specs.Session.{validOf, closedOf, nodeAt, givenPlace}
-use Rattle.sending.specs.Sending.{waitingOf, readyCheck, opened, transmitted}
+use Rattle.session.specs.Session.{isValid, isClosed, nodeAt, givenPlace}
+use Rattle.sending.specs.Sending.{isWaiting, readyCheck, openExchange, transmitOf}
 use Rattle.host.specs.Calls.{orderCheck, orderOf}
-use Rattle.reports.specs.Report.{giving, asking, concluded, finished}
+use Rattle.reports.specs.Report.{isGiving, isAsking, concludeOf, finishOf}
 use Rattle.examples.specs.Example.{stepOf, knownBut, entryWith, addressed, pair, shown}
 use Rattle.examples.specs.Starred.{outputs5, fresh, doubtful, known5, Starred}
 use Rattle.examples.proofs.Rows.{clear, marked, spoilt, _and_}
@@ -29,23 +29,23 @@ module _ (rest : List Entry) where
   waiting b = pair 2 (Waiting (nodeAt 2) (SetOutputs 5)) (addressed 1) (entryWith (givenPlace 2) 0 (knownBut b true true)) rest
 
   sent : (b : Bool) → stepOf outputs5 (pair 2 Idle (addressed 1) (entryWith (givenPlace 2) 0 (knownBut b true true)) rest) ≡ record { end = Sent 6; session = waiting b }
-  unfolding total place buildFor commandBuilt validOf closedOf waitingOf readyCheck orderCheck opened transmitted orderOf
+  unfolding total written buildFor commandBuild isValid isClosed isWaiting readyCheck orderCheck openExchange transmitOf orderOf
   sent b = refl
 
-  lost : finished (waiting true) answer.Silent ≡ record { end = Done; session = shown doubtful rest }
-  unfolding validOf closedOf leastOf eachFrom settled concluded finished
+  lost : finishOf (waiting true) answer.Silent ≡ record { end = Done; session = shown doubtful rest }
+  unfolding isValid isClosed ledgerLeast eachFrom settleOf concludeOf finishOf
   lost = refl
 
-  confirmed : finished (waiting false) answer.Clear ≡ record { end = Done; session = shown known5 rest }
-  unfolding validOf closedOf leastOf eachFrom settled giving asking concluded finished
+  confirmed : finishOf (waiting false) answer.Clear ≡ record { end = Done; session = shown known5 rest }
+  unfolding isValid isClosed ledgerLeast eachFrom settleOf isGiving isAsking concludeOf finishOf
   confirmed = refl
 
-  kept : finished (waiting true) answer.Marked ≡ record { end = Done; session = shown fresh rest }
-  unfolding validOf closedOf concluded finished
+  kept : finishOf (waiting true) answer.Marked ≡ record { end = Done; session = shown fresh rest }
+  unfolding isValid isClosed concludeOf finishOf
   kept = refl
 
   pub starred : Starred rest
-  unfolding total endsInSum dataOf frameOf intactOf readOf buildOf rowsOf readingOf buildFor commandBuilt
+  unfolding total endsInSum dataPart frameOf isIntact readOf buildOf listedOf commandRead buildFor commandBuild
   starred =
       (record { built = λ out. refl; packed = λ out. refl; reads = record { command = 0xE; end = 4; whole = refl; known = refl } }) and
       (record { built = λ out. refl; packed = λ out. refl; reads = record { command = 0x1; end = 6; whole = refl; known = refl } }) and

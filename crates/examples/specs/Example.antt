@@ -6,7 +6,7 @@ use mathlib.Core.Path.{_≡_}
 use lib.ListN.{replicate}
 use Rattle.wire.specs.Promise.{Outcome}
 use Rattle.wire.specs.Address.{byteOf}
-use Rattle.buffer.specs.Buffer.{place}
+use Rattle.buffer.specs.Buffer.{written}
 use Rattle.wire.specs.declared.address.Individual.{Individual}
 use Rattle.wire.specs.declared.address.Group.{Group}
 use Rattle.wire.specs.declared.address.Address.{Address}
@@ -15,10 +15,10 @@ use Rattle.packet.specs.Build.{buildOf}
 use Rattle.command.specs.declared.Place.{Place}
 use Rattle.command.specs.declared.Command.{Command}
 use Rattle.command.specs.Command.{ReadsAs}
-use Rattle.command.specs.Build.{codeOf, bytesOf, commandBuilt}
+use Rattle.command.specs.Build.{codeOf, ownData, commandBuild}
 use Rattle.status.specs.declared.Answer.the-variants.{Silent}
 use Rattle.node.specs.declared.state.Settings.{Settings}
-use Rattle.node.specs.Effect.{settingsUp}
+use Rattle.node.specs.Effect.{settingsPowerUp}
 use Rattle.entry.specs.declared.Known.{Known}
 use Rattle.entry.specs.declared.Entry.{Entry}
 use Rattle.session.specs.declared.Exchange.{Exchange}
@@ -28,7 +28,7 @@ use Rattle.session.specs.declared.Step.{Step}
 use Rattle.session.specs.Session.{stepNumber, givenPlace}
 use Rattle.walk.specs.Walk.{nextOf, askOf}
 use Rattle.host.specs.Calls.{orderOf, regroupOf}
-use Rattle.reports.specs.Report.{finished, reportOf}
+use Rattle.reports.specs.Report.{finishOf, reportOf}
 
 -- what the host does, or hears
 pub data Event : Type 0 where
@@ -48,7 +48,7 @@ stepOf next s = nextOf s buffer .answer
 stepOf ask s = askOf s buffer .answer
 stepOf (order to c) s = orderOf s to c buffer .answer
 stepOf (regroup i g leader) s = regroupOf s i g leader buffer .answer
-stepOf silence s = finished s Silent
+stepOf silence s = finishOf s Silent
 stepOf (reply bytes) s = reportOf s bytes
 
 -- the numbers that a course of events gives, one for each, and the session after it
@@ -62,8 +62,8 @@ knownBut outputs pwm held = record { place = true; mask = true; outputs = output
 
 -- a node's settings: its place, its outputs; all else as power-up has it
 abbrev pub settingsWith : Place → ℕ → Settings
-settingsWith place outputs = record {
-  place = place;
+settingsWith written outputs = record {
+  place = written;
   mask = 0;
   outputs = outputs;
   pwm = record { first = 0; second = 0 };
@@ -73,11 +73,11 @@ settingsWith place outputs = record {
 
 -- and its entry, with what is known
 abbrev pub entryWith : Place → ℕ → Known → Entry
-entryWith place outputs known = record { settings = settingsWith place outputs; known = known }
+entryWith written outputs known = record { settings = settingsWith written outputs; known = known }
 
 -- a node at power-up whose place, and nothing else, is in doubt
 abbrev pub placeInDoubt : Entry
-placeInDoubt = entryWith (settingsUp .place) 0 (record { place = false; mask = true; outputs = true; pwm = true; held = true; timer = true })
+placeInDoubt = entryWith (settingsPowerUp .place) 0 (record { place = false; mask = true; outputs = true; pwm = true; held = true; timer = true })
 
 -- a node that was given its address and nothing else
 abbrev pub addressed : ℕ → Entry
@@ -88,16 +88,16 @@ abbrev pub pair : ℕ → Exchange → Entry → Entry → List Entry → Sessio
 pair walk x first second rest = record { started = true; n = 2; walk = walk; exchange = x; entries = first ∷ second ∷ rest }
 
 -- two nodes with no exchange open, as the record shows them
-pub record Shown : Type 0 where
+pub record TwoNodes : Type 0 where
   pub walk : ℕ
   pub first : Entry
   pub second : Entry
 
-abbrev pub shown : Shown → List Entry → Session
+abbrev pub shown : TwoNodes → List Entry → Session
 shown r rest = pair (r .walk) Idle (r .first) (r .second) rest
 
 -- "n = 2, ready"
-abbrev pub ready : Entry → Entry → Shown
+abbrev pub ready : Entry → Entry → TwoNodes
 ready first second = record { walk = 2; first = first; second = second }
 
 -- an example: a command, where it goes, and its packet; some bytes, and the number that reading them gives;
@@ -105,12 +105,12 @@ ready first second = record { walk = 2; first = first; second = second }
 pub data Example : Type 0 where
   packet : Address → Command → List ℕ → Example
   number : List ℕ → ℕ → Example
-  course : Shown → List Event → List ℕ → Shown → Example
+  course : TwoNodes → List Event → List ℕ → TwoNodes → Example
 
 -- a packet is built, from the command and from its parts, at the start of whatever buffer is lent, and reads as that command
 pub record Packets (to : Address) (c : Command) (bytes : List ℕ) : Type 0 where
-  pub built : (out : List ℕ) → commandBuilt to c out ≡ place bytes out
-  pub packed : (out : List ℕ) → buildOf (byteOf to) (codeOf c) (bytesOf c) out ≡ place bytes out
+  pub built : (out : List ℕ) → commandBuild to c out ≡ written bytes out
+  pub packed : (out : List ℕ) → buildOf (byteOf to) (codeOf c) (ownData c) out ≡ written bytes out
   pub reads : ReadsAs bytes to c
 
 -- what an example says, whatever the further 29 entries are

@@ -5,9 +5,9 @@ use lib.ListN.{replicate}
 use Rattle.command.specs.declared.Held.{Held}
 use Rattle.command.specs.declared.Command.the-variants.{SynchOutput, SetSynchOutput}
 use Rattle.entry.specs.declared.Entry.{Entry}
-use Rattle.entry.specs.Entry.{entryUp}
+use Rattle.entry.specs.Entry.{entryPowerUp}
 use Rattle.session.specs.Session.{nodeAt, givenPlace}
-use Rattle.examples.specs.Example.{next, ask, order, regroup, silence, reply, knownBut, entryWith, placeInDoubt, addressed, Shown, ready, Example, number, course, Hold}
+use Rattle.examples.specs.Example.{next, ask, order, regroup, silence, reply, knownBut, entryWith, placeInDoubt, addressed, TwoNodes, ready, Example, number, course, Hold}
 use Rattle.examples.specs.Starred.{fresh}
 
 -- a held set
@@ -22,14 +22,14 @@ abbrev pub joined80 : Entry
 joined80 = entryWith (record { address = record { 0 = 2 }; group = record { 0 = 0x80 }; leader = false }) 0 (knownBut true true true)
 
 -- no address is given yet; address 1 is in doubt; address 1 is confirmed
-abbrev pub up : Shown
-up = record { walk = 0; first = entryUp; second = entryUp }
+abbrev pub up : TwoNodes
+up = record { walk = 0; first = entryPowerUp; second = entryPowerUp }
 
-abbrev pub unplaced : Shown
-unplaced = record { walk = 0; first = placeInDoubt; second = entryUp }
+abbrev pub unplaced : TwoNodes
+unplaced = record { walk = 0; first = placeInDoubt; second = entryPowerUp }
 
-abbrev pub confirmed1 : Shown
-confirmed1 = record { walk = 1; first = addressed 1; second = entryUp }
+abbrev pub confirmed1 : TwoNodes
+confirmed1 = record { walk = 1; first = addressed 1; second = entryPowerUp }
 
 abbrev pub others : List Example
 others =

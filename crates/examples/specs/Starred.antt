@@ -6,21 +6,21 @@ use Rattle.command.specs.declared.Place.{Place}
 use Rattle.command.specs.declared.Command.the-variants.{SetAddress, ReadStatus, SynchOutput, SetOutputs, Nop}
 use Rattle.entry.specs.declared.Entry.{Entry}
 use Rattle.session.specs.Session.{nodeAt, givenPlace}
-use Rattle.examples.specs.Example.{Event, order, silence, reply, knownBut, entryWith, addressed, Shown, ready, Example, packet, number, course, Hold}
+use Rattle.examples.specs.Example.{Event, order, silence, reply, knownBut, entryWith, addressed, TwoNodes, ready, Example, packet, number, course, Hold}
 
 -- "Set Outputs 5 to node 2"
 abbrev pub outputs5 : Event
 outputs5 = order (nodeAt 2) (SetOutputs 5)
 
 -- "n = 2, ready": both nodes were given their addresses
-abbrev pub fresh : Shown
+abbrev pub fresh : TwoNodes
 fresh = ready (addressed 1) (addressed 2)
 
 -- node 2 with "only its outputs in doubt"; and with outputs "known, 5"
-abbrev pub doubtful : Shown
+abbrev pub doubtful : TwoNodes
 doubtful = ready (addressed 1) (entryWith (givenPlace 2) 0 (knownBut false true true))
 
-abbrev pub known5 : Shown
+abbrev pub known5 : TwoNodes
 known5 = ready (addressed 1) (entryWith (givenPlace 2) 5 (knownBut true true true))
 
 -- node 3 as leader of 0x81

@@ -3,14 +3,14 @@ use Prim.Native.Nat.{ℕ, _+_, _*_}
 use mathlib.Core.List.{List}
 use lib.ListN.{getD, drop}
 
--- the byte at a place; 0 past the end
-abbrev pub byteOf : List ℕ → ℕ → ℕ
-byteOf s at = getD s at 0
+-- the byte at a position; 0 past the end
+abbrev pub fieldsByte : List ℕ → ℕ → ℕ
+fieldsByte s at = getD s at 0
 
--- two bytes from a place on
-abbrev pub wordOf : List ℕ → ℕ → ℕ
-wordOf s at = getD (drop at s) 0 0 + getD (drop at s) 1 0 * 256
+-- two bytes from a position on
+abbrev pub fieldsWord : List ℕ → ℕ → ℕ
+fieldsWord s at = getD (drop at s) 0 0 + getD (drop at s) 1 0 * 256
 
 -- four bytes
 abbrev pub longOf : List ℕ → ℕ → ℕ
-longOf s at = wordOf (drop at s) 0 + wordOf (drop at s) 2 * 65536
+longOf s at = fieldsWord (drop at s) 0 + fieldsWord (drop at s) 2 * 65536

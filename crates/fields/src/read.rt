@@ -2,11 +2,11 @@
 ghost use Prim.Native.Nat.{_≤_};
 ghost use mathlib.Core.Path.{_≡_};
 ghost use lib.ListN.{length, drop};
-ghost use Rattle.fields.specs.Field.{byteOf, wordOf, longOf};
+ghost use Rattle.fields.specs.Field.{fieldsByte, fieldsWord, longOf};
 
-// The byte at a place.
+// The byte at a position.
 pub fn byte(s: &[u8], at: usize) -> u8
-    ensures { λ r. ⌜ r ≡ byteOf (now (s .entry)) at ⌝ }
+    ensures { λ r. ⌜ r ≡ fieldsByte (now (s .entry)) at ⌝ }
 {
     if at < s.len() {
         return s[at];
@@ -14,9 +14,9 @@ pub fn byte(s: &[u8], at: usize) -> u8
     0
 }
 
-// The two bytes from a place on, least significant first.
+// The two bytes from a position on, least significant first.
 pub fn word(s: &[u8], at: usize) -> u16
-    ensures { λ r. ⌜ r ≡ wordOf (now (s .entry)) at ⌝ }
+    ensures { λ r. ⌜ r ≡ fieldsWord (now (s .entry)) at ⌝ }
 {
     let pair = text::rest(s, at);
     let low = byte(pair, 0);

@@ -4,14 +4,14 @@ mod bench;
 use bench::exchange;
 use command::Command;
 use libc::STDOUT_FILENO;
-use session::Seen;
 use session::Session;
+use session::Shown;
 use wire::Address;
 use wire::Individual;
 
 // Prints a node's number, whether its outputs are known, and the outputs.
 fn print(s: Session, node: u8) {
-    if let Seen::Found(entry) = session::look(s, Individual(node)) {
+    if let Shown::Found(entry) = session::look(s, Individual(node)) {
         let known = if entry.known.outputs { 1 } else { 0 };
         let outputs = entry.settings.outputs;
         let low = (outputs % 256) as u8;

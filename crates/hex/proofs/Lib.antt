@@ -1,4 +1,4 @@
 pub mod Puts
-pub mod Pairing
+mod Pairing
 pub mod Meaning
 pub mod Unique

@@ -10,8 +10,8 @@ use lib.ListN.{length}
 use borrow.Author.Tests.{lt-ltb, le-ltb, ltb-true, ltb-false, eqb-true}
 use Rattle.wire.proofs.Impossible.{impossible}
 use Rattle.buffer.specs.Change.{AllBytes}
-use Rattle.hex.specs.Digits.{digitOf, charOf}
-use Rattle.hex.specs.Hex.{space, hexOf, hexRest, hexText, Content, bytes, malformed, pairBy, pairOf, before, onPair, packetIn, bytesIn}
+use Rattle.hex.specs.Digits.{digitOf, characterOf}
+use Rattle.hex.specs.Hex.{space, hexPair, hexRest, hexText, Content, bytes, malformed, pairBy, readPair, before, onPair, packetIn, bytesIn}
 use Rattle.hex.specs.declared.pairs.Pair.the-variants.{Last, More, Bad}
 
 -- ---- digits
@@ -26,30 +26,30 @@ digit-high v k h =
     rw (le-ltb (55 + v) 48 (omega arith), le-ltb (55 + v) 58 (omega arith), le-ltb (55 + v) 65 (omega arith), lt-ltb (55 + v) 71 (omega arith)) (omega arith)
 
 -- the digit of a value has that value
-pub digit-char : (v : ℕ) → v < 16 → digitOf (charOf v) ≡ v
-unfolding charOf
+pub digit-char : (v : ℕ) → v < 16 → digitOf (characterOf v) ≡ v
+unfolding characterOf
 digit-char v h = go (ltb v 10) refl
   where
     go : (t : Bool) → ltb v 10 ≡ t → digitOf (cond t (48 + v) (55 + v)) ≡ v
     go true e = digit-low v (ltb-true v 10 e)
     go false e = digit-high v (ltb-false v 10 e) h
 
-char-low : (v : ℕ) → v < 10 → charOf v ≡ 48 + v
-unfolding charOf
+char-low : (v : ℕ) → v < 10 → characterOf v ≡ 48 + v
+unfolding characterOf
 char-low v h = rw (lt-ltb v 10 h)
 
-char-high : (v : ℕ) → 10 ≤ v → charOf v ≡ 55 + v
-unfolding charOf
+char-high : (v : ℕ) → 10 ≤ v → characterOf v ≡ 55 + v
+unfolding characterOf
 char-high v h = rw (le-ltb v 10 h)
 
 -- a character that has a value is the digit of it
-pub char-digit : (b : ℕ) → digitOf b ≤ 15 → charOf (digitOf b) ≡ b
+pub char-digit : (b : ℕ) → digitOf b ≤ 15 → characterOf (digitOf b) ≡ b
 unfolding digitOf
 char-digit b h = go (ltb b 48) (ltb b 58) (ltb b 65) (ltb b 71) refl refl refl refl h
   where
     go : (t u v w : Bool) → ltb b 48 ≡ t → ltb b 58 ≡ u → ltb b 65 ≡ v → ltb b 71 ≡ w
         → cond t 16 (cond u (b - 48) (cond v 16 (cond w (b - 55) 16))) ≤ 15
-        → charOf (cond t 16 (cond u (b - 48) (cond v 16 (cond w (b - 55) 16)))) ≡ b
+        → characterOf (cond t 16 (cond u (b - 48) (cond v 16 (cond w (b - 55) 16)))) ≡ b
     go true u v w et eu ev ew k = absurd (let y : ⊥ = omega arith in y)
     go false true v w et eu ev ew k =
         let x : 48 ≤ b = ltb-false b 48 et in let z : b < 58 = ltb-true b 58 eu in
@@ -63,12 +63,12 @@ char-digit b h = go (ltb b 48) (ltb b 58) (ltb b 65) (ltb b 71) refl refl refl r
 -- ---- bytes that are written are read
 
 pair-char : (b : ℕ) (s : List ℕ) → b < 256
-    → pairOf (charOf (b / 16) ∷ charOf (b % 16) ∷ s) ≡ pairBy (b / 16) (b % 16) (charOf (b / 16) ∷ charOf (b % 16) ∷ s)
-unfolding pairOf
+    → readPair (characterOf (b / 16) ∷ characterOf (b % 16) ∷ s) ≡ pairBy (b / 16) (b % 16) (characterOf (b / 16) ∷ characterOf (b % 16) ∷ s)
+unfolding readPair
 pair-char b s h =
-    rw (le-ltb (length (charOf (b / 16) ∷ charOf (b % 16) ∷ s)) 2 (omega arith), digit-char (b / 16) (omega arith), digit-char (b % 16) (omega arith))
+    rw (le-ltb (length (characterOf (b / 16) ∷ characterOf (b % 16) ∷ s)) 2 (omega arith), digit-char (b / 16) (omega arith), digit-char (b % 16) (omega arith))
 
-packet-hex : (b : ℕ) (bs : List ℕ) → b < 256 → AllBytes bs → packetIn (hexOf b ++ hexRest bs) ≡ bytes (b ∷ bs)
+packet-hex : (b : ℕ) (bs : List ℕ) → b < 256 → AllBytes bs → packetIn (hexPair b ++ hexRest bs) ≡ bytes (b ∷ bs)
 unfolding hexRest pairBy
 packet-hex b [] h k =
     let e : b / 16 * 16 + b % 16 ≡ b = omega arith in
@@ -76,11 +76,11 @@ packet-hex b [] h k =
 packet-hex b (c ∷ cs) h k =
     let e : b / 16 * 16 + b % 16 ≡ b = omega arith in
     rw (
-      pair-char b (space ∷ hexOf c ++ hexRest cs) h,
+      pair-char b (space ∷ hexPair c ++ hexRest cs) h,
       le-ltb 15 (b / 16) (omega arith),
       le-ltb 15 (b % 16) (omega arith),
       e,
-      le-ltb (length (hexOf b ++ (space ∷ hexOf c ++ hexRest cs))) 3 (omega arith),
+      le-ltb (length (hexPair b ++ (space ∷ hexPair c ++ hexRest cs))) 3 (omega arith),
       packet-hex c cs (k .0) (k .1),
     )
 
@@ -90,7 +90,7 @@ written-reads (b ∷ bs) k = packet-hex b bs (k .0) (k .1)
 
 -- ---- what is read was so written
 
-hex-of : (a b : ℕ) → digitOf a ≤ 15 → digitOf b ≤ 15 → a ∷ b ∷ [] ≡ hexOf (digitOf a * 16 + digitOf b)
+hex-of : (a b : ℕ) → digitOf a ≤ 15 → digitOf b ≤ 15 → a ∷ b ∷ [] ≡ hexPair (digitOf a * 16 + digitOf b)
 hex-of a b h k =
     let q : (digitOf a * 16 + digitOf b) / 16 ≡ digitOf a = omega arith in
     let r : (digitOf a * 16 + digitOf b) % 16 ≡ digitOf b = omega arith in
@@ -107,7 +107,7 @@ record Form (l d : List ℕ) : Type 0 where
   pub small : AllBytes d
 
 packet-written : (l d : List ℕ) → packetIn l ≡ bytes d → Form l d
-unfolding hexRest pairOf pairBy
+unfolding hexRest readPair pairBy
 packet-written [] d e = impossible cc
 packet-written (a ∷ []) d e = impossible cc
 packet-written (a ∷ b ∷ []) d e = go (ltb 15 (digitOf a)) (ltb 15 (digitOf b)) refl refl e
@@ -125,13 +125,13 @@ packet-written (a ∷ b ∷ c ∷ s) d e =
     go (ltb 15 (digitOf a)) (ltb 15 (digitOf b)) (ltb (length (a ∷ b ∷ c ∷ s)) 3) (eqb c space) refl refl refl refl (packet-written s)
     (rw (le-ltb (length (a ∷ b ∷ c ∷ s)) 2 (omega arith)) at e)
   where
-    on : (v : ℕ) (q : Content) → v < 256 → a ∷ b ∷ [] ≡ hexOf v → c ≡ space → ((m : List ℕ) → q ≡ bytes m → Form s m) → before v q ≡ bytes d → Form (a ∷ b ∷ c ∷ s) d
+    on : (v : ℕ) (q : Content) → v < 256 → a ∷ b ∷ [] ≡ hexPair v → c ≡ space → ((m : List ℕ) → q ≡ bytes m → Form s m) → before v q ≡ bytes d → Form (a ∷ b ∷ c ∷ s) d
     on v malformed n h k ih e = impossible cc
     on v (bytes m) n h k ih e =
         let z : d ≡ v ∷ m = cc in
         let f : Form s m = ih m refl in
-        let ea : a ≡ charOf (v / 16) = cc in
-        let eb : b ≡ charOf (v % 16) = cc in
+        let ea : a ≡ characterOf (v / 16) = cc in
+        let eb : b ≡ characterOf (v % 16) = cc in
         rw z (record { same = rw (ea, eb, k, rest-of m (f .some), ← f .same); some = omega arith; small = (n, f .small) })
 
     go : (t u v w : Bool) → ltb 15 (digitOf a) ≡ t → ltb 15 (digitOf b) ≡ u → ltb (length (a ∷ b ∷ c ∷ s)) 3 ≡ v → eqb c space ≡ w

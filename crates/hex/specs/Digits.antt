@@ -8,5 +8,5 @@ unfoldable pub digitOf : ℕ → ℕ
 digitOf b = cond (ltb b 48) 16 (cond (ltb b 58) (b - 48) (cond (ltb b 65) 16 (cond (ltb b 71) (b - 55) 16)))
 
 -- the capital hexadecimal digit of a value below 16
-unfoldable pub charOf : ℕ → ℕ
-charOf v = cond (ltb v 10) (48 + v) (55 + v)
+unfoldable pub characterOf : ℕ → ℕ
+characterOf v = cond (ltb v 10) (48 + v) (55 + v)

@@ -4,12 +4,11 @@ use mathlib.Core.Bool.{cond}
 use mathlib.Core.List.{List, [], _∷_, _++_}
 use lib.Dec.{ltb, eqb}
 use lib.ListN.{length, getD, take, drop}
-use lib.Seq.{sets}
 use Rattle.wire.specs.Promise.{Outcome}
 use Rattle.wire.specs.Numbers.{done, numberOf}
 use Rattle.wire.specs.declared.refusal.Refusal.the-variants.{Range}
 use Rattle.text.specs.Lines.{newline}
-use Rattle.hex.specs.Digits.{digitOf, charOf}
+use Rattle.hex.specs.Digits.{digitOf, characterOf}
 use Rattle.hex.specs.declared.pairs.Pair.{Pair}
 use Rattle.hex.specs.declared.pairs.Pair.the-variants.{Last, More, Bad}
 use Rattle.hex.specs.declared.pairs.Parsed.{Parsed}
@@ -21,18 +20,18 @@ space = 32
 -- ---- written
 
 -- a byte as two digits
-abbrev pub hexOf : ℕ → List ℕ
-hexOf b = charOf (b / 16) ∷ charOf (b % 16) ∷ []
+abbrev pub hexPair : ℕ → List ℕ
+hexPair b = characterOf (b / 16) ∷ characterOf (b % 16) ∷ []
 
 -- a space and two digits for each byte
 unfoldable pub hexRest : List ℕ → List ℕ
 hexRest [] = []
-hexRest (b ∷ bs) = space ∷ hexOf b ++ hexRest bs
+hexRest (b ∷ bs) = space ∷ hexPair b ++ hexRest bs
 
 -- two digits for each byte, single spaces between
 abbrev pub hexText : List ℕ → List ℕ
 hexText [] = []
-hexText (b ∷ bs) = hexOf b ++ hexRest bs
+hexText (b ∷ bs) = hexPair b ++ hexRest bs
 
 -- and the newline behind it
 abbrev pub hexLine : List ℕ → List ℕ
@@ -53,8 +52,8 @@ pairBy high low s =
     (cond (ltb (length s) 3) (Last (high * 16 + low))
     (cond (eqb (getD s 2 0) space) (More (high * 16 + low)) Bad)))
 
-unfoldable pub pairOf : List ℕ → Pair
-pairOf s = cond (ltb (length s) 2) Bad (pairBy (digitOf (getD s 0 0)) (digitOf (getD s 1 0)) s)
+unfoldable pub readPair : List ℕ → Pair
+readPair s = cond (ltb (length s) 2) Bad (pairBy (digitOf (getD s 0 0)) (digitOf (getD s 1 0)) s)
 
 -- b in front of what the rest of the line says
 abbrev pub before : ℕ → Content → Content
@@ -70,8 +69,8 @@ onPair Bad more = malformed
 abbrev pub packetIn : List ℕ → Content
 packetIn [] = malformed
 packetIn (a ∷ []) = malformed
-packetIn (a ∷ b ∷ []) = onPair (pairOf (a ∷ b ∷ [])) malformed
-packetIn (a ∷ b ∷ c ∷ s) = onPair (pairOf (a ∷ b ∷ c ∷ s)) (packetIn s)
+packetIn (a ∷ b ∷ []) = onPair (readPair (a ∷ b ∷ [])) malformed
+packetIn (a ∷ b ∷ c ∷ s) = onPair (readPair (a ∷ b ∷ c ∷ s)) (packetIn s)
 
 -- the bytes of a line; "An empty line is an empty packet"
 abbrev pub bytesIn : List ℕ → Content
@@ -83,24 +82,11 @@ unfoldable pub over : List ℕ → List ℕ → List ℕ
 over d out = take (length out) d ++ drop (length d) out
 
 -- what reading a line answers and leaves: a malformed one leaves the buffer as it stood
-abbrev pub readInto : Content → List ℕ → Outcome Parsed (List ℕ)
-readInto (bytes d) out = record { answer = Bytes (length d); left = over d out }
-readInto malformed out = record { answer = Malformed; left = out }
+abbrev pub readBytes : Content → List ℕ → Outcome Parsed (List ℕ)
+readBytes (bytes d) out = record { answer = Bytes (length d); left = over d out }
+readBytes malformed out = record { answer = Malformed; left = out }
 
 -- the number of what reading finds: 6, "bench line not of its form"
 abbrev pub parsedNumber : Parsed → ℕ
 parsedNumber (Bytes n) = done
 parsedNumber Malformed = numberOf Range
-
--- ---- read on the way, with i bytes read before: of a malformed line only that it is one
-pub data Seen : Type 0 where
-  whole : ℕ → List ℕ → Seen
-  none : Seen
-
-abbrev pub seen : Parsed → List ℕ → Seen
-seen (Bytes n) out = whole n out
-seen Malformed out = none
-
-abbrev pub laidFrom : Content → ℕ → List ℕ → Seen
-laidFrom (bytes d) i out = whole (i + length d) (sets out i d)
-laidFrom malformed i out = none

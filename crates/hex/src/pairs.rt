@@ -4,7 +4,8 @@ use text::rest;
 ghost use mathlib.Core.Path.{_≡_};
 ghost use lib.ListN.{set};
 ghost use Rattle.wire.specs.Promise.{Lending};
-ghost use Rattle.hex.specs.Hex.{pairBy, pairOf, packetIn, bytesIn, seen, laidFrom, readInto, parsedNumber};
+ghost use Rattle.hex.specs.Hex.{pairBy, readPair, packetIn, bytesIn, readBytes, parsedNumber};
+ghost use Rattle.hex.specs.Gathering.{gathered, readPairs};
 
 // Between two bytes.
 pub(crate) const SPACE: u8 = 32;
@@ -23,7 +24,7 @@ pub(crate) enum Pair {
 }
 
 // s starts with two digits of these values.
-fn pair_of(high: u8, low: u8, s: &[u8]) -> Pair
+fn pair_by(high: u8, low: u8, s: &[u8]) -> Pair
     ensures { λ r. ⌜ r ≡ pairBy high low (now (s .entry)) ⌝ }
 {
     if 15 < high {
@@ -43,14 +44,14 @@ fn pair_of(high: u8, low: u8, s: &[u8]) -> Pair
 }
 
 fn read_pair(s: &[u8]) -> Pair
-    ensures { λ r. ⌜ r ≡ pairOf (now (s .entry)) ⌝ }
+    ensures { λ r. ⌜ r ≡ readPair (now (s .entry)) ⌝ }
 {
     if s.len() < 2 {
         return Pair::Bad;
     }
     let high = digit(s[0]);
     let low = digit(s[1]);
-    pair_of(high, low, s)
+    pair_by(high, low, s)
 }
 
 // Stores b, if there is room.
@@ -64,7 +65,7 @@ fn store(out: &mut [u8], at: usize, b: u8)
 
 // The bytes of a line that isn't empty go to the start of `out`, as many as it has room for.
 fn read_pairs(line: &[u8], out: &mut [u8]) -> Parsed
-    ensures { λ r. ⌜ seen r (now (out .exit)) ≡ laidFrom (packetIn (now (line .entry))) 0 (now (out .entry)) ⌝ }
+    ensures { λ r. ⌜ gathered r (now (out .exit)) ≡ readPairs (packetIn (now (line .entry))) 0 (now (out .entry)) ⌝ }
 {
     let mut at = 0;
     let mut count = 0;
@@ -90,7 +91,7 @@ fn read_pairs(line: &[u8], out: &mut [u8]) -> Parsed
 // The bytes of a line go to the start of `out`, as many as it has room for; the rest of it stays.
 // The line is read through first, so that a malformed one leaves `out` as it stood.
 pub fn read_bytes(line: &[u8], out: &mut [u8]) -> Parsed
-    ensures { λ r. ⌜ Lending parsedNumber r (now (out .exit)) (readInto (bytesIn (now (line .entry))) (now (out .entry))) ⌝ }
+    ensures { λ r. ⌜ Lending parsedNumber r (now (out .exit)) (readBytes (bytesIn (now (line .entry))) (now (out .entry))) ⌝ }
 {
     if line.len() < 1 {
         return Parsed::Bytes(0);

@@ -11,13 +11,13 @@ ghost use Prim.Native.Nat.{_+_, _*_, _≤_};
 ghost use lib.ListN.{length};
 ghost use lib.Seq.{sets};
 ghost use Rattle.wire.specs.Promise.{Lending};
-ghost use Rattle.buffer.specs.Buffer.{builtNumber, place};
-ghost use Rattle.hex.specs.Hex.{hexOf, hexRest, hexLine};
+ghost use Rattle.buffer.specs.Buffer.{builtNumber, written};
+ghost use Rattle.hex.specs.Hex.{hexPair, hexRest, hexLine};
 
 // Two digits.
 fn put_pair(out: &mut [u8], at: usize, b: u8)
     requires { ⌜ at + 2 ≤ length (now out) ⌝ }
-    ensures { λ _. ⌜ now (out .exit) ≡ sets (now (out .entry)) at (hexOf b) ⌝ }
+    ensures { λ _. ⌜ now (out .exit) ≡ sets (now (out .entry)) at (hexPair b) ⌝ }
 {
     let high = character(b / 16);
     let low = character(b % 16);
@@ -28,7 +28,7 @@ fn put_pair(out: &mut [u8], at: usize, b: u8)
 // A space and two digits.
 fn put_next(out: &mut [u8], at: usize, b: u8)
     requires { ⌜ at + 3 ≤ length (now out) ⌝ }
-    ensures { λ _. ⌜ now (out .exit) ≡ sets (now (out .entry)) at (32 ∷ hexOf b) ⌝ }
+    ensures { λ _. ⌜ now (out .exit) ≡ sets (now (out .entry)) at (32 ∷ hexPair b) ⌝ }
 {
     out[at] = SPACE;
     put_pair(out, at + 1, b);
@@ -48,7 +48,7 @@ fn put_rest(out: &mut [u8], at: usize, bytes: &[u8])
 
 // A line of no bytes.
 fn write_empty(out: &mut [u8]) -> Built
-    ensures { λ r. ⌜ Lending builtNumber r (now (out .exit)) (place (10 ∷ []) (now (out .entry))) ⌝ }
+    ensures { λ r. ⌜ Lending builtNumber r (now (out .exit)) (written (10 ∷ []) (now (out .entry))) ⌝ }
 {
     if out.len() < 1 {
         return Built::Refused(Refusal::Room);
@@ -59,7 +59,7 @@ fn write_empty(out: &mut [u8]) -> Built
 
 // The bytes as a line with its newline, at the start of `out`, whose rest stays.
 pub fn write_line(bytes: &[u8], out: &mut [u8]) -> Built
-    ensures { λ r. ⌜ Lending builtNumber r (now (out .exit)) (place (hexLine (now (bytes .entry))) (now (out .entry))) ⌝ }
+    ensures { λ r. ⌜ Lending builtNumber r (now (out .exit)) (written (hexLine (now (bytes .entry))) (now (out .entry))) ⌝ }
 {
     let n = bytes.len();
     if n < 1 {

@@ -1,7 +1,7 @@
-pub mod Refusing
-pub mod Sending
-pub mod Clear
+mod Refusing
+mod Sending
+pub mod Passing
 pub mod Sent
 pub mod Stands
-pub mod Soundness
+pub mod Validity
 pub mod Unique

@@ -13,14 +13,14 @@ use Rattle.command.specs.declared.Command.{Command}
 use Rattle.command.specs.declared.Command.the-variants.{SetAddress}
 use Rattle.session.specs.declared.Session.{Session}
 use Rattle.session.specs.declared.Step.{Step}
-use Rattle.session.specs.Session.{stepNumber, refusedStep}
+use Rattle.session.specs.Session.{stepNumber, refuseOf}
 use Rattle.sending.specs.declared.Check.{Check}
-use Rattle.sending.specs.declared.Check.the-variants.{Clear, Refuse}
-use Rattle.sending.specs.Sending.{transmitted}
+use Rattle.sending.specs.declared.Check.the-variants.{Passed, Refuse}
+use Rattle.sending.specs.Sending.{transmitOf}
 use Rattle.host.specs.Calls.{orderCheck, regroupCheck, orderOf, regroupOf}
 use Rattle.sending.proofs.Transmitting.{refused-by}
 
-module _ (k : Check) (s : Session) (out : List ℕ) (why : Refusal) (r : Step) (by : k ≡ Refuse why) (e : r ≡ refusedStep s why) where
+module _ (k : Check) (s : Session) (out : List ℕ) (why : Refusal) (r : Step) (by : k ≡ Refuse why) (e : r ≡ refuseOf s why) where
   pub order-refused : (to : Address) (c : Command) → k ≡ orderCheck s to c → Lending stepNumber r out (orderOf s to c out)
   unfolding orderOf
   order-refused to c p = rw (← p) (refused-by k s out _ why r by e)
@@ -29,13 +29,13 @@ module _ (k : Check) (s : Session) (out : List ℕ) (why : Refusal) (r : Step) (
   unfolding regroupOf
   regroup-refused i g leader p = rw (← p) (refused-by k s out _ why r by e)
 
-module _ (k : Check) (s : Session) (out o : List ℕ) (r : Step) (by : k ≡ Clear) where
-  pub order-sends : (to : Address) (c : Command) → k ≡ orderCheck s to c → Lending stepNumber r o (transmitted s to to c out) → Lending stepNumber r o (orderOf s to c out)
+module _ (k : Check) (s : Session) (out o : List ℕ) (r : Step) (by : k ≡ Passed) where
+  pub order-sends : (to : Address) (c : Command) → k ≡ orderCheck s to c → Lending stepNumber r o (transmitOf s to to c out) → Lending stepNumber r o (orderOf s to c out)
   unfolding orderOf
   order-sends to c p l = rw (← p, by) l
 
   pub regroup-sends : (i : Individual) (g : Group) (leader : Bool) → k ≡ regroupCheck s i g leader
-      → Lending stepNumber r o (transmitted s (address.Individual i) (address.Individual i) (SetAddress (record { address = i; group = g; leader = leader })) out)
+      → Lending stepNumber r o (transmitOf s (address.Individual i) (address.Individual i) (SetAddress (record { address = i; group = g; leader = leader })) out)
       → Lending stepNumber r o (regroupOf s i g leader out)
   unfolding regroupOf
   regroup-sends i g leader p l = rw (← p, by) l

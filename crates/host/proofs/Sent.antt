@@ -1,10 +1,10 @@
--- What a ready session sends: where the check is clear, its packet stands at the start of the buffer, or 5 leaves all as it stood.
+-- What a ready session sends: where the check is passed, its packet stands at the start of the buffer, or 5 leaves all as it stood.
 use Prim.Native.Nat.{ℕ, _≤_}
 use mathlib.Core.Bool.{Bool, true, false}
 use mathlib.Core.List.{List}
 use mathlib.Core.Path.{_≡_}
 use borrow.Author.Tests.{not-false}
-use Rattle.wire.specs.Address.{isGroup, inRange}
+use Rattle.wire.specs.Address.{groupInRange, inRange}
 use Rattle.wire.specs.declared.address.Individual.{Individual}
 use Rattle.wire.specs.declared.address.Group.{Group}
 use Rattle.wire.specs.declared.address.Address.{Address}
@@ -16,30 +16,30 @@ use Rattle.command.proofs.Roles.{ordinary-fits}
 use Rattle.session.specs.declared.Session.{Session}
 use Rattle.session.specs.Session.{offChain, stepNumber}
 use Rattle.session.proofs.Sessions.{on-chain}
-use Rattle.sending.specs.declared.Check.the-variants.{Clear}
-use Rattle.host.specs.Calls.{badGroup, orderCheck, regroupCheck, orderOf, regroupOf}
-use Rattle.sending.proofs.Sent.{Sends, transmitted-sends, by-clear, node-fits, Went, went}
-use Rattle.host.proofs.Clear.{order-says, regroup-says}
+use Rattle.sending.specs.declared.Check.the-variants.{Passed}
+use Rattle.host.specs.Calls.{isBadGroup, orderCheck, regroupCheck, orderOf, regroupOf}
+use Rattle.sending.proofs.Sent.{Sends, transmitted-sends, by-passed, node-fits, Went, went}
+use Rattle.host.proofs.Passing.{order-says, regroup-says}
 
 -- what an order may go to is of its range
-pub to-fits : (n : ℕ) (to : Address) → n ≤ 31 → badGroup to ≡ false → offChain n to ≡ false → inRange to ≡ true
+pub to-fits : (n : ℕ) (to : Address) → n ≤ 31 → isBadGroup to ≡ false → offChain n to ≡ false → inRange to ≡ true
 to-fits n (address.Individual i) f p q = node-fits n (i .0) f (on-chain n i q .high)
-to-fits n (address.Group g) f p q = not-false (isGroup (g .0)) p
+to-fits n (address.Group g) f p q = not-false (groupInRange (g .0)) p
 
-pub order-sent : (s : Session) (to : Address) (c : Command) (out : List ℕ) → orderCheck s to c ≡ Clear → Sends s to to c out (orderOf s to c out)
+pub order-sent : (s : Session) (to : Address) (c : Command) (out : List ℕ) → orderCheck s to c ≡ Passed → Sends s to to c out (orderOf s to c out)
 unfolding orderOf
 order-sent s to c out h =
     let t = order-says s to c h in
-    by-clear (orderCheck s to c) s to to c out _ h
+    by-passed (orderCheck s to c) s to to c out _ h
     (transmitted-sends s to to c out (to-fits (s .n) to (t .session .valid .few) (t .group) (t .node)) (ordinary-fits c (t .ordinary) .0))
 
-pub regroup-sent : (s : Session) (i : Individual) (g : Group) (leader : Bool) (out : List ℕ) → regroupCheck s i g leader ≡ Clear
+pub regroup-sent : (s : Session) (i : Individual) (g : Group) (leader : Bool) (out : List ℕ) → regroupCheck s i g leader ≡ Passed
     → Sends s (address.Individual i) (address.Individual i) (SetAddress (record { address = i; group = g; leader = leader })) out (regroupOf s i g leader out)
 unfolding regroupOf
 regroup-sent s i g leader out h =
     let t = regroup-says s i g leader h in
     let f = node-fits (s .n) (i .0) (t .session .valid .few) (t .node .high) in
-    by-clear (regroupCheck s i g leader) s _ _ _ out _ h (transmitted-sends s _ _ _ out f (rw (f, t .group)))
+    by-passed (regroupCheck s i g leader) s _ _ _ out _ h (transmitted-sends s _ _ _ out f (rw (f, t .group)))
 
 module _ (s : Session) (out : List ℕ) where
   pub order-went : (to : Address) (c : Command) → stepNumber (orderOf s to c out .answer) ≡ done → Went (orderCheck s to c) s to to c out (orderOf s to c out)

@@ -1,5 +1,5 @@
 // The calls of a ready session: a command to a node or a group, and a node in another group.
-// Promised: the refusals in the paper's order, else the packet at the start of the lent buffer and its exchange opened; any number but 0 changes nothing.
+// Promised: the refusals in the paper's sequence, else the packet at the start of the lent buffer and its exchange opened; any number but 0 changes nothing.
 // Left to others: how a session becomes ready (start, walk), how long to wait for a reply (the caller), and what it comes to (reports).
 use command::Command;
 use command::Place;
@@ -18,11 +18,11 @@ ghost use mathlib.Core.Path.{_≡_};
 ghost use Rattle.wire.specs.Promise.{Promise, Lending};
 ghost use Rattle.session.specs.Session.{stepNumber};
 ghost use Rattle.sending.specs.Sending.{checkNumber};
-ghost use Rattle.host.specs.Calls.{badGroup, clashOf, orderCheck, regroupCheck, orderOf, regroupOf};
+ghost use Rattle.host.specs.Calls.{isBadGroup, hasRival, orderCheck, regroupCheck, orderOf, regroupOf};
 
 // 6: a group below 0x80.
 fn is_bad_group(to: Address) -> bool
-    ensures { λ r. ⌜ r ≡ badGroup to ⌝ }
+    ensures { λ r. ⌜ r ≡ isBadGroup to ⌝ }
 {
     match to {
         Address::Individual(_) => false,
@@ -42,8 +42,8 @@ fn order_check(s: Session, to: Address, c: Command) -> Check
 }
 
 // 11: a leader wish, while another node leads that group or has its place in doubt.
-fn does_clash(s: Session, node: Individual, group: Group, leader: bool) -> bool
-    ensures { λ r. ⌜ r ≡ clashOf s node group leader ⌝ }
+fn has_rival(s: Session, node: Individual, group: Group, leader: bool) -> bool
+    ensures { λ r. ⌜ r ≡ hasRival s node group leader ⌝ }
 {
     if leader {
         let entries = s.entries;
@@ -60,7 +60,7 @@ fn regroup_check(s: Session, node: Individual, group: Group, leader: bool) -> Ch
         .refuse_if(!group.in_range(), Refusal::Range)
         .refuse_if(off_chain(s.n, Address::Individual(node)), Refusal::NoNode)
         .refuse_if(s.walk < s.n, Refusal::NotDue)
-        .refuse_if(does_clash(s, node, group, leader), Refusal::Led)
+        .refuse_if(has_rival(s, node, group, leader), Refusal::Led)
 }
 
 // A command of a ready session to a node or a group. A Set Address is refused with 6: it has calls of its own.
@@ -69,7 +69,7 @@ pub fn order(s: Session, to: Address, c: Command, out: &mut [u8]) -> Step
 {
     match order_check(s, to, c) {
         Check::Refuse(why) => refuse(s, why),
-        Check::Clear => transmit(s, to, to, c, out),
+        Check::Passed => transmit(s, to, to, c, out),
     }
 }
 
@@ -79,7 +79,7 @@ pub fn regroup(s: Session, node: Individual, group: Group, leader: bool, out: &m
 {
     match regroup_check(s, node, group, leader) {
         Check::Refuse(why) => refuse(s, why),
-        Check::Clear => {
+        Check::Passed => {
             let to = Address::Individual(node);
             let place = Place {
                 address: node,

@@ -1,4 +1,4 @@
-pub mod Turns
-pub mod Nodes
+mod Turns
+mod Nodes
 pub mod Ledgers
 pub mod Unique

@@ -11,7 +11,7 @@ use Rattle.wire.specs.declared.address.Address.the-variants as address
 use Rattle.command.specs.declared.Place.{Place}
 use Rattle.entry.specs.declared.Entry.{Entry}
 use Rattle.entry.specs.declared.Reach.the-variants.{Misses, Hits, May}
-use Rattle.ledger.specs.Ledger.{reachBy, rivals}
+use Rattle.ledger.specs.Ledger.{reachBy, isRival}
 
 module _ (to : Address) (k : ℕ) (known : Bool) (p : Place) where
   pub its-node : (i : Individual) → to ≡ address.Individual i → i .0 ≡ k → Hits ≡ reachBy to k known p
@@ -30,14 +30,14 @@ module _ (to : Address) (k : ℕ) (known : Bool) (p : Place) where
   some-group g e h = rw (e, h)
 
 module _ (k : ℕ) (g : Group) (j : ℕ) (e : Entry) where
-  pub itself : j ≡ k → false ≡ rivals k g j e
+  pub itself : j ≡ k → false ≡ isRival k g j e
   itself p = rw (eq-eqb j k p)
 
-  pub leads : (r : Bool) → (j ≡ k → ⊥) → e .known .place ≡ true → e .settings .place .leader ≡ true → r ≡ eqb (e .settings .place .group .0) (g .0) → r ≡ rivals k g j e
+  pub leads : (r : Bool) → (j ≡ k → ⊥) → e .known .place ≡ true → e .settings .place .leader ≡ true → r ≡ eqb (e .settings .place .group .0) (g .0) → r ≡ isRival k g j e
   leads r p h l q = rw (ne-eqb j k p, h, l) q
 
-  pub follows : (j ≡ k → ⊥) → e .known .place ≡ true → e .settings .place .leader ≡ false → false ≡ rivals k g j e
+  pub follows : (j ≡ k → ⊥) → e .known .place ≡ true → e .settings .place .leader ≡ false → false ≡ isRival k g j e
   follows p h l = rw (ne-eqb j k p, h, l)
 
-  pub unknown : (j ≡ k → ⊥) → e .known .place ≡ false → true ≡ rivals k g j e
+  pub unknown : (j ≡ k → ⊥) → e .known .place ≡ false → true ≡ isRival k g j e
   unknown p h = rw (ne-eqb j k p, h)

@@ -17,8 +17,8 @@ use Rattle.command.specs.declared.Command.the-variants.{HardReset}
 use Rattle.status.specs.declared.Answer.{Answer}
 use Rattle.entry.specs.declared.Entry.{Entry}
 use Rattle.entry.specs.declared.Reach.{Reach}
-use Rattle.entry.specs.Entry.{noted, doubted}
-use Rattle.ledger.specs.Ledger.{leastOf, reachOf, eachFrom, settling, settled, forgetting, forgotten, rivals, ledFrom, isLed}
+use Rattle.entry.specs.Entry.{noteOf, doubtOf}
+use Rattle.ledger.specs.Ledger.{ledgerLeast, reachOf, eachFrom, settling, settleOf, forgetting, forgetOf, isRival, ledFrom, isLed}
 
 capped : (t : Bool) (n : ℕ) → ltb 31 n ≡ t → cond t 31 n ≤ 31
 capped true n h = omega arith
@@ -60,47 +60,47 @@ each-map f j [] = refl
 each-map f j (e ∷ es) = ap (λ (t : List Entry). f e ∷ t) (each-map f (suc j) es)
 
 -- how many entries n counts: never more than there are
-pub least-31 : (n end : ℕ) → end ≡ leastOf n → end ≤ 31
-unfolding leastOf
+pub least-31 : (n end : ℕ) → end ≡ ledgerLeast n → end ≤ 31
+unfolding ledgerLeast
 least-31 n end e = rw e (capped (ltb 31 n) n refl)
 
 -- a turn of `settle`, and its end
 pub settle-turn : (a : Answer) (to : Address) (c : Command) (i : ℕ) (es l : List Entry) (r : Reach) (e d : Entry)
-    → l ≡ eachFrom (settling a to c) 1 i es → r ≡ reachOf to (i + 1) (getD l i d) → e ≡ noted a r c (getD l i d) → i < length es
+    → l ≡ eachFrom (settling a to c) 1 i es → r ≡ reachOf to (i + 1) (getD l i d) → e ≡ noteOf a r c (getD l i d) → i < length es
     → set l i e ≡ eachFrom (settling a to c) 1 (i + 1) es
 settle-turn a to c i es l r e d p q f h = rw (f, q, p) (one-more (settling a to c) i es d h)
 
-pub settle-end : (a : Answer) (to : Address) (c : Command) (n i : ℕ) (es l : List Entry) → i ≡ leastOf n
-    → l ≡ eachFrom (settling a to c) 1 i es → l ≡ settled a to c n es
-unfolding settled
+pub settle-end : (a : Answer) (to : Address) (c : Command) (n i : ℕ) (es l : List Entry) → i ≡ ledgerLeast n
+    → l ≡ eachFrom (settling a to c) 1 i es → l ≡ settleOf a to c n es
+unfolding settleOf
 settle-end a to c n i es l p q = q ∙ ap (λ (m : ℕ). eachFrom (settling a to c) 1 m es) p
 
 -- a turn of `forget`, and its end
-pub forget-turn : (i : ℕ) (es l : List Entry) (e d : Entry) → l ≡ eachFrom forgetting 1 i es → e ≡ doubted HardReset (getD l i d) → i < length es
+pub forget-turn : (i : ℕ) (es l : List Entry) (e d : Entry) → l ≡ eachFrom forgetting 1 i es → e ≡ doubtOf HardReset (getD l i d) → i < length es
     → set l i e ≡ eachFrom forgetting 1 (i + 1) es
 forget-turn i es l e d p f h = rw (f, p) (one-more forgetting i es d h)
 
-pub forget-end : (i : ℕ) (es l : List Entry) → i ≡ length es → l ≡ eachFrom forgetting 1 i es → l ≡ forgotten es
-unfolding forgotten
-forget-end i es l p q = q ∙ ap (λ (m : ℕ). eachFrom forgetting 1 m es) p ∙ each-map (doubted HardReset) 1 es
+pub forget-end : (i : ℕ) (es l : List Entry) → i ≡ length es → l ≡ eachFrom forgetting 1 i es → l ≡ forgetOf es
+unfolding forgetOf
+forget-end i es l p q = q ∙ ap (λ (m : ℕ). eachFrom forgetting 1 m es) p ∙ each-map (doubtOf HardReset) 1 es
 
 -- `is_led`: where it starts; a rival is found; a turn; none is found
-pub led-start : (k : ℕ) (g : Group) (n end : ℕ) (es : List Entry) → end ≡ leastOf n → ledFrom k g (0 + 1) (end - 0) (drop 0 es) ≡ isLed k g n es
+pub led-start : (k : ℕ) (g : Group) (n end : ℕ) (es : List Entry) → end ≡ ledgerLeast n → ledFrom k g (0 + 1) (end - 0) (drop 0 es) ≡ isLed k g n es
 unfolding isLed
 led-start k g n end es e = ap (λ (m : ℕ). ledFrom k g 1 m es) (omega arith)
 
 here : (k : ℕ) (g : Group) (n i : ℕ) (es : List Entry) (d : Entry) → i < n → i < length es
-    → ledFrom k g (i + 1) (n - i) (drop i es) ≡ (rivals k g (i + 1) (getD es i d) || ledFrom k g (i + 1 + 1) (n - (i + 1)) (drop (i + 1) es))
+    → ledFrom k g (i + 1) (n - i) (drop i es) ≡ (isRival k g (i + 1) (getD es i d) || ledFrom k g (i + 1 + 1) (n - (i + 1)) (drop (i + 1) es))
 unfolding ledFrom
 here k g n i es d p q =
     let e : n - i ≡ suc (n - (i + 1)) = omega arith in
     rw (e, drop-cons es i d, add-one (i + 1), add-one i)
 
 module _ (k : ℕ) (g : Group) (end i : ℕ) (es : List Entry) (w : Bool) (h : ledFrom k g (i + 1) (end - i) (drop i es) ≡ w) where
-  pub led-found : (d : Entry) (t : Bool) → t ≡ rivals k g (i + 1) (getD es i d) → t ≡ true → i < end → i < length es → true ≡ w
+  pub led-found : (d : Entry) (t : Bool) → t ≡ isRival k g (i + 1) (getD es i d) → t ≡ true → i < end → i < length es → true ≡ w
   led-found d t r y p q = rw (← r, y) at (sym (here k g end i es d p q)) ∙ h
 
-  pub led-turn : (d : Entry) (t : Bool) → t ≡ rivals k g (i + 1) (getD es i d) → t ≡ false → i < end → i < length es
+  pub led-turn : (d : Entry) (t : Bool) → t ≡ isRival k g (i + 1) (getD es i d) → t ≡ false → i < end → i < length es
       → ledFrom k g (i + 1 + 1) (end - (i + 1)) (drop (i + 1) es) ≡ w
   led-turn d t r y p q = rw (← r, y) at (sym (here k g end i es d p q)) ∙ h
 

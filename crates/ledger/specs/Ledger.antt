@@ -16,19 +16,19 @@ use Rattle.node.specs.Setting.{place, zeroed}
 use Rattle.entry.specs.declared.Entry.{Entry}
 use Rattle.entry.specs.declared.Reach.{Reach}
 use Rattle.entry.specs.declared.Reach.the-variants.{Misses, Hits, May}
-use Rattle.entry.specs.Entry.{flags, knows, shows, entryUp, noted, doubted}
+use Rattle.entry.specs.Entry.{flags, knows, shows, entryPowerUp, noteOf, doubtOf}
 
 -- what an index past the record's end reads as
-abbrev pub blank : Entry
-blank = record { settings = zeroed; known = flags (λ s. false) }
+abbrev pub blankEntry : Entry
+blankEntry = record { settings = zeroed; known = flags (λ s. false) }
 
 -- "makes all settings known as power-up has them"
-unfoldable pub ledgerUp : List Entry
-ledgerUp = replicate mostNodes entryUp
+unfoldable pub ledgerPowerUp : List Entry
+ledgerPowerUp = replicate mostNodes entryPowerUp
 
 -- how many entries n counts
-unfoldable pub leastOf : ℕ → ℕ
-leastOf n = cond (ltb mostNodes n) mostNodes n
+unfoldable pub ledgerLeast : ℕ → ℕ
+ledgerLeast n = cond (ltb mostNodes n) mostNodes n
 
 -- "Who may be written: node k for an individual command ..; for a group, nodes known to be in it and every node whose place is in doubt"
 -- by the node's place, and whether it is known
@@ -48,29 +48,29 @@ eachFrom f j (suc n) (e ∷ es) = f j e ∷ eachFrom f (suc j) n es
 
 -- what the entry of node k becomes when a command to an address was answered
 abbrev pub settling : Answer → Address → Command → ℕ → Entry → Entry
-settling a to c k e = noted a (reachOf to k e) c e
+settling a to c k e = noteOf a (reachOf to k e) c e
 
 -- and the record
-unfoldable pub settled : Answer → Address → Command → ℕ → List Entry → List Entry
-settled a to c n es = eachFrom (settling a to c) 1 (leastOf n) es
+unfoldable pub settleOf : Answer → Address → Command → ℕ → List Entry → List Entry
+settleOf a to c n es = eachFrom (settling a to c) 1 (ledgerLeast n) es
 
 -- the same for every node: all that it holds is in doubt
 abbrev pub forgetting : ℕ → Entry → Entry
-forgetting k e = doubted HardReset e
+forgetting k e = doubtOf HardReset e
 
 -- "Hard Reset .. puts all settings in doubt"
-unfoldable pub forgotten : List Entry → List Entry
-forgotten es = map (doubted HardReset) es
+unfoldable pub forgetOf : List Entry → List Entry
+forgetOf es = map (doubtOf HardReset) es
 
 -- node j, another than k, "leads that group or has its place in doubt"
-abbrev pub rivals : ℕ → Group → ℕ → Entry → Bool
-rivals k g j e = not (eqb j k) && (not (knows e place) || (shows e place .leader && eqb (shows e place .group .0) (g .0)))
+abbrev pub isRival : ℕ → Group → ℕ → Entry → Bool
+isRival k g j e = not (eqb j k) && (not (knows e place) || (shows e place .leader && eqb (shows e place .group .0) (g .0)))
 
 -- one of the first n entries, of nodes j, j + 1, .., is such a node's
 unfoldable pub ledFrom : ℕ → Group → ℕ → ℕ → List Entry → Bool
 ledFrom k g j zero es = false
 ledFrom k g j (suc n) [] = false
-ledFrom k g j (suc n) (e ∷ es) = rivals k g j e || ledFrom k g (suc j) n es
+ledFrom k g j (suc n) (e ∷ es) = isRival k g j e || ledFrom k g (suc j) n es
 
 unfoldable pub isLed : ℕ → Group → ℕ → List Entry → Bool
-isLed k g n es = ledFrom k g 1 (leastOf n) es
+isLed k g n es = ledFrom k g 1 (ledgerLeast n) es

@@ -10,11 +10,11 @@ use wire::Address;
 use wire::Group;
 use wire::MOST_NODES;
 ghost use mathlib.Core.Path.{_≡_};
-ghost use Rattle.ledger.specs.Ledger.{ledgerUp, leastOf, reachBy, settled, forgotten, rivals, isLed};
+ghost use Rattle.ledger.specs.Ledger.{ledgerPowerUp, ledgerLeast, reachBy, settleOf, forgetOf, isRival, isLed};
 
 // At power-up.
 pub fn power_up() -> [Entry; MOST_NODES]
-    ensures { λ r. ⌜ r ≡ ledgerUp ⌝ }
+    ensures { λ r. ⌜ r ≡ ledgerPowerUp ⌝ }
 {
     let e = Entry::power_up();
     [e; MOST_NODES]
@@ -23,7 +23,7 @@ pub fn power_up() -> [Entry; MOST_NODES]
 // n, or 31 where n is more: how many entries n counts.
 // So a loop stays within the record, for every n.
 fn least(n: u8) -> u8
-    ensures { λ r. ⌜ r ≡ leastOf n ⌝ }
+    ensures { λ r. ⌜ r ≡ ledgerLeast n ⌝ }
 {
     if MOST_NODES < n as usize {
         return MOST_NODES as u8;
@@ -59,7 +59,7 @@ pub fn settle(
     c: Command,
     answer: Answer,
 ) -> [Entry; MOST_NODES]
-    ensures { λ r. ⌜ r ≡ settled answer to c n entries ⌝ }
+    ensures { λ r. ⌜ r ≡ settleOf answer to c n entries ⌝ }
 {
     let end = least(n);
     let mut all = entries;
@@ -76,7 +76,7 @@ pub fn settle(
 
 // Everything in doubt, in all 31 entries: what a Hard Reset leaves.
 pub fn forget(entries: [Entry; MOST_NODES]) -> [Entry; MOST_NODES]
-    ensures { λ r. ⌜ r ≡ forgotten entries ⌝ }
+    ensures { λ r. ⌜ r ≡ forgetOf entries ⌝ }
 {
     let mut all = entries;
     let mut i = 0;
@@ -90,7 +90,7 @@ pub fn forget(entries: [Entry; MOST_NODES]) -> [Entry; MOST_NODES]
 
 // Whether node j, another than k, leads group g or has its place in doubt.
 fn is_rival(k: u8, g: Group, j: u8, e: Entry) -> bool
-    ensures { λ r. ⌜ r ≡ rivals k g j e ⌝ }
+    ensures { λ r. ⌜ r ≡ isRival k g j e ⌝ }
 {
     if j == k {
         return false;

@@ -13,7 +13,7 @@ use Rattle.command.specs.declared.Command.{Command}
 use Rattle.status.specs.declared.Answer.{Answer}
 use Rattle.node.specs.declared.state.Bench.{Bench}
 use Rattle.node.specs.declared.state.Node.{Node}
-use Rattle.survey.specs.Chain.{blank}
+use Rattle.survey.specs.Chain.{blankNode}
 use Rattle.session.specs.declared.Session.{Session}
 use Rattle.line.specs.World.{benched}
 use Rattle.line.proofs.Invariant.{at, Invariant, Exchanged}
@@ -25,10 +25,10 @@ pub record Benched (ns ms : List Node) : Type 0 where
 
 module _ (ns : List Node) (j : ℕ) (b : Bench) where
   there : (i : ℕ) → i < length ns → j ≡ i → at (set ns j (benched b (at ns j))) i ≡ benched b (at ns i)
-  there i l e = rw e (getD-set-same ns i (benched b (at ns i)) blank l)
+  there i l e = rw e (getD-set-same ns i (benched b (at ns i)) blankNode l)
 
   elsewhere : (i : ℕ) → (j ≡ i → ⊥) → at (set ns j (benched b (at ns j))) i ≡ at ns i
-  elsewhere i n = getD-set-other ns j i (benched b (at ns j)) blank (λ e. n (sym e))
+  elsewhere i n = getD-set-other ns j i (benched b (at ns j)) blankNode (λ e. n (sym e))
 
   settings-same : (i : ℕ) → i < length ns → (t : Bool) → eqb j i ≡ t → at (set ns j (benched b (at ns j))) i .settings ≡ at ns i .settings
   settings-same i l true e = ap (λ (n : Node). n .settings) (there i l (eqb-true j i e))

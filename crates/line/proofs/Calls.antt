@@ -1,4 +1,4 @@
--- A table of nodes with sound records: the chain's call does to it what is said of the list.
+-- A table of nodes with records in range: the chain's call does to it what is said of the list.
 use Prim.Native.Nat.{ℕ, suc, _+_, _≤_, _<_}
 use mathlib.Core.Bool.{true}
 use mathlib.Core.List.{List, [], _∷_}
@@ -8,55 +8,55 @@ use lib.ListN.{length, drop}
 use lib.Seq.{take-append-seam}
 use borrow.Author.Tests.{le-leb, le-ltb}
 use Rattle.wire.specs.Promise.{Outcome}
-use Rattle.buffer.specs.Buffer.{place}
+use Rattle.buffer.specs.Buffer.{written}
 use Rattle.wire.specs.declared.address.Address.{Address}
 use Rattle.packet.specs.Packet.{frameOf}
 use Rattle.packet.specs.declared.Framed.{Framed}
 use Rattle.packet.specs.declared.Framed.the-variants as framed
 use Rattle.status.specs.Status.{T}
 use Rattle.node.specs.declared.state.Node.{Node}
-use Rattle.heard.specs.declared.Heard.{Heard}
+use Rattle.message.specs.declared.Message.{Message}
 use Rattle.reply.specs.Reply.{maskFor}
 use Rattle.mask.proofs.Counts.{size-range}
 use Rattle.reply.proofs.Replies.{reply-length}
 use Rattle.survey.specs.declared.decision.Delivery.{Delivery}
-use Rattle.survey.specs.One.{heardAs, sound}
-use Rattle.survey.specs.Chain.{after, Said, silence, reply, clash, said, allSound}
-use Rattle.survey.specs.Delivery.{Lent, valid, onSaid, deliveredTo, onFrame, deliveredOn}
+use Rattle.survey.specs.One.{messageAs, isRanged}
+use Rattle.survey.specs.Chain.{after, Said, silence, reply, collided, said, allRanged}
+use Rattle.survey.specs.Delivery.{Lent, valid, onSaid, deliveredTo, onFrame, deliverOf}
 use Rattle.survey.proofs.Meaning.{said-says}
 use Rattle.line.specs.Line.{takenBy, spokenBy}
-use Rattle.line.specs.Demand3.{heardBy, Delivers}
+use Rattle.line.specs.Demand3.{saidIn, Delivers}
 use Rattle.line.proofs.Invariant.{at}
 
-all-sound : (l : List Node) → ((i : ℕ) → i < length l → sound (at l i .settings .place) ≡ true) → allSound l ≡ true
-all-sound [] f = refl
-all-sound (n ∷ ns) f = rw (f 0 (omega arith)) (all-sound ns (λ i l. f (suc i) (omega arith)))
+all-ranged : (l : List Node) → ((i : ℕ) → i < length l → isRanged (at l i .settings .place) ≡ true) → allRanged l ≡ true
+all-ranged [] f = refl
+all-ranged (n ∷ ns) f = rw (f 0 (omega arith)) (all-ranged ns (λ i l. f (suc i) (omega arith)))
 
 -- what a delivery does, by what is said
 record Does (o : Outcome Delivery Lent) (ns : List Node) (s : Said) : Type 0 where
   nodes : o .left .nodes ≡ ns
-  says : heardBy (o .answer) (o .left .reply) ≡ s
+  says : saidIn (o .answer) (o .left .reply) ≡ s
 
 module _ (ns : List Node) (out : List ℕ) (room : T + 2 ≤ length out) where
-  does : (to : Address) (h : Heard) (s : Said) → said to h ns ≡ s → Does (onSaid s to h ns out) (after to h ns) s
-  unfolding place
+  does : (to : Address) (h : Message) (s : Said) → said to h ns ≡ s → Does (onSaid s to h ns out) (after to h ns) s
+  unfolding written
   does to h silence e = record { nodes = refl; says = refl }
   does to h (reply r) e =
       let p = said-says to h ns r e in
       let n : length r ≤ T + 2 = omega (arith, ap length (p .bytes), reply-length h (at ns (p .at)), size-range (maskFor h (at ns (p .at))) .1) in
       rw (le-ltb (length out) (length r) (omega arith)) (record { nodes = refl; says = ap reply (take-append-seam r (drop (length r) out)) })
-  does to h clash e = record { nodes = refl; says = refl }
+  does to h collided e = record { nodes = refl; says = refl }
 
   does-frame : (f : Framed) (q : List ℕ) → Does (onFrame f q ns out) (takenBy f q ns) (spokenBy f q ns)
   unfolding deliveredTo
-  does-frame (framed.Whole to k n) q = does to (heardAs k q) (said to (heardAs k q) ns) refl
+  does-frame (framed.Whole to k n) q = does to (messageAs k q) (said to (messageAs k q) ns) refl
   does-frame (framed.Refused why) q = record { nodes = refl; says = refl }
 
-  pub delivers : 1 ≤ length ns → length ns ≤ 31 → ((i : ℕ) → i < length ns → sound (at ns i .settings .place) ≡ true) → (q : List ℕ) → Delivers ns q out
-  unfolding deliveredOn valid
+  pub delivers : 1 ≤ length ns → length ns ≤ 31 → ((i : ℕ) → i < length ns → isRanged (at ns i .settings .place) ≡ true) → (q : List ℕ) → Delivers ns q out
+  unfolding deliverOf valid
   delivers least few f q =
       let d = does-frame (frameOf q) q in
       record { taken = sure; nodes = rw sure (d .nodes); says = rw sure (d .says) }
     where
       sure : valid ns ≡ true
-      sure = rw (le-leb 1 (length ns) least, le-leb (length ns) 31 few) (all-sound ns f)
+      sure = rw (le-leb 1 (length ns) least, le-leb (length ns) 31 few) (all-ranged ns f)

@@ -17,39 +17,39 @@ use Rattle.status.specs.declared.Answer.the-variants.{Clear, Marked, Silent}
 use Rattle.node.specs.Setting.{place}
 use Rattle.node.proofs.Laws.{not-reset}
 use Rattle.entry.specs.declared.Entry.{Entry}
-use Rattle.entry.specs.Entry.{knows, noted}
-use Rattle.ledger.specs.Ledger.{blank, reachOf}
+use Rattle.entry.specs.Entry.{knows, noteOf}
+use Rattle.ledger.specs.Ledger.{blankEntry, reachOf}
 use Rattle.session.specs.declared.Exchange.the-variants.{Idle, Waiting}
 use Rattle.session.specs.declared.Session.{Session}
 use Rattle.session.specs.declared.Step.{Step}
-use Rattle.session.specs.Session.{Sound, offChain, entryOf, askDue, nodeAt, givenPlace}
+use Rattle.session.specs.Session.{Valid, offChain, entryOf, isAskDue, nodeAt, givenPlace}
 use Rattle.session.proofs.Sessions.{valid-from, open-is}
-use Rattle.sending.specs.Sending.{opened}
+use Rattle.sending.specs.Sending.{openExchange}
 use Rattle.sending.proofs.Sent.{opened-waits}
-use Rattle.reports.specs.Report.{giving, asking, onWalk, concluded, finished}
+use Rattle.reports.specs.Report.{isGiving, isAsking, isOnWalk, concludeOf, finishOf}
 use Rattle.reports.proofs.Concluding.{meant, walkAfter, concluded-at, concluded-walk, concluded-n, concluded-idle, concluded-started, finished-waiting, report-is}
-use Rattle.reports.proofs.Soundness.{concluded-sound}
+use Rattle.reports.proofs.Validity.{concluded-valid}
 use Rattle.line.specs.History.{Sending, gives, asks, sends}
-use Rattle.line.specs.Line.{reportedOf, heardIn}
+use Rattle.line.specs.Line.{reportedOf, answerIn}
 use Rattle.line.proofs.Due.{Due, next, ask, order, regroup}
 
 -- the entry of index i, of node i + 1
 abbrev pub entryAt : Session → ℕ → Entry
-entryAt h i = getD (h .entries) i blank
+entryAt h i = getD (h .entries) i blankEntry
 
 -- the session h with an exchange open
 abbrev pub waitingAt : Session → Address → Command → Session
 waitingAt h to c = record { started = h .started; n = h .n; walk = h .walk; exchange = Waiting to c; entries = h .entries }
 
 -- where the walk stands after an answer, and which command it settles
-abbrev pub walked : Sending → Answer → ℕ → ℕ
-walked (gives k) Clear w = w + 1
-walked (gives k) Marked w = w
-walked (gives k) Silent w = w
-walked (asks k) Clear w = w + 1
-walked (asks k) Marked w = w
-walked (asks k) Silent w = w
-walked (sends to c) a w = w
+abbrev pub walkOn : Sending → Answer → ℕ → ℕ
+walkOn (gives k) Clear w = w + 1
+walkOn (gives k) Marked w = w
+walkOn (gives k) Silent w = w
+walkOn (asks k) Clear w = w + 1
+walkOn (asks k) Marked w = w
+walkOn (asks k) Silent w = w
+walkOn (sends to c) a w = w
 
 abbrev pub settles : Sending → Answer → Command → Command
 settles (gives k) a c = c
@@ -65,7 +65,7 @@ pub record Concluded (h : Session) (a : Answer) (to : Address) (c : Command) (w 
   pub walk : t .walk ≡ w
   pub idle : t .exchange ≡ Idle
   pub full : length (t .entries) ≡ 31
-  pub entry : (i : ℕ) → i < h .n → entryAt t i ≡ noted a (reachOf to (suc i) (entryAt h i)) c (entryAt h i)
+  pub entry : (i : ℕ) → i < h .n → entryAt t i ≡ noteOf a (reachOf to (suc i) (entryAt h i)) c (entryAt h i)
 
 -- ---- the exchange is open
 
@@ -75,7 +75,7 @@ due-waits (ask l k) = refl
 due-waits {c = c} (order w o e) = not-reset c e
 due-waits (regroup w o f) = refl
 
-pub due-opens : {h : Session} {what : Sending} {line to : Address} {c : Command} → Due h what line to c → opened h to c ≡ waitingAt h to c
+pub due-opens : {h : Session} {what : Sending} {line to : Address} {c : Command} → Due h what line to c → openExchange h to c ≡ waitingAt h to c
 due-opens {h} {what} {line} {to} {c} d = opened-waits h to c (due-waits d)
 
 on-chain : (n k : ℕ) → 1 ≤ k → k ≤ n → offChain n (nodeAt k) ≡ false
@@ -87,45 +87,45 @@ due-on-chain {h = h} (ask l k) = on-chain (h .n) (h .walk + 1) (omega arith) (om
 due-on-chain (order w o e) = o
 due-on-chain {h = h} (regroup {i = i} w o f) = on-chain (h .n) (i .0) (o .low) (o .high)
 
-waiting-sound : (h : Session) (to : Address) (c : Command) → h .n ≤ 31 → h .walk ≤ h .n → length (h .entries) ≡ 31 → offChain (h .n) to ≡ false
-    → Sound (waitingAt h to c)
-waiting-sound h to c f w l o = record { valid = valid-from (waitingAt h to c) f w o; whole = l }
+waiting-valid : (h : Session) (to : Address) (c : Command) → h .n ≤ 31 → h .walk ≤ h .n → length (h .entries) ≡ 31 → offChain (h .n) to ≡ false
+    → Valid (waitingAt h to c)
+waiting-valid h to c f w l o = record { valid = valid-from (waitingAt h to c) f w o; whole = l }
 
 -- ---- the report closes it
 
-pub reported-finished : (s : Session) (r : Option (List ℕ)) → reportedOf s r ≡ finished s (heardIn r)
+pub reported-finished : (s : Session) (r : Option (List ℕ)) → reportedOf s r ≡ finishOf s (answerIn r)
 reported-finished s none = refl
 reported-finished s (some bytes) = report-is s bytes
 
 -- which command the answer is about, and whether the walk goes on
 module _ (h : Session) (few : h .n ≤ 31) (l : h .walk < h .n) where
-  on-walk : onWalk h (nodeAt (h .walk + 1)) ≡ true
+  on-walk : isOnWalk h (nodeAt (h .walk + 1)) ≡ true
   on-walk = rw (lt-ltb (h .walk) (h .n) l, eq-eqb (h .walk + 1) (h .walk + 1) refl) refl
 
-  gives-it : giving (waitingAt h (nodeAt (h .walk + 1)) (SetAddress (givenPlace (h .walk + 1)))) (nodeAt (h .walk + 1)) (SetAddress (givenPlace (h .walk + 1))) ≡ true
-  unfolding giving
+  gives-it : isGiving (waitingAt h (nodeAt (h .walk + 1)) (SetAddress (givenPlace (h .walk + 1)))) (nodeAt (h .walk + 1)) (SetAddress (givenPlace (h .walk + 1))) ≡ true
+  unfolding isGiving
   gives-it = rw on-walk refl
 
-  gives-not : giving (waitingAt h (nodeAt (h .walk + 1)) Nop) (nodeAt (h .walk + 1)) Nop ≡ false
-  unfolding giving
+  gives-not : isGiving (waitingAt h (nodeAt (h .walk + 1)) Nop) (nodeAt (h .walk + 1)) Nop ≡ false
+  unfolding isGiving
   gives-not = rw on-walk refl
 
-  asks-it : knows (entryOf h (h .walk + 1)) place ≡ false → asking (waitingAt h (nodeAt (h .walk + 1)) Nop) (nodeAt (h .walk + 1)) Nop ≡ true
-  unfolding asking askDue
+  asks-it : knows (entryOf h (h .walk + 1)) place ≡ false → isAsking (waitingAt h (nodeAt (h .walk + 1)) Nop) (nodeAt (h .walk + 1)) Nop ≡ true
+  unfolding isAsking isAskDue
   asks-it k = rw (on-walk, le-ltb 30 (h .walk) (omega arith), k) refl
 
 -- once the walk has ended
 module _ (h : Session) (w : h .walk ≡ h .n) (c : Command) where
-  off-walk : (to : Address) → onWalk (waitingAt h to c) to ≡ false
+  off-walk : (to : Address) → isOnWalk (waitingAt h to c) to ≡ false
   off-walk (address.Individual i) = rw (le-ltb (h .walk) (h .n) (omega arith)) refl
   off-walk (address.Group g) = refl
 
-  never-gives : (to : Address) → giving (waitingAt h to c) to c ≡ false
-  unfolding giving
+  never-gives : (to : Address) → isGiving (waitingAt h to c) to c ≡ false
+  unfolding isGiving
   never-gives to = rw (off-walk to) refl
 
-  never-asks : (to : Address) → asking (waitingAt h to c) to c ≡ false
-  unfolding asking
+  never-asks : (to : Address) → isAsking (waitingAt h to c) to c ≡ false
+  unfolding isAsking
   never-asks to = rw (off-walk to) refl
 
 module _ (h : Session) (few : h .n ≤ 31) where
@@ -143,7 +143,7 @@ module _ (h : Session) (few : h .n ≤ 31) where
   meant-is (regroup w o f) Marked = refl
   meant-is (regroup w o f) Silent = refl
 
-  walked-is : {what : Sending} {line to : Address} {c : Command} → Due h what line to c → (a : Answer) → walkAfter (waitingAt h to c) to c a ≡ walked what a (h .walk)
+  walked-is : {what : Sending} {line to : Address} {c : Command} → Due h what line to c → (a : Answer) → walkAfter (waitingAt h to c) to c a ≡ walkOn what a (h .walk)
   walked-is (next l k) Clear = rw (gives-it h few l) refl
   walked-is (next l k) Marked = refl
   walked-is (next l k) Silent = refl
@@ -159,22 +159,22 @@ module _ (h : Session) (few : h .n ≤ 31) where
 
 module _ {h : Session} {what : Sending} {line to : Address} {c : Command} (d : Due h what line to c)
     (few : h .n ≤ 31) (on : h .walk ≤ h .n) (full : length (h .entries) ≡ 31) where
-  sound : Sound (waitingAt h to c)
-  sound = waiting-sound h to c few on full (due-on-chain d)
+  valid-now : Valid (waitingAt h to c)
+  valid-now = waiting-valid h to c few on full (due-on-chain d)
 
-  pub reported-concludes : h .started ≡ true → (r : Option (List ℕ)) → reportedOf (waitingAt h to c) r .session ≡ concluded (waitingAt h to c) to c (heardIn r)
+  pub reported-concludes : h .started ≡ true → (r : Option (List ℕ)) → reportedOf (waitingAt h to c) r .session ≡ concludeOf (waitingAt h to c) to c (answerIn r)
   reported-concludes s r =
       ap (λ (t : Step). t .session)
-      (reported-finished (waitingAt h to c) r ∙ finished-waiting (waitingAt h to c) (heardIn r) to c (open-is (waitingAt h to c) (sound .valid) s) refl)
+      (reported-finished (waitingAt h to c) r ∙ finished-waiting (waitingAt h to c) (answerIn r) to c (open-is (waitingAt h to c) (valid-now .valid) s) refl)
 
-  pub conclusion : (a : Answer) → Concluded h a to (settles what a c) (walked what a (h .walk)) (concluded (waitingAt h to c) to c a)
+  pub conclusion : (a : Answer) → Concluded h a to (settles what a c) (walkOn what a (h .walk)) (concludeOf (waitingAt h to c) to c a)
   conclusion a = record {
     begun = concluded-started (waitingAt h to c) to c a;
     nodes = concluded-n (waitingAt h to c) to c a;
     walk = concluded-walk (waitingAt h to c) to c a ∙ walked-is h few d a;
     idle = concluded-idle (waitingAt h to c) to c a;
-    full = concluded-sound (waitingAt h to c) to c a sound .whole;
+    full = concluded-valid (waitingAt h to c) to c a valid-now .whole;
     entry = λ i l.
-        concluded-at (waitingAt h to c) to c a i blank few l (omega arith)
-        ∙ ap (λ (m : Command). noted a (reachOf to (suc i) (entryAt h i)) m (entryAt h i)) (meant-is h few d a);
+        concluded-at (waitingAt h to c) to c a i blankEntry few l (omega arith)
+        ∙ ap (λ (m : Command). noteOf a (reachOf to (suc i) (entryAt h i)) m (entryAt h i)) (meant-is h few d a);
   }

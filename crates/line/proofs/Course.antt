@@ -21,14 +21,14 @@ use Rattle.session.specs.declared.End.{End}
 use Rattle.session.specs.declared.End.the-variants as ends
 use Rattle.session.specs.declared.Step.{Step}
 use Rattle.session.specs.Session.{endNumber, stepNumber}
-use Rattle.start.specs.Start.{poweredOf}
+use Rattle.start.specs.Start.{startPowerUp}
 use Rattle.start.proofs.Starting.{power-up-stays}
-use Rattle.reports.specs.Report.{concluded, finished}
-use Rattle.survey.specs.Chain.{Said, silence, reply, clash}
-use Rattle.reports.proofs.Soundness.{finished-stays, report-stays}
+use Rattle.reports.specs.Report.{concludeOf, finishOf}
+use Rattle.survey.specs.Chain.{Said, silence, reply, collided}
+use Rattle.reports.proofs.Validity.{finished-stays, report-stays}
 use Rattle.line.specs.History.{Sending, Sent, counted}
-use Rattle.line.specs.Call.{Call, calledOf, whatOf, resets, Typed}
-use Rattle.line.specs.Line.{Line, quiet, going, coming, late, Arrival, nowhere, Arrives, lost, Nothing, unheard, Returns, quietly, mixed, nodesAfter, saidAfter, reportedOf, heardIn}
+use Rattle.line.specs.Call.{Call, calledOf, whatOf, resets, TypedCall}
+use Rattle.line.specs.Line.{Line, quiet, going, coming, lingering, Arrival, nowhere, Arrives, lost, Nothing, absent, Returns, quietly, mixed, nodesAfter, saidAfter, reportedOf, answerIn}
 use Rattle.line.specs.Line as line
 use Rattle.line.specs.World.{World, hosting, callEnded, called, Comes, start, power, unpowered, call, deliver, report, hurry, delay, stray, bench}
 use Rattle.wire.proofs.Numbers.{not-done}
@@ -36,7 +36,7 @@ use Rattle.line.proofs.Due.{Due, Accepted, accepted, call-not-done, cal
 use Rattle.line.proofs.Closing.{waitingAt, due-opens, reported-finished, reported-concludes, conclusion}
 use Rattle.line.proofs.Exactly.{Exactly, exactly-step}
 use Rattle.line.proofs.Invariant.{at, Invariant, Exchanged}
-use Rattle.line.proofs.Peace.{no-clash}
+use Rattle.line.proofs.Peace.{none-collided}
 use Rattle.line.proofs.Delivery.{nothing-silent, exchanged}
 use Rattle.line.proofs.Exchange.{exchange-step}
 use Rattle.line.proofs.Benching.{Benched, set-benched, benched-exchange, benched-invariant}
@@ -71,22 +71,22 @@ pub record Going (h : Session) (ns : List Node) (past : List Sent) (what : Sendi
 pub record Coming (h : Session) (ns : List Node) (past : List Sent) (what : Sending) (r : Option (List ℕ)) : Type 0 where
   pub old : List Node
   pub opened : Opened h old past what
-  pub exchange : Exchanged (opened .line) (opened .command) old ns (heardIn r)
+  pub exchange : Exchanged (opened .line) (opened .command) old ns (answerIn r)
 
 -- it still is, although silence was reported on it
-pub record Late (h : Session) (ns : List Node) (past : List Sent) (p : List ℕ) : Type 0 where
+pub record Lingering (h : Session) (ns : List Node) (past : List Sent) (p : List ℕ) : Type 0 where
   pub waiting : Session
   pub earlier : List Sent
   pub what : Sending
   pub sent : Going waiting ns earlier what p
   pub host : h ≡ reportedOf waiting none .session
-  pub history : past ≡ record { what = what; heard = Silent } ∷ earlier
+  pub history : past ≡ record { what = what; answer = Silent } ∷ earlier
 
 abbrev pub Stands : Session → List Node → List Sent → Line → Type 0
 Stands h ns past quiet = Settled h ns past
 Stands h ns past (going what p) = Going h ns past what p
 Stands h ns past (coming what r) = Coming h ns past what r
-Stands h ns past (late p) = Late h ns past p
+Stands h ns past (lingering p) = Lingering h ns past p
 
 -- ---- a call that sends
 
@@ -120,52 +120,52 @@ arrives h ns past what p g q r a b =
     record {
       old = ns;
       opened = o;
-      exchange = exchanged (o .line) (o .command) ns (o .range) (o .fits) (o .typed) (no-clash (o .before) ns (o .inv)) (rw (g .packet) at a) b;
+      exchange = exchanged (o .line) (o .command) ns (o .range) (o .fits) (o .typed) (none-collided (o .before) ns (o .inv)) (rw (g .packet) at a) b;
     }
 
 settles-again : (h : Session) (ns : List Node) (past : List Sent) (what : Sending) (r : Option (List ℕ)) → Coming h ns past what r
-    → Settled (reportedOf h r .session) ns (record { what = what; heard = heardIn r } ∷ past)
+    → Settled (reportedOf h r .session) ns (record { what = what; answer = answerIn r } ∷ past)
 settles-again h ns past what r c =
     let o = c .opened in
     let i = o .inv in
-    let t = concluded (waitingAt (o .before) (o .to) (o .command)) (o .to) (o .command) (heardIn r) in
+    let t = concludeOf (waitingAt (o .before) (o .to) (o .command)) (o .to) (o .command) (answerIn r) in
     let e : reportedOf h r .session ≡ t = rw (o .now) (reported-concludes (o .due) (i .few) (i .walked) (i .full) (i .begun) r) in
-    let k = conclusion (o .due) (i .few) (i .walked) (i .full) (heardIn r) in
+    let k = conclusion (o .due) (i .few) (i .walked) (i .full) (answerIn r) in
     rw e (record {
       free = k .idle;
-      inv = exchange-step (o .due) (o .fits) t (c .old) ns i (heardIn r) (c .exchange) k;
-      exactly = exactly-step (o .due) t (counted past) (o .exactly) (heardIn r) k;
+      inv = exchange-step (o .due) (o .fits) t (c .old) ns i (answerIn r) (c .exchange) k;
+      exactly = exactly-step (o .due) t (counted past) (o .exactly) (answerIn r) k;
     })
 
 -- ---- silence is reported before the packet has come
 
 -- whatever is said, nothing need come back
-unheard-of : (s : Said) → Returns s none
-unheard-of silence = quietly unheard
-unheard-of (reply r) = line.Returns.lost unheard
-unheard-of clash = mixed
+absent-of : (s : Said) → Returns s none
+absent-of silence = quietly absent
+absent-of (reply r) = line.Returns.lost absent
+absent-of collided = mixed
 
 -- it comes then, or never: the host, which is in doubt already, is right in either case
-late-settles : {h : Session} {ns : List Node} {past : List Sent} {p : List ℕ} → Late h ns past p → (q : Arrival) → Arrives p q → Settled h (nodesAfter q ns) past
-late-settles {h} {ns} {past} {p} l q a =
+lingering-settles : {h : Session} {ns : List Node} {past : List Sent} {p : List ℕ} → Lingering h ns past p → (q : Arrival) → Arrives p q → Settled h (nodesAfter q ns) past
+lingering-settles {h} {ns} {past} {p} l q a =
     rw (l .host, l .history) (settles-again (l .waiting) (nodesAfter q ns) (l .earlier) (l .what) none
-    (arrives (l .waiting) ns (l .earlier) (l .what) p (l .sent) q none a (unheard-of (saidAfter q ns))))
+    (arrives (l .waiting) ns (l .earlier) (l .what) p (l .sent) q none a (absent-of (saidAfter q ns))))
 
 pub when-idle : (h : Session) (ns : List Node) (past : List Sent) (l : Line) → Stands h ns past l → h .exchange ≡ Idle → Settled h ns past
 when-idle h ns past quiet s e = s
 when-idle h ns past (going what p) s e = absurd (not-idle (s .opened) e)
 when-idle h ns past (coming what r) s e = absurd (not-idle (s .opened) e)
-when-idle h ns past (late p) s e = late-settles s nowhere lost
+when-idle h ns past (lingering p) s e = lingering-settles s nowhere lost
 
 hurries : (h : Session) (ns : List Node) (past : List Sent) (what : Sending) (p : List ℕ) → Going h ns past what p → (r : Option (List ℕ)) → Nothing r
-    → Late (reportedOf h r .session) ns (record { what = what; heard = heardIn r } ∷ past) p
+    → Lingering (reportedOf h r .session) ns (record { what = what; answer = answerIn r } ∷ past) p
 hurries h ns past what p g r n = record {
   waiting = h;
   earlier = past;
   what = what;
   sent = g;
-  host = ap (λ (t : Step). t .session) (reported-finished h r ∙ ap (finished h) (nothing-silent n));
-  history = ap (λ (a : Answer). record { what = what; heard = a } ∷ past) (nothing-silent n);
+  host = ap (λ (t : Step). t .session) (reported-finished h r ∙ ap (finishOf h) (nothing-silent n));
+  history = ap (λ (a : Answer). record { what = what; answer = a } ∷ past) (nothing-silent n);
 }
 
 -- ---- refused power-ups and reports
@@ -202,7 +202,7 @@ bench-going {h} {ns} {ms} b s =
 bench-stands : (h : Session) (ns ms : List Node) (past : List Sent) (l : Line) → Benched ns ms → Stands h ns past l → Stands h ms past l
 bench-stands h ns ms past quiet b s = record { free = s .free; inv = benched-invariant h ns ms b (s .inv); exactly = s .exactly }
 bench-stands h ns ms past (going what p) b s = bench-going b s
-bench-stands h ns ms past (late p) b s = record {
+bench-stands h ns ms past (lingering p) b s = record {
   waiting = s .waiting;
   earlier = s .earlier;
   what = s .what;
@@ -214,23 +214,23 @@ bench-stands h ns ms past (coming what r) b s = record { old = s .old; opened = 
 
 -- ---- all along
 
-abbrev pub Holds : World → Type 0
-Holds w = w .up ≡ true → Stands (w .host) (w .nodes) (w .past) (w .line)
+abbrev pub Upholds : World → Type 0
+Upholds w = w .up ≡ true → Stands (w .host) (w .nodes) (w .past) (w .line)
 
 not-up : (b u : Bool) → cond b false u ≡ true → (b ≡ false) × (u ≡ true)
 not-up true u e = absurd (false≢true e)
 not-up false u e = (refl, e)
 
-call-holds : (w : World) → Holds w → (k : Call) → Typed k → (out : List ℕ) → Holds (called k out w)
+call-holds : (w : World) → Upholds w → (k : Call) → TypedCall k → (out : List ℕ) → Upholds (called k out w)
 call-holds w holds k typed out = go (calledOf k (w .host) out .answer .end) refl
   where
     t : Session
     t = calledOf k (w .host) out .answer .session
 
-    stands : t ≡ w .host → Holds (hosting t w)
+    stands : t ≡ w .host → Upholds (hosting t w)
     stands e up = rw e (holds up)
 
-    go : (e : End) → calledOf k (w .host) out .answer .end ≡ e → Holds (callEnded e k t (calledOf k (w .host) out .left) w)
+    go : (e : End) → calledOf k (w .host) out .answer .end ≡ e → Upholds (callEnded e k t (calledOf k (w .host) out .left) w)
     go (ends.Sent n) e up =
         let u = not-up (resets k) (w .up) up in
         let a = accepted k typed (u .0) (w .host) out n e in
@@ -239,12 +239,12 @@ call-holds w holds k typed out = go (calledOf k (w .host) out .answer .end) refl
     go ends.Done e up = absurd (call-not-done k (w .host) out e)
     go (ends.Refused why) e up = stands (call-stays k (w .host) out (refused-not-done (calledOf k (w .host) out .answer) why e)) up
 
-pub holds : {w : World} → Comes w → Holds w
+pub holds : {w : World} → Comes w → Upholds w
 holds (start ns) up = absurd (false≢true up)
 holds (power {w = w} c bs e) up =
     let p = accepted-power (w .host) (length bs) e in
     rw (p .session) (record { free = refl; inv = powered-invariant bs (p .some) (p .few); exactly = powered-exactly bs (p .some) (p .few) })
-holds (unpowered {w = w} c n why e) up = rw (power-up-stays (w .host) n (refused-not-done (poweredOf (w .host) n) why e)) (holds c up)
+holds (unpowered {w = w} c n why e) up = rw (power-up-stays (w .host) n (refused-not-done (startPowerUp (w .host) n) why e)) (holds c up)
 holds (call {w = w} c k typed out) up = call-holds w (λ u. holds c u) k typed out up
 holds (deliver {w = w} c what p e q r a b) up =
     arrives (w .host) (w .nodes) (w .past) what p (subst (λ (l : Line). Stands (w .host) (w .nodes) (w .past) l) e (holds c up)) q r a b
@@ -252,7 +252,7 @@ holds (report {w = w} c what r e) up =
     settles-again (w .host) (w .nodes) (w .past) what r (subst (λ (l : Line). Stands (w .host) (w .nodes) (w .past) l) e (holds c up))
 holds (hurry {w = w} c what p e r n) up =
     hurries (w .host) (w .nodes) (w .past) what p (subst (λ (l : Line). Stands (w .host) (w .nodes) (w .past) l) e (holds c up)) r n
-holds (delay {w = w} c p e q a) up = late-settles (subst (λ (l : Line). Stands (w .host) (w .nodes) (w .past) l) e (holds c up)) q a
+holds (delay {w = w} c p e q a) up = lingering-settles (subst (λ (l : Line). Stands (w .host) (w .nodes) (w .past) l) e (holds c up)) q a
 holds (stray {w = w} c r why e) up = rw (stray-stays (w .host) r why e) (holds c up)
 holds (bench {w = w} c i b) up = bench-stands (w .host) (w .nodes) _ (w .past) (w .line) (set-benched (w .nodes) i b) (holds c up)
 
@@ -270,10 +270,10 @@ steady h ns past (going what p) s =
 steady h ns past (coming what r) s =
     let o = s .opened in
     let i = o .inv in
-    let k = conclusion (o .due) (i .few) (i .walked) (i .full) (heardIn r) in
+    let k = conclusion (o .due) (i .few) (i .walked) (i .full) (answerIn r) in
     record {
-      session = concluded (waitingAt (o .before) (o .to) (o .command)) (o .to) (o .command) (heardIn r);
+      session = concludeOf (waitingAt (o .before) (o .to) (o .command)) (o .to) (o .command) (answerIn r);
       nodes = k .nodes ∙ sym (ap (λ (z : Session). z .n) (o .now));
-      inv = exchange-step (o .due) (o .fits) _ (s .old) ns i (heardIn r) (s .exchange) k;
+      inv = exchange-step (o .due) (o .fits) _ (s .old) ns i (answerIn r) (s .exchange) k;
     }
-steady h ns past (late p) s = record { session = h; nodes = refl; inv = late-settles s nowhere lost .inv }
+steady h ns past (lingering p) s = record { session = h; nodes = refl; inv = lingering-settles s nowhere lost .inv }

@@ -6,37 +6,37 @@ use mathlib.Core.Option.{Option, none, some}
 use mathlib.Core.Path.{_≡_, refl, ap, _∙_}
 use lib.ListN.{getD, replicate}
 use Rattle.buffer.specs.Sum.{total, endsInSum}
-use Rattle.buffer.specs.Buffer.{place}
-use Rattle.packet.specs.Packet.{dataOf, frameOf, intactOf}
+use Rattle.buffer.specs.Buffer.{written}
+use Rattle.packet.specs.Packet.{dataPart, frameOf, isIntact}
 use Rattle.command.specs.declared.Place.{Place}
 use Rattle.command.specs.declared.Command.the-variants.{SetAddress, SetOutputs, Nop}
-use Rattle.command.specs.Command.{rowsOf, readingOf}
-use Rattle.command.specs.Build.{buildFor, commandBuilt}
-use Rattle.status.specs.Status.{judged}
+use Rattle.command.specs.Command.{listedOf, commandRead}
+use Rattle.command.specs.Build.{buildFor, commandBuild}
+use Rattle.status.specs.Status.{judgeOf}
 use Rattle.status.specs.declared.Answer.{Answer}
 use Rattle.status.specs.declared.Answer.the-variants.{Clear, Silent}
 use Rattle.node.specs.declared.state.Bench.{Bench}
 use Rattle.node.specs.declared.state.Node.{Node}
-use Rattle.node.specs.Node.{powerUp, acted}
-use Rattle.reply.specs.Items.{itemBytes}
+use Rattle.node.specs.Node.{powerUp, actOf}
+use Rattle.reply.specs.Items.{replyItems}
 use Rattle.reply.specs.Reply.{replyOf}
-use Rattle.survey.specs.One.{acts, replies, turned}
-use Rattle.survey.specs.Chain.{blank, after, replierIn, reply, said}
+use Rattle.survey.specs.One.{doesAct, doesReply, turned}
+use Rattle.survey.specs.Chain.{blankNode, after, replierIn, reply, said}
 use Rattle.entry.specs.declared.Entry.{Entry}
-use Rattle.entry.specs.Entry.{entryUp}
-use Rattle.ledger.specs.Ledger.{ledgerUp, leastOf, eachFrom, settled}
+use Rattle.entry.specs.Entry.{entryPowerUp}
+use Rattle.ledger.specs.Ledger.{ledgerPowerUp, ledgerLeast, eachFrom, settleOf}
 use Rattle.session.specs.declared.Exchange.the-variants.{Idle, Waiting}
 use Rattle.session.specs.declared.Session.{Session}
-use Rattle.session.specs.Session.{validOf, closedOf, askDue, nodeAt, givenPlace}
-use Rattle.start.specs.Start.{poweredOf}
-use Rattle.sending.specs.Sending.{waitingOf, readyCheck, opened, transmitted}
+use Rattle.session.specs.Session.{isValid, isClosed, isAskDue, nodeAt, givenPlace}
+use Rattle.start.specs.Start.{startPowerUp}
+use Rattle.sending.specs.Sending.{isWaiting, readyCheck, openExchange, transmitOf}
 use Rattle.walk.specs.Walk.{nextCheck, askCheck, nextOf, askOf}
 use Rattle.host.specs.Calls.{orderCheck, orderOf}
-use Rattle.reports.specs.Report.{giving, asking, concluded, finished, reportOf}
+use Rattle.reports.specs.Report.{isGiving, isAsking, concludeOf, finishOf, reportOf}
 use Rattle.examples.specs.Example.{buffer, knownBut, entryWith, placeInDoubt, addressed, pair}
 use Rattle.line.specs.History.{Sending, Sent, gives, asks, sends}
 use Rattle.line.specs.Call as calls
-use Rattle.line.specs.Line.{Line, quiet, going, Arrival, came, Arrives, Returns, nodesAfter, saidAfter, reportedOf, heardIn}
+use Rattle.line.specs.Line.{Line, quiet, going, Arrival, came, Arrives, Returns, nodesAfter, saidAfter, reportedOf, answerIn}
 use Rattle.line.specs.Line as line
 use Rattle.line.specs.World.{World, called, Comes, start, power, call, deliver, report}
 use Rattle.line.specs.Courses.{Courses, unasked, asked, walked, lost, again}
@@ -44,7 +44,7 @@ use Rattle.line.specs.Late.{Late}
 
 -- the 29 entries past the second, and bench values 0
 rest : List Entry
-rest = replicate 29 entryUp
+rest = replicate 29 entryPowerUp
 
 abbrev zeros : Bench
 zeros = record { inputs = 0; counter = 0; analog0 = 0; analog1 = 0; analog2 = 0; id = 0; version = 0 }
@@ -54,7 +54,7 @@ up = powerUp zeros
 
 -- node k with its address and its outputs
 abbrev placed : ℕ → ℕ → Node
-placed k outputs = acted (SetOutputs outputs) (acted (SetAddress (givenPlace k)) up)
+placed k outputs = actOf (SetOutputs outputs) (actOf (SetAddress (givenPlace k)) up)
 
 abbrev worldAt : Session → List Node → Line → List Sent → World
 worldAt s ns l past = record { host = s; nodes = ns; line = l; past = past; up = true }
@@ -73,116 +73,116 @@ abbrev good : List ℕ
 good = 0x00 ∷ 0x00 ∷ []
 
 -- one exchange: the call, the packet as it arrives, the reply as it comes, the report
-round : {w : World} → Comes w → (k : calls.Call) → calls.Typed k → (s t : Session) (ns ms : List Node) (past : List Sent) (what : Sending) (p : List ℕ)
+round : {w : World} → Comes w → (k : calls.Call) → calls.TypedCall k → (s t : Session) (ns ms : List Node) (past : List Sent) (what : Sending) (p : List ℕ)
     (q : Arrival) (r : Option (List ℕ)) (a : Answer) → called k buffer w ≡ worldAt s ns (going what p) past → Arrives p q → Returns (saidAfter q ns) r
-    → nodesAfter q ns ≡ ms → reportedOf s r .session ≡ t → heardIn r ≡ a → Comes (worldAt t ms quiet (record { what = what; heard = a } ∷ past))
+    → nodesAfter q ns ≡ ms → reportedOf s r .session ≡ t → answerIn r ≡ a → Comes (worldAt t ms quiet (record { what = what; answer = a } ∷ past))
 round c k typed s t ns ms past what p q r a e x y f g h =
     rw (← f, ← g, ← h) (report (deliver (rw e at (call c k typed buffer)) what p refl q r x y) what r refl)
 
 -- two nodes power up
-powers : Comes (worldAt (pair 0 Idle entryUp entryUp rest) (up ∷ up ∷ []) quiet [])
-unfolding poweredOf ledgerUp rest
+powers : Comes (worldAt (pair 0 Idle entryPowerUp entryPowerUp rest) (up ∷ up ∷ []) quiet [])
+unfolding startPowerUp ledgerPowerUp rest
 powers = power (start []) (zeros ∷ zeros ∷ []) refl
 
 module _ (es : List Entry) where
   -- the calls
-  next-1 : called calls.next buffer (worldAt (pair 0 Idle entryUp entryUp es) (up ∷ up ∷ []) quiet [])
-      ≡ worldAt (pair 0 (Waiting (nodeAt 1) (SetAddress (givenPlace 1))) entryUp entryUp es) (up ∷ up ∷ []) (going (gives 1) (given 1)) []
-  unfolding nextOf nextCheck readyCheck closedOf validOf waitingOf askDue transmitted opened commandBuilt buildFor place total
+  next-1 : called calls.next buffer (worldAt (pair 0 Idle entryPowerUp entryPowerUp es) (up ∷ up ∷ []) quiet [])
+      ≡ worldAt (pair 0 (Waiting (nodeAt 1) (SetAddress (givenPlace 1))) entryPowerUp entryPowerUp es) (up ∷ up ∷ []) (going (gives 1) (given 1)) []
+  unfolding nextOf nextCheck readyCheck isClosed isValid isWaiting isAskDue transmitOf openExchange commandBuild buildFor written total
   next-1 = refl
 
-  next-2 : (past : List Sent) → called calls.next buffer (worldAt (pair 1 Idle (addressed 1) entryUp es) (placed 1 0 ∷ up ∷ []) quiet past)
-      ≡ worldAt (pair 1 (Waiting (nodeAt 2) (SetAddress (givenPlace 2))) (addressed 1) entryUp es) (placed 1 0 ∷ up ∷ []) (going (gives 2) (given 2)) past
-  unfolding nextOf nextCheck readyCheck closedOf validOf waitingOf askDue transmitted opened commandBuilt buildFor place total
+  next-2 : (past : List Sent) → called calls.next buffer (worldAt (pair 1 Idle (addressed 1) entryPowerUp es) (placed 1 0 ∷ up ∷ []) quiet past)
+      ≡ worldAt (pair 1 (Waiting (nodeAt 2) (SetAddress (givenPlace 2))) (addressed 1) entryPowerUp es) (placed 1 0 ∷ up ∷ []) (going (gives 2) (given 2)) past
+  unfolding nextOf nextCheck readyCheck isClosed isValid isWaiting isAskDue transmitOf openExchange commandBuild buildFor written total
   next-2 past = refl
 
-  ask-1 : (past : List Sent) → called calls.ask buffer (worldAt (pair 0 Idle placeInDoubt entryUp es) (placed 1 0 ∷ up ∷ []) quiet past)
-      ≡ worldAt (pair 0 (Waiting (nodeAt 1) Nop) placeInDoubt entryUp es) (placed 1 0 ∷ up ∷ []) (going (asks 1) nop1) past
-  unfolding askOf askCheck readyCheck closedOf validOf waitingOf askDue transmitted opened commandBuilt buildFor place total
+  ask-1 : (past : List Sent) → called calls.ask buffer (worldAt (pair 0 Idle placeInDoubt entryPowerUp es) (placed 1 0 ∷ up ∷ []) quiet past)
+      ≡ worldAt (pair 0 (Waiting (nodeAt 1) Nop) placeInDoubt entryPowerUp es) (placed 1 0 ∷ up ∷ []) (going (asks 1) nop1) past
+  unfolding askOf askCheck readyCheck isClosed isValid isWaiting isAskDue transmitOf openExchange commandBuild buildFor written total
   ask-1 past = refl
 
   set-outputs : (e : Entry) (ns : List Node) (past : List Sent) → called (calls.order (nodeAt 2) (SetOutputs 5)) buffer (worldAt (pair 2 Idle (addressed 1) e es) ns quiet past)
       ≡ worldAt (pair 2 (Waiting (nodeAt 2) (SetOutputs 5)) (addressed 1) e es) ns (going (sends (nodeAt 2) (SetOutputs 5)) set5) past
-  unfolding orderOf orderCheck readyCheck closedOf validOf waitingOf transmitted opened commandBuilt buildFor place total
+  unfolding orderOf orderCheck readyCheck isClosed isValid isWaiting transmitOf openExchange commandBuild buildFor written total
   set-outputs e ns past = refl
 
   -- the reports
-  good-1 : reportedOf (pair 0 (Waiting (nodeAt 1) (SetAddress (givenPlace 1))) entryUp entryUp es) (some good) .session ≡ pair 1 Idle (addressed 1) entryUp es
-  unfolding reportOf finished closedOf validOf concluded giving asking settled eachFrom leastOf judged endsInSum total
+  good-1 : reportedOf (pair 0 (Waiting (nodeAt 1) (SetAddress (givenPlace 1))) entryPowerUp entryPowerUp es) (some good) .session ≡ pair 1 Idle (addressed 1) entryPowerUp es
+  unfolding reportOf finishOf isClosed isValid concludeOf isGiving isAsking settleOf eachFrom ledgerLeast judgeOf endsInSum total
   good-1 = refl
 
-  silent-1 : reportedOf (pair 0 (Waiting (nodeAt 1) (SetAddress (givenPlace 1))) entryUp entryUp es) none .session ≡ pair 0 Idle placeInDoubt entryUp es
-  unfolding finished closedOf validOf concluded giving asking settled eachFrom leastOf
+  silent-1 : reportedOf (pair 0 (Waiting (nodeAt 1) (SetAddress (givenPlace 1))) entryPowerUp entryPowerUp es) none .session ≡ pair 0 Idle placeInDoubt entryPowerUp es
+  unfolding finishOf isClosed isValid concludeOf isGiving isAsking settleOf eachFrom ledgerLeast
   silent-1 = refl
 
-  good-ask : reportedOf (pair 0 (Waiting (nodeAt 1) Nop) placeInDoubt entryUp es) (some good) .session ≡ pair 1 Idle (addressed 1) entryUp es
-  unfolding reportOf finished closedOf validOf concluded giving asking askDue settled eachFrom leastOf judged endsInSum total
+  good-ask : reportedOf (pair 0 (Waiting (nodeAt 1) Nop) placeInDoubt entryPowerUp es) (some good) .session ≡ pair 1 Idle (addressed 1) entryPowerUp es
+  unfolding reportOf finishOf isClosed isValid concludeOf isGiving isAsking isAskDue settleOf eachFrom ledgerLeast judgeOf endsInSum total
   good-ask = refl
 
-  good-2 : reportedOf (pair 1 (Waiting (nodeAt 2) (SetAddress (givenPlace 2))) (addressed 1) entryUp es) (some good) .session ≡ pair 2 Idle (addressed 1) (addressed 2) es
-  unfolding reportOf finished closedOf validOf concluded giving asking settled eachFrom leastOf judged endsInSum total
+  good-2 : reportedOf (pair 1 (Waiting (nodeAt 2) (SetAddress (givenPlace 2))) (addressed 1) entryPowerUp es) (some good) .session ≡ pair 2 Idle (addressed 1) (addressed 2) es
+  unfolding reportOf finishOf isClosed isValid concludeOf isGiving isAsking settleOf eachFrom ledgerLeast judgeOf endsInSum total
   good-2 = refl
 
   silent-5 : reportedOf (pair 2 (Waiting (nodeAt 2) (SetOutputs 5)) (addressed 1) (addressed 2) es) none .session
       ≡ pair 2 Idle (addressed 1) (entryWith (givenPlace 2) 0 (knownBut false true true)) es
-  unfolding finished closedOf validOf concluded giving asking settled eachFrom leastOf
+  unfolding finishOf isClosed isValid concludeOf isGiving isAsking settleOf eachFrom ledgerLeast
   silent-5 = refl
 
   good-5 : reportedOf (pair 2 (Waiting (nodeAt 2) (SetOutputs 5)) (addressed 1) (entryWith (givenPlace 2) 0 (knownBut false true true)) es) (some good) .session
       ≡ pair 2 Idle (addressed 1) (entryWith (givenPlace 2) 5 (knownBut true true true)) es
-  unfolding reportOf finished closedOf validOf concluded giving asking settled eachFrom leastOf judged endsInSum total
+  unfolding reportOf finishOf isClosed isValid concludeOf isGiving isAsking settleOf eachFrom ledgerLeast judgeOf endsInSum total
   good-5 = refl
 
-heard-good : judged good ≡ Clear
-unfolding judged endsInSum total
+heard-good : judgeOf good ≡ Clear
+unfolding judgeOf endsInSum total
 heard-good = refl
 
 -- the packets at the nodes
 takes-1 : nodesAfter (came (given 1)) (up ∷ up ∷ []) ≡ placed 1 0 ∷ up ∷ []
-unfolding frameOf dataOf intactOf endsInSum total readingOf rowsOf after turned acts
+unfolding frameOf dataPart isIntact endsInSum total commandRead listedOf after turned doesAct
 takes-1 = refl
 
 takes-2 : nodesAfter (came (given 2)) (placed 1 0 ∷ up ∷ []) ≡ placed 1 0 ∷ placed 2 0 ∷ []
-unfolding frameOf dataOf intactOf endsInSum total readingOf rowsOf after turned acts
+unfolding frameOf dataPart isIntact endsInSum total commandRead listedOf after turned doesAct
 takes-2 = refl
 
 takes-ask : nodesAfter (came nop1) (placed 1 0 ∷ up ∷ []) ≡ placed 1 0 ∷ up ∷ []
-unfolding frameOf dataOf intactOf endsInSum total readingOf rowsOf after turned acts
+unfolding frameOf dataPart isIntact endsInSum total commandRead listedOf after turned doesAct
 takes-ask = refl
 
 takes-5 : (old : ℕ) → nodesAfter (came set5) (placed 1 0 ∷ placed 2 old ∷ []) ≡ placed 1 0 ∷ placed 2 5 ∷ []
-unfolding frameOf dataOf intactOf endsInSum total readingOf rowsOf after turned acts
+unfolding frameOf dataPart isIntact endsInSum total commandRead listedOf after turned doesAct
 takes-5 old = refl
 
 says-1 : saidAfter (came (given 1)) (up ∷ up ∷ []) ≡ reply good
-unfolding frameOf dataOf intactOf endsInSum total readingOf rowsOf said replierIn replies replyOf itemBytes
+unfolding frameOf dataPart isIntact endsInSum total commandRead listedOf said replierIn doesReply replyOf replyItems
 says-1 = refl
 
 says-2 : saidAfter (came (given 2)) (placed 1 0 ∷ up ∷ []) ≡ reply good
-unfolding frameOf dataOf intactOf endsInSum total readingOf rowsOf said replierIn replies replyOf itemBytes
+unfolding frameOf dataPart isIntact endsInSum total commandRead listedOf said replierIn doesReply replyOf replyItems
 says-2 = refl
 
 says-ask : saidAfter (came nop1) (placed 1 0 ∷ up ∷ []) ≡ reply good
-unfolding frameOf dataOf intactOf endsInSum total readingOf rowsOf said replierIn replies replyOf itemBytes
+unfolding frameOf dataPart isIntact endsInSum total commandRead listedOf said replierIn doesReply replyOf replyItems
 says-ask = refl
 
 says-5 : (old : ℕ) → saidAfter (came set5) (placed 1 0 ∷ placed 2 old ∷ []) ≡ reply good
-unfolding frameOf dataOf intactOf endsInSum total readingOf rowsOf said replierIn replies replyOf itemBytes
+unfolding frameOf dataPart isIntact endsInSum total commandRead listedOf said replierIn doesReply replyOf replyItems
 says-5 old = refl
 
 -- the first "next": the reply is lost; "ask" is replied to
-unanswered : Comes (worldAt (pair 0 Idle placeInDoubt entryUp rest) (placed 1 0 ∷ up ∷ []) quiet unasked)
+unanswered : Comes (worldAt (pair 0 Idle placeInDoubt entryPowerUp rest) (placed 1 0 ∷ up ∷ []) quiet unasked)
 unanswered =
-    round powers calls.next tt _ _ (up ∷ up ∷ []) _ [] (gives 1) (given 1) (came (given 1)) none Silent (next-1 rest) line.whole (rw says-1 (line.lost line.unheard))
+    round powers calls.next tt _ _ (up ∷ up ∷ []) _ [] (gives 1) (given 1) (came (given 1)) none Silent (next-1 rest) line.whole (rw says-1 (line.lost line.absent))
     takes-1 (silent-1 rest) refl
 
-answered : Comes (worldAt (pair 1 Idle (addressed 1) entryUp rest) (placed 1 0 ∷ up ∷ []) quiet asked)
+answered : Comes (worldAt (pair 1 Idle (addressed 1) entryPowerUp rest) (placed 1 0 ∷ up ∷ []) quiet asked)
 answered =
     round unanswered calls.ask tt _ _ (placed 1 0 ∷ up ∷ []) _ _ (asks 1) nop1 (came nop1) (some good) Clear (ask-1 rest _) line.whole (rw says-ask line.whole)
     takes-ask (good-ask rest) heard-good
 
 -- the walk
-first : Comes (worldAt (pair 1 Idle (addressed 1) entryUp rest) (placed 1 0 ∷ up ∷ []) quiet (record { what = gives 1; heard = Clear } ∷ []))
+first : Comes (worldAt (pair 1 Idle (addressed 1) entryPowerUp rest) (placed 1 0 ∷ up ∷ []) quiet (record { what = gives 1; answer = Clear } ∷ []))
 first =
     round powers calls.next tt _ _ (up ∷ up ∷ []) _ [] (gives 1) (given 1) (came (given 1)) (some good) Clear (next-1 rest) line.whole (rw says-1 line.whole)
     takes-1 (good-1 rest) heard-good
@@ -196,7 +196,7 @@ second =
 third : Comes (worldAt (pair 2 Idle (addressed 1) (entryWith (givenPlace 2) 0 (knownBut false true true)) rest) (placed 1 0 ∷ placed 2 5 ∷ []) quiet lost)
 third =
     round second (calls.order (nodeAt 2) (SetOutputs 5)) tt _ _ (placed 1 0 ∷ placed 2 0 ∷ []) _ _ (sends (nodeAt 2) (SetOutputs 5)) set5 (came set5) none Silent
-    (set-outputs rest (addressed 2) _ _) line.whole (rw (says-5 0) (line.lost line.unheard)) (takes-5 0) (silent-5 rest) refl
+    (set-outputs rest (addressed 2) _ _) line.whole (rw (says-5 0) (line.lost line.absent)) (takes-5 0) (silent-5 rest) refl
 
 -- sent again, and replied to
 fourth : Comes (worldAt (pair 2 Idle (addressed 1) (entryWith (givenPlace 2) 5 (knownBut true true true)) rest) (placed 1 0 ∷ placed 2 5 ∷ []) quiet again)
@@ -205,11 +205,11 @@ fourth =
     (set-outputs rest (entryWith (givenPlace 2) 0 (knownBut false true true)) _ _) line.whole (rw (says-5 5) line.whole) (takes-5 5) (good-5 rest) heard-good
 
 -- the first "next" is on its way
-sent : Comes (worldAt (pair 0 (Waiting (nodeAt 1) (SetAddress (givenPlace 1))) entryUp entryUp rest) (up ∷ up ∷ []) (going (gives 1) (given 1)) [])
+sent : Comes (worldAt (pair 0 (Waiting (nodeAt 1) (SetAddress (givenPlace 1))) entryPowerUp entryPowerUp rest) (up ∷ up ∷ []) (going (gives 1) (given 1)) [])
 sent = rw (next-1 rest) at (call powers calls.next tt buffer)
 
 pub late : Late
-unfolding poweredOf ledgerUp
+unfolding startPowerUp ledgerPowerUp
 late = record {
   world = _;
   comes = sent;
@@ -218,7 +218,7 @@ late = record {
   bench = zeros ∷ zeros ∷ [];
   told = refl;
   known = refl;
-  differs = λ e. true≢false (cc (ap (λ (p : Place). p .address .0) (e ∙ ap (λ (ns : List Node). getD ns 0 blank .settings .place) takes-1)));
+  differs = λ e. true≢false (cc (ap (λ (p : Place). p .address .0) (e ∙ ap (λ (ns : List Node). getD ns 0 blankNode .settings .place) takes-1)));
 }
 
 pub courses : Courses

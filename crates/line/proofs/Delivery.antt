@@ -17,69 +17,69 @@ use Rattle.command.specs.declared.Command.{Command}
 use Rattle.command.specs.Build.{fitsOf, Typed, packetFor}
 use Rattle.command.proofs.Commands.{built-reads}
 use Rattle.command.specs.Role.{roleOf}
-use Rattle.status.specs.Status.{judged, cleared}
+use Rattle.status.specs.Status.{judgeOf, cleared}
 use Rattle.status.specs.declared.Answer.{Answer}
 use Rattle.status.specs.declared.Answer.the-variants.{Clear, Marked, Silent}
 use Rattle.node.specs.declared.state.Node.{Node}
-use Rattle.heard.specs.declared.Heard.{Heard}
-use Rattle.heard.specs.declared.Heard.the-variants.{Intact, Spoilt}
+use Rattle.message.specs.declared.Message.{Message}
+use Rattle.message.specs.declared.Message.the-variants.{Intact, Spoilt}
 use Rattle.node.specs.Effect.{settingsAfter}
-use Rattle.node.specs.Node.{acted, addressedAfter}
+use Rattle.node.specs.Node.{actOf, addressedAfter}
 use Rattle.reply.specs.Reply.{statusByte}
 use Rattle.reply.proofs.Replies.{reply-judged, altered-silent}
-use Rattle.survey.specs.One.{heardAs, meant, answers}
-use Rattle.survey.specs.Chain.{after, Said, silence, clash, said, hearsAt, repliesAt}
+use Rattle.survey.specs.One.{messageAs, isMeant, isAnswering}
+use Rattle.survey.specs.Chain.{after, Said, silence, collided, said, hearsAt, repliesAt}
 use Rattle.survey.proofs.Meaning.{length-after, after-at, spoilt-stays, Replying, said-says}
-use Rattle.line.specs.Line.{Arrival, came, Arrives, Nothing, Returns, nodesAfter, saidAfter, heardIn}
+use Rattle.line.specs.Line.{Arrival, came, Arrives, Nothing, Returns, nodesAfter, saidAfter, answerIn}
 use Rattle.line.specs.Line as line
 use Rattle.line.proofs.Invariant.{at, acts, Answered, Exchanged}
 
--- what is heard: nothing, or a node's reply to what it heard
-data Voice (to : Address) (heard : Heard) (ns : List Node) : Answer → Type 0 where
-  silent : Voice to heard ns Silent
-  spoke : (r : List ℕ) → Replying to heard ns r → Voice to heard ns (cleared (statusByte heard))
+-- what is said: nothing, or a node's reply to what it received
+data Voice (to : Address) (message : Message) (ns : List Node) : Answer → Type 0 where
+  silent : Voice to message ns Silent
+  spoke : (r : List ℕ) → Replying to message ns r → Voice to message ns (cleared (statusByte message))
 
-pub nothing-silent : {t : Option (List ℕ)} → Nothing t → heardIn t ≡ Silent
-unfolding judged
-nothing-silent line.unheard = refl
+pub nothing-silent : {t : Option (List ℕ)} → Nothing t → answerIn t ≡ Silent
+unfolding judgeOf
+nothing-silent line.absent = refl
 nothing-silent line.empty = refl
 
-voice : (to : Address) (heard : Heard) (ns : List Node) → (said to heard ns ≡ clash → ⊥) → {s : Said} {r : Option (List ℕ)}
-    → said to heard ns ≡ s → Returns s r → Voice to heard ns (heardIn r)
-voice to heard ns n e (line.quietly o) = rw (nothing-silent o) silent
-voice to heard ns n e (line.whole {r = r}) =
-    let p = said-says to heard ns r e in
-    let j : judged r ≡ cleared (statusByte heard) = ap judged (p .bytes) ∙ reply-judged heard (getD ns (p .at) _) in
+voice : (to : Address) (message : Message) (ns : List Node) → (said to message ns ≡ collided → ⊥) → {s : Said} {r : Option (List ℕ)}
+    → said to message ns ≡ s → Returns s r → Voice to message ns (answerIn r)
+voice to message ns n e (line.quietly o) = rw (nothing-silent o) silent
+voice to message ns n e (line.whole {r = r}) =
+    let p = said-says to message ns r e in
+    let j : judgeOf r ≡ cleared (statusByte message) = ap judgeOf (p .bytes) ∙ reply-judged message (getD ns (p .at) _) in
     rw j (spoke r p)
-voice to heard ns n e (line.altered {r = r} {t = t} a) =
-    let p = said-says to heard ns r e in
-    let j : judged t ≡ Silent = altered-silent heard (getD ns (p .at) _) t (subst (λ (l : List ℕ). Altered l t) (p .bytes) a) in
+voice to message ns n e (line.altered {r = r} {t = t} a) =
+    let p = said-says to message ns r e in
+    let j : judgeOf t ≡ Silent = altered-silent message (getD ns (p .at) _) t (subst (λ (l : List ℕ). Altered l t) (p .bytes) a) in
     rw j silent
-voice to heard ns n e (line.lost o) = rw (nothing-silent o) silent
-voice to heard ns n e line.mixed = absurd (n e)
+voice to message ns n e (line.lost o) = rw (nothing-silent o) silent
+voice to message ns n e line.mixed = absurd (n e)
 
 -- bytes that read as a whole packet
-module _ (ns : List Node) (q : List ℕ) (to : Address) (k n : ℕ) (heard : Heard) (f : frameOf q ≡ Whole to k n) (e : heardAs k q ≡ heard) where
-  nodes-are : nodesAfter (came q) ns ≡ after to heard ns
+module _ (ns : List Node) (q : List ℕ) (to : Address) (k n : ℕ) (message : Message) (f : frameOf q ≡ Whole to k n) (e : messageAs k q ≡ message) where
+  nodes-are : nodesAfter (came q) ns ≡ after to message ns
   nodes-are = rw (f, e) refl
 
-  said-is : saidAfter (came q) ns ≡ said to heard ns
+  said-is : saidAfter (came q) ns ≡ said to message ns
   said-is = rw (f, e) refl
 
 -- whoever is called to reply to an address is one that acts on it
 replies-acts : (to : Address) (ns : List Node) (i : ℕ) → repliesAt to ns i ≡ true → acts to ns i ≡ true
 replies-acts (address.Individual j) ns i e = e
 replies-acts (address.Group g) ns i e =
-    let p = both (hearsAt ns i) (answers (address.Group g) (at ns i .settings .place)) e in
-    rw (p .0) (both (at ns i .settings .place .leader) (meant (address.Group g) (at ns i .settings .place)) (p .1) .1)
+    let p = both (hearsAt ns i) (isAnswering (address.Group g) (at ns i .settings .place)) e in
+    rw (p .0) (both (at ns i .settings .place .leader) (isMeant (address.Group g) (at ns i .settings .place)) (p .1) .1)
 
 module _ (to : Address) (c : Command) (ns : List Node) where
   -- it came whole
-  settings-if : (b : Bool) (x : Node) → cond b (acted c x) x .settings ≡ cond b (settingsAfter c (x .settings)) (x .settings)
+  settings-if : (b : Bool) (x : Node) → cond b (actOf c x) x .settings ≡ cond b (settingsAfter c (x .settings)) (x .settings)
   settings-if true x = refl
   settings-if false x = refl
 
-  addressed-if : (b : Bool) (x : Node) → cond b (acted c x) x .addressed ≡ cond b (addressedAfter (roleOf c) (x .addressed)) (x .addressed)
+  addressed-if : (b : Bool) (x : Node) → cond b (actOf c x) x .addressed ≡ cond b (addressedAfter (roleOf c) (x .addressed)) (x .addressed)
   addressed-if true x = refl
   addressed-if false x = refl
 
@@ -120,7 +120,7 @@ module _ (to : Address) (c : Command) (ns : List Node) where
   spoilt-not-clear silent e = true≢false (cc e)
   spoilt-not-clear (spoke r p) e = true≢false (cc e)
 
-  lost-not-clear : {r : Option (List ℕ)} {s : Said} → s ≡ silence → Returns s r → heardIn r ≡ Clear → ⊥
+  lost-not-clear : {r : Option (List ℕ)} {s : Said} → s ≡ silence → Returns s r → answerIn r ≡ Clear → ⊥
   lost-not-clear q (line.quietly o) e = true≢false (cc (nothing-silent o, e))
   lost-not-clear q line.whole e = true≢false (cc q)
   lost-not-clear q (line.altered a) e = true≢false (cc q)
@@ -129,15 +129,15 @@ module _ (to : Address) (c : Command) (ns : List Node) where
 
   module _ (range : inRange to ≡ true) (fits : fitsOf c ≡ true) (typed : Typed c) where
     -- what a packet of ours says, as it was sent and damaged
-    pub record Means (q : List ℕ) (a : Address) (heard : Heard) : Type 0 where
-      pub nodes : nodesAfter (came q) ns ≡ after a heard ns
-      pub speaks : saidAfter (came q) ns ≡ said a heard ns
+    pub record Means (q : List ℕ) (a : Address) (message : Message) : Type 0 where
+      pub nodes : nodesAfter (came q) ns ≡ after a message ns
+      pub speaks : saidAfter (came q) ns ≡ said a message ns
 
     pub whole-means : Means (packetFor to c) to (Intact c)
     whole-means =
         let r = built-reads to c range fits typed in
         let s = read-says (packetFor to c) to (r .command) (r .end) (r .whole) in
-        let h : heardAs (r .command) (packetFor to c) ≡ Intact c = rw (s .1, r .known) refl in
+        let h : messageAs (r .command) (packetFor to c) ≡ Intact c = rw (s .1, r .known) refl in
         record {
           nodes = nodes-are ns (packetFor to c) to (r .command) (r .end) (Intact c) (s .0) h;
           speaks = said-is ns (packetFor to c) to (r .command) (r .end) (Intact c) (s .0) h;
@@ -147,15 +147,15 @@ module _ (to : Address) (c : Command) (ns : List Node) where
     damaged-means q d =
         let r = built-reads to c range fits typed in
         let f = damaged-frames (packetFor to c) q to (r .command) (r .end) (r .whole) d in
-        let h : heardAs (r .command) q ≡ Spoilt = rw (damaged-spoilt (packetFor to c) q to (r .command) (r .end) (r .whole) d) refl in
+        let h : messageAs (r .command) q ≡ Spoilt = rw (damaged-spoilt (packetFor to c) q to (r .command) (r .end) (r .whole) d) refl in
         record {
           nodes = nodes-are ns q _ (r .command) (r .end) Spoilt f h;
           speaks = said-is ns q _ (r .command) (r .end) Spoilt f h;
         }
 
     -- from the sending to the report
-    pub exchanged : ((b : Address) (heard : Heard) → said b heard ns ≡ clash → ⊥) → {q : Arrival} {r : Option (List ℕ)} → Arrives (packetFor to c) q → Returns (saidAfter q ns) r
-        → Exchanged to c ns (nodesAfter q ns) (heardIn r)
+    pub exchanged : ((b : Address) (message : Message) → said b message ns ≡ collided → ⊥) → {q : Arrival} {r : Option (List ℕ)} → Arrives (packetFor to c) q → Returns (saidAfter q ns) r
+        → Exchanged to c ns (nodesAfter q ns) (answerIn r)
     exchanged n line.whole b =
         let m = whole-means in
         rw (m .nodes) (came-whole (voice to (Intact c) ns (n to (Intact c)) (sym (m .speaks)) b))

@@ -9,8 +9,8 @@ use borrow.Author.Tests.{not-false}
 use Rattle.command.specs.Build.{packetFor}
 use Rattle.node.specs.declared.state.Node.{Node}
 use Rattle.node.specs.Setting.{Setting}
-use Rattle.survey.specs.One.{sound}
-use Rattle.survey.specs.Chain.{clash}
+use Rattle.survey.specs.One.{isRanged}
+use Rattle.survey.specs.Chain.{collided}
 use Rattle.entry.specs.Entry.{knows}
 use Rattle.session.specs.declared.Session.{Session}
 use Rattle.session.specs.Session.{entryOf}
@@ -21,7 +21,7 @@ use Rattle.line.specs.Demand3 as promised
 use Rattle.line.proofs.Words.{same-words}
 use Rattle.line.proofs.Exact.{Exact}
 use Rattle.line.proofs.Closing.{entryAt}
-use Rattle.line.proofs.Peace.{no-clash}
+use Rattle.line.proofs.Peace.{none-collided}
 use Rattle.line.proofs.Delivery.{whole-means, damaged-means}
 use Rattle.line.proofs.Calls.{delivers}
 use Rattle.line.proofs.Course.{Opened, Going, Stands, when-idle, holds, steady}
@@ -56,26 +56,26 @@ one-leader w comes up g j k a b c d p q =
 
 -- nobody replies to a packet that is lost; one that is not says what it says to one address
 peace : (h : Session) (ns : List Node) (past : List Sent) (what : Sending) (p : List ℕ) → Going h ns past what p
-    → (q : Arrival) → Arrives p q → saidAfter q ns ≡ clash → ⊥
+    → (q : Arrival) → Arrives p q → saidAfter q ns ≡ collided → ⊥
 peace h ns past what p g q a c = go (rw (g .packet) at a) c
   where
     o : Opened h ns past what
     o = g .opened
 
-    go : {q : Arrival} → Arrives (packetFor (o .line) (o .command)) q → saidAfter q ns ≡ clash → ⊥
-    go line.whole c = no-clash (o .before) ns (o .inv) _ _ (sym (whole-means (o .line) (o .command) ns (o .range) (o .fits) (o .typed) .speaks) ∙ c)
-    go (line.damaged {q = q} d) c = no-clash (o .before) ns (o .inv) _ _ (sym (damaged-means (o .line) (o .command) ns (o .range) (o .fits) (o .typed) q d .speaks) ∙ c)
+    go : {q : Arrival} → Arrives (packetFor (o .line) (o .command)) q → saidAfter q ns ≡ collided → ⊥
+    go line.whole c = none-collided (o .before) ns (o .inv) _ _ (sym (whole-means (o .line) (o .command) ns (o .range) (o .fits) (o .typed) .speaks) ∙ c)
+    go (line.damaged {q = q} d) c = none-collided (o .before) ns (o .inv) _ _ (sym (damaged-means (o .line) (o .command) ns (o .range) (o .fits) (o .typed) q d .speaks) ∙ c)
     go line.lost c = true≢false (cc c)
 
 pub no-collision : promised.NoCollision
 no-collision w comes up p o = go o (holds comes up)
   where
-    go : {l : Line} → line.OnItsWay p l → Stands (w .host) (w .nodes) (w .past) l → (q : Arrival) → Arrives p q → saidAfter q (w .nodes) ≡ clash → ⊥
+    go : {l : Line} → line.OnItsWay p l → Stands (w .host) (w .nodes) (w .past) l → (q : Arrival) → Arrives p q → saidAfter q (w .nodes) ≡ collided → ⊥
     go (line.awaited {what = what}) s = peace (w .host) (w .nodes) (w .past) what p s
     go line.overdue s = peace (s .waiting) (w .nodes) (s .earlier) (s .what) p (s .sent)
 
 pub by-call : promised.ByCall
-unfolding sound
+unfolding isRanged
 by-call w comes up q out room =
     let s = steady (w .host) (w .nodes) (w .past) (w .line) (holds comes up) in
     let n = s .nodes in

@@ -1,6 +1,6 @@
 -- What may be sent while a session is open: by whom it is heard, whose record it is, and the command.
 use Prim.Native.Nat.{ℕ, _+_, _<_}
-use mathlib.Core.Bool.{Bool, true, false}
+use mathlib.Core.Bool.{Bool, true, false, true≢false}
 use mathlib.Core.List.{List, _++_}
 use mathlib.Core.Path.{_≡_, refl, sym, ap, _∙_}
 use native.Mathlib.Omega.{arith}
@@ -28,11 +28,11 @@ use Rattle.session.specs.declared.End.{End}
 use Rattle.session.specs.declared.End.the-variants.{Done, Sent}
 use Rattle.session.specs.declared.Step.{Step}
 use Rattle.session.specs.Session.{offChain, entryOf, nodeAt, endNumber, stepNumber, givenPlace}
-use Rattle.sending.specs.Sending.{opened}
+use Rattle.sending.specs.Sending.{openExchange}
 use Rattle.session.proofs.Sessions.{OnChain}
-use Rattle.sending.proofs.Clear.{Ready}
-use Rattle.walk.proofs.Clear.{next-says, ask-says}
-use Rattle.host.proofs.Clear.{order-says, regroup-says, wish-free}
+use Rattle.sending.proofs.Passing.{Ready}
+use Rattle.walk.proofs.Passing.{next-says, ask-says}
+use Rattle.host.proofs.Passing.{order-says, regroup-says, wish-free}
 use Rattle.sending.proofs.Sent.{sending, node-fits}
 use Rattle.walk.proofs.Sent.{next-went, ask-went}
 use Rattle.host.proofs.Sent.{to-fits, order-went, regroup-went}
@@ -63,7 +63,7 @@ pub record Goes (s : Session) (line to : Address) (c : Command) (p : List ℕ) (
   pub range : inRange line ≡ true
   pub fits : fitsOf c ≡ true
   pub packet : p ≡ packetFor line c
-  pub after : t ≡ opened s to c
+  pub after : t ≡ openExchange s to c
 
 seam : (p out : List ℕ) (n : ℕ) → length p ≡ n → take n (p ++ drop (length p) out) ≡ p
 seam p out n e = rw (← e) (take-append-seam p (drop (length p) out))
@@ -84,11 +84,11 @@ pub record Accepted (s : Session) (k : Call) (p : List ℕ) (t : Session) : Type
   pub typed : Typed command
   pub goes : Goes s line to command p t
 
-pub accepted : (k : Call) → calls.Typed k → resets k ≡ false → (s : Session) (out : List ℕ) (n : ℕ) → calledOf k s out .answer .end ≡ Sent n
+pub accepted : (k : Call) → calls.TypedCall k → resets k ≡ false → (s : Session) (out : List ℕ) (n : ℕ) → calledOf k s out .answer .end ≡ Sent n
     → Accepted s k (take n (calledOf k s out .left)) (calledOf k s out .answer .session)
 accepted calls.next t o s out n e =
     let w = next-went s out (ap endNumber e) in
-    let k = next-says s (w .clear) in
+    let k = next-says s (w .passed) in
     let l = k .walking in
     let f = node-fits (s .n) (s .walk + 1) (k .session .valid .few) (omega arith) in
     let g = goes s _ _ _ out _ n (w .result) e refl (rw f refl) in
@@ -103,7 +103,7 @@ accepted calls.next t o s out n e =
     }
 accepted calls.ask t o s out n e =
     let w = ask-went s out (ap endNumber e) in
-    let k = ask-says s (w .clear) in
+    let k = ask-says s (w .passed) in
     let l = k .walking in
     let g = goes s _ _ _ out _ n (w .result) e (node-fits (s .n) (s .walk + 1) (k .session .valid .few) (omega arith)) refl in
     record {
@@ -117,7 +117,7 @@ accepted calls.ask t o s out n e =
     }
 accepted (calls.order to c) t o s out n e =
     let w = order-went s out to c (ap endNumber e) in
-    let k = order-says s to c (w .clear) in
+    let k = order-says s to c (w .passed) in
     let r = order-sends c (k .ordinary) o in
     record {
       line = to;
@@ -130,7 +130,7 @@ accepted (calls.order to c) t o s out n e =
     }
 accepted (calls.regroup i g leader) t o s out n e =
     let w = regroup-went s out i g leader (ap endNumber e) in
-    let k = regroup-says s i g leader (w .clear) in
+    let k = regroup-says s i g leader (w .passed) in
     let f = node-fits (s .n) (i .0) (k .session .valid .few) (k .node .high) in
     record {
       line = address.Individual i;

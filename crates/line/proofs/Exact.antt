@@ -1,4 +1,4 @@
--- One entry against what was sent and heard: a command that counts keeps them together.
+-- One entry against what was sent and answered: a command that counts keeps them together.
 use Prim.Native.Nat.{ℕ}
 use mathlib.Core.Bool.{Bool, true, false, cond, not, _&&_, _||_, and-false, true≢false}
 use mathlib.Core.List.{List, _∷_}
@@ -19,7 +19,7 @@ use Rattle.node.proofs.Laws.{placeEffect, place-effect}
 use Rattle.entry.specs.declared.Entry.{Entry}
 use Rattle.entry.specs.declared.Reach.{Reach}
 use Rattle.entry.specs.declared.Reach.the-variants.{Misses, Hits, May}
-use Rattle.entry.specs.Entry.{knows, shows, noted, notedFlag, notedValue}
+use Rattle.entry.specs.Entry.{knows, shows, noteOf, noteFlag, noteValue}
 use Rattle.entry.proofs.Entries.{knows-noted, shows-noted}
 use Rattle.ledger.specs.Ledger.{reachOf}
 use Rattle.line.specs.History.{Counted, groupLost, placeIn, lastPlace, copied, goes, inDoubt}
@@ -48,7 +48,7 @@ Way May g l = (g ≡ true) × (l ≡ true)
 
 -- one setting; d says which were in doubt
 flag-exact : {s : Setting} (a : Answer) → Counts a → (r : Reach) (f : Effect s) (e : Entry) (g l : Bool) (d : Setting → Bool) → Way r g l
-    → ((t : Setting) → knows e t ≡ not (d t)) → notedFlag a r f e ≡ not (cond (g && writes f) (not (confirms a) || l || copied f d) (d s))
+    → ((t : Setting) → knows e t ≡ not (d t)) → noteFlag a r f e ≡ not (cond (g && writes f) (not (confirms a) || l || copied f d) (d s))
 flag-exact {s} Clear t Misses f e g l d w p = rw w (p s)
 flag-exact {s} Clear t Hits keeps e g l d w p = rw (and-false g) (p s)
 flag-exact Clear t Hits (stores v) e g l d w p = rw (w .0, w .1) refl
@@ -96,7 +96,7 @@ Sendable (address.Individual i) c = Unit {0}
 Sendable (address.Group g) c = writes (effect c place) ≡ false
 
 place-node : (a : Answer) → Counts a → (b : Bool) (f : Effect place) → copied f (λ t. true) ≡ false → (e : Entry) (q : Place) → shows e place ≡ q
-    → notedValue a (cond b Hits Misses) f e ≡ cond (confirms a && b) (placeIn f q) q
+    → noteValue a (cond b Hits Misses) f e ≡ cond (confirms a && b) (placeIn f q) q
 place-node Clear t true keeps n e q p = p
 place-node Clear t true (stores v) n e q p = refl
 place-node Clear t true (copies u f) n e q p = absurd (true≢false n)
@@ -104,7 +104,7 @@ place-node Clear t false f n e q p = p
 place-node Silent t b f n e q p = p
 
 place-group : (a : Answer) → Counts a → (r : Reach) (f : Effect place) → writes f ≡ false → (e : Entry) (q : Place) → shows e place ≡ q
-    → notedValue a r f e ≡ cond (confirms a && false) (placeIn f q) q
+    → noteValue a r f e ≡ cond (confirms a && false) (placeIn f q) q
 place-group Clear t Misses f n e q p = p
 place-group Clear t Hits keeps n e q p = p
 place-group Clear t Hits (stores v) n e q p = absurd (true≢false n)
@@ -113,7 +113,7 @@ place-group Clear t May f n e q p = p
 place-group Silent t r f n e q p = p
 
 place-exact : (a : Answer) → Counts a → (to : Address) (c : Command) → Sendable to c → (e : Entry) (past : List Counted) (k : ℕ) → Exact e past k
-    → shows (noted a (reachOf to k e) c e) place ≡ lastPlace (record { to = to; command = c; confirmed = confirms a } ∷ past) k
+    → shows (noteOf a (reachOf to k e) c e) place ≡ lastPlace (record { to = to; command = c; confirmed = confirms a } ∷ past) k
 place-exact a u (address.Individual i) c s e past k x =
     shows-noted a (reachOf (address.Individual i) k e) c e place ∙ place-node a u (eqb (i .0) k) (effect c place) (not-copied c) e (lastPlace past k) (x .place)
 place-exact a u (address.Group g) c s e past k x =
@@ -122,7 +122,7 @@ place-exact a u (address.Group g) c s e past k x =
 
 -- one more command that counts
 pub exact-step : (a : Answer) → Counts a → (to : Address) (c : Command) → Sendable to c → (e : Entry) (past : List Counted) (k : ℕ) → Exact e past k
-    → Exact (noted a (reachOf to k e) c e) (record { to = to; command = c; confirmed = confirms a } ∷ past) k
+    → Exact (noteOf a (reachOf to k e) c e) (record { to = to; command = c; confirmed = confirms a } ∷ past) k
 exact-step a u to c s e past k x = record {
   known = λ t. knows-noted a (reachOf to k e) c e t
       ∙ flag-exact a u (reachOf to k e) (effect c t) e (goes to k (inDoubt past k place) (lastPlace past k)) (groupLost to (inDoubt past k place))

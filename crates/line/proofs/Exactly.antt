@@ -1,4 +1,4 @@
--- The host's whole record against what was sent and heard. It needs no premise about the line: it is the host's own.
+-- The host's whole record against what was sent and answered. It needs no premise about the line: it is the host's own.
 use Prim.Native.Nat.{ℕ, suc, _<_}
 use mathlib.Core.Bool.{false}
 use mathlib.Core.List.{List, _∷_}
@@ -13,14 +13,14 @@ use Rattle.status.specs.declared.Answer.the-variants.{Clear, Marked, Silent}
 use Rattle.node.specs.Setting.{place}
 use Rattle.node.specs.Effect.{effect, writes}
 use Rattle.node.proofs.Laws.{nop-writes}
-use Rattle.entry.specs.Entry.{noted}
+use Rattle.entry.specs.Entry.{noteOf}
 use Rattle.entry.proofs.Entries.{quiet-noted}
 use Rattle.ledger.specs.Ledger.{reachOf}
 use Rattle.session.specs.declared.Session.{Session}
 use Rattle.line.specs.History.{Sending, sends, Counted, count}
 use Rattle.line.proofs.Exact.{Exact, confirms, Counts, Sendable, exact-step}
 use Rattle.line.proofs.Due.{Due, next, ask, order, regroup}
-use Rattle.line.proofs.Closing.{entryAt, Concluded, settles, walked}
+use Rattle.line.proofs.Closing.{entryAt, Concluded, settles, walkOn}
 
 abbrev pub Exactly : Session → List Counted → Type 0
 Exactly h past = (i : ℕ) → i < h .n → Exact (entryAt h i) past (suc i)
@@ -32,7 +32,7 @@ module _ (h t : Session) (past : List Counted) (x : Exactly h past) (to : Addres
       let m : i < h .n = omega (arith, k .nodes) in
       rw (k .entry i m) (exact-step a u to c s (entryAt h i) past (suc i) (x i m))
 
-  unsent : (a : Answer) → ((i : ℕ) → noted a (reachOf to (suc i) (entryAt h i)) c (entryAt h i) ≡ entryAt h i) → Concluded h a to c w t → Exactly t past
+  unsent : (a : Answer) → ((i : ℕ) → noteOf a (reachOf to (suc i) (entryAt h i)) c (entryAt h i) ≡ entryAt h i) → Concluded h a to c w t → Exactly t past
   unsent a s k i l =
       let m : i < h .n = omega (arith, k .nodes) in
       rw (k .entry i m, s i) (x i m)
@@ -47,7 +47,7 @@ sendable (address.Individual i) c e = tt
 sendable (address.Group g) c e = e
 
 pub exactly-step : {h : Session} {what : Sending} {line to : Address} {c : Command} → Due h what line to c
-    → (t : Session) (past : List Counted) → Exactly h past → (a : Answer) → Concluded h a to (settles what a c) (walked what a (h .walk)) t
+    → (t : Session) (past : List Counted) → Exactly h past → (a : Answer) → Concluded h a to (settles what a c) (walkOn what a (h .walk)) t
     → Exactly t (count what a past)
 exactly-step {h} (next l n) t past x Clear k = counts h t past x _ _ _ Clear tt tt k
 exactly-step {h} (next l n) t past x Marked k = unsent h t past x _ _ _ Marked (λ i. refl) k

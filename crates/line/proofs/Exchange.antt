@@ -10,22 +10,22 @@ use Rattle.command.specs.declared.Command.{Command}
 use Rattle.command.specs.Build.{fitsOf}
 use Rattle.status.specs.declared.Answer.{Answer}
 use Rattle.node.specs.declared.state.Node.{Node}
-use Rattle.ledger.specs.Ledger.{blank}
+use Rattle.ledger.specs.Ledger.{blankEntry}
 use Rattle.session.specs.declared.Session.{Session}
 use Rattle.session.specs.Session.{entryOf}
 use Rattle.line.specs.History.{Sending}
 use Rattle.line.proofs.Due.{Due, next, ask, order, regroup}
-use Rattle.line.proofs.Closing.{entryAt, walked, settles, Concluded}
+use Rattle.line.proofs.Closing.{entryAt, walkOn, settles, Concluded}
 use Rattle.line.proofs.Invariant.{Invariant, Exchanged}
 use Rattle.line.proofs.Ready.{order-step, regroup-step}
 use Rattle.line.proofs.Walk.{next-step, ask-step}
 
 next-entry : (h : Session) → entryOf h (h .walk + 1) ≡ entryAt h (h .walk)
-next-entry h = let e : h .walk + 1 - 1 ≡ h .walk = omega arith in ap (λ (i : ℕ). getD (h .entries) i blank) e
+next-entry h = let e : h .walk + 1 - 1 ≡ h .walk = omega arith in ap (λ (i : ℕ). getD (h .entries) i blankEntry) e
 
 pub exchange-step : {h : Session} {what : Sending} {line to : Address} {c : Command} → Due h what line to c → fitsOf c ≡ true
     → (t : Session) (ns ms : List Node) → Invariant h ns → (a : Answer) → Exchanged line c ns ms a
-    → Concluded h a to (settles what a c) (walked what a (h .walk)) t → Invariant t ms
+    → Concluded h a to (settles what a c) (walkOn what a (h .walk)) t → Invariant t ms
 exchange-step {h} (next l k) fits t ns ms inv a x = next-step h t ns ms inv l (rw (next-entry h) at k) a x fits
 exchange-step {h} (ask l k) fits t ns ms inv a x = ask-step h t ns ms inv l a x
 exchange-step {h} {to = to} {c = c} (order w o e) fits t ns ms inv a x = λ k. order-step h ns inv w ms t to c a x k fits e

@@ -17,8 +17,8 @@ use Rattle.node.specs.declared.state.Node.{Node}
 use Rattle.node.specs.Setting.{place}
 use Rattle.node.specs.Effect.{settingsAfter}
 use Rattle.node.specs.Node.{addressedAfter}
-use Rattle.survey.specs.One.{meant}
-use Rattle.survey.specs.Chain.{blank, hearsAt, repliesAt}
+use Rattle.survey.specs.One.{isMeant}
+use Rattle.survey.specs.Chain.{blankNode, hearsAt, repliesAt}
 use Rattle.entry.specs.declared.Entry.{Entry}
 use Rattle.entry.specs.Entry.{knows}
 use Rattle.session.specs.declared.Session.{Session}
@@ -28,7 +28,7 @@ use Rattle.session.specs.Session.{givenPlace}
 
 -- the node of index i, node i + 1
 abbrev pub at : List Node → ℕ → Node
-at ns i = getD ns i blank
+at ns i = getD ns i blankNode
 
 -- a node that the walk has passed, and one that it has not come to
 abbrev pub Placed : ℕ → Settings → Bool → Type 0
@@ -78,7 +78,7 @@ pub record Invariant (h : Session) (ns : List Node) : Type 0 where
 
 -- the node of index i acts on a command to this address, if it comes to it whole
 abbrev pub acts : Address → List Node → ℕ → Bool
-acts to ns i = hearsAt ns i && meant to (at ns i .settings .place)
+acts to ns i = hearsAt ns i && isMeant to (at ns i .settings .place)
 
 -- of two neighbours that are not addressed the second doesn't hear
 pub deaf : (ns : List Node) (i : ℕ) → at ns i .addressed ≡ false → at ns (suc i) .addressed ≡ false → hearsAt ns (suc i) ≡ false

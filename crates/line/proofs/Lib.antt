@@ -1,21 +1,21 @@
 pub mod Words
-pub mod Exact
-pub mod Due
-pub mod Closing
-pub mod Returning
+mod Exact
+mod Due
+mod Closing
+mod Returning
 pub mod Exactly
-pub mod Sound
-pub mod Invariant
-pub mod Peace
-pub mod Delivery
-pub mod Step
-pub mod Ready
-pub mod Walk
-pub mod Exchange
-pub mod Benching
-pub mod Powering
-pub mod Course
-pub mod Calls
+mod Sound
+mod Invariant
+mod Peace
+mod Delivery
+mod Step
+mod Ready
+mod Walk
+mod Exchange
+mod Benching
+mod Powering
+mod Course
+mod Calls
 pub mod Demand3
 pub mod Courses
 pub mod Missed

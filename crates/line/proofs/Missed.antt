@@ -21,23 +21,23 @@ use Rattle.session.specs.declared.Exchange.the-variants.{Idle}
 use Rattle.session.specs.declared.Session.{Session}
 use Rattle.session.specs.declared.End.the-variants.{Sent}
 use Rattle.session.specs.Session.{nodeAt, entryOf, endNumber}
-use Rattle.sending.specs.Sending.{opened}
+use Rattle.sending.specs.Sending.{openExchange}
 use Rattle.sending.proofs.Sent.{opened-waits}
-use Rattle.walk.proofs.Clear.{next-says}
+use Rattle.walk.proofs.Passing.{next-says}
 use Rattle.walk.proofs.Sent.{next-went}
-use Rattle.host.proofs.Clear.{order-says, regroup-says}
+use Rattle.host.proofs.Passing.{order-says, regroup-says}
 use Rattle.host.proofs.Sent.{order-went, regroup-went}
-use Rattle.reports.specs.Report.{concluded}
+use Rattle.reports.specs.Report.{concludeOf}
 use Rattle.line.specs.History.{Sending, asks}
 use Rattle.line.specs.Call.{Call, calledOf}
 use Rattle.line.specs.Call as calls
-use Rattle.line.specs.Line.{reportedOf, heardIn}
+use Rattle.line.specs.Line.{reportedOf, answerIn}
 use Rattle.line.specs.Missed.{Left, OnlyPowerUp}
 use Rattle.line.proofs.Due.{Due, next, ask, order, regroup, accepted}
 use Rattle.line.proofs.Closing.{waitingAt, entryAt, due-opens, reported-concludes}
 use Rattle.line.proofs.Returning.{marked-returns, quiet-returns}
 use Rattle.line.proofs.Invariant.{at, EdgeAt, Invariant, Answered, Exchanged}
-use Rattle.line.proofs.Peace.{no-clash}
+use Rattle.line.proofs.Peace.{none-collided}
 use Rattle.line.proofs.Walk.{nobody}
 use Rattle.line.proofs.Delivery.{exchanged}
 use Rattle.line.proofs.Course.{when-idle, holds}
@@ -63,24 +63,24 @@ module _ (h : Session) (ns : List Node) (inv : Invariant h ns) (l : h .walk < h 
       )
 
 -- an "ask" that isn't confirmed leaves the session as it was
-unconfirmed : (s : Session) → s .exchange ≡ Idle → (a : Answer) → (a ≡ Clear → ⊥) → concluded (waitingAt s (nodeAt (s .walk + 1)) Nop) (nodeAt (s .walk + 1)) Nop a ≡ s
+unconfirmed : (s : Session) → s .exchange ≡ Idle → (a : Answer) → (a ≡ Clear → ⊥) → concludeOf (waitingAt s (nodeAt (s .walk + 1)) Nop) (nodeAt (s .walk + 1)) Nop a ≡ s
 unconfirmed s e Clear n = absurd (n refl)
 unconfirmed s e Marked n = rw (opened-waits s (nodeAt (s .walk + 1)) Nop refl) at (marked-returns s (nodeAt (s .walk + 1)) Nop e refl)
 unconfirmed s e Silent n = rw (opened-waits s (nodeAt (s .walk + 1)) Nop refl) at (quiet-returns Nop nop-writes s (nodeAt (s .walk + 1)) e)
 
 -- what "ask" sends, and what the report of whatever came leaves
 asked : (s t : Session) (ns ms : List Node) (p : List ℕ) → Invariant s ns → s .exchange ≡ Idle → at ns (s .walk) .addressed ≡ false
-    → {line to : Address} {c : Command} → Due s (calls.whatOf calls.ask p) line to c → t ≡ opened s to c → (r : Option (List ℕ)) → Exchanged line c ns ms (heardIn r)
+    → {line to : Address} {c : Command} → Due s (calls.whatOf calls.ask p) line to c → t ≡ openExchange s to c → (r : Option (List ℕ)) → Exchanged line c ns ms (answerIn r)
     → (reportedOf t r .session ≡ s) × Left (at ns (s .walk)) (at ms (s .walk))
 asked s t ns ms p inv idle u d f r x = go d refl f x
   where
-    go : {what : Sending} {line to : Address} {c : Command} → Due s what line to c → what ≡ calls.whatOf calls.ask p → t ≡ opened s to c → Exchanged line c ns ms (heardIn r)
+    go : {what : Sending} {line to : Address} {c : Command} → Due s what line to c → what ≡ calls.whatOf calls.ask p → t ≡ openExchange s to c → Exchanged line c ns ms (answerIn r)
         → (reportedOf t r .session ≡ s) × Left (at ns (s .walk)) (at ms (s .walk))
     go (ask l k) e f x =
         let o = stays-out s ns inv l u x in
         let d : Due s (asks (s .walk + 1)) (nodeAt (s .walk + 1)) (nodeAt (s .walk + 1)) Nop = ask l k in
         let g : t ≡ waitingAt s (nodeAt (s .walk + 1)) Nop = f ∙ due-opens d in
-        (rw g (reported-concludes d (inv .few) (inv .walked) (inv .full) (inv .begun) r ∙ unconfirmed s idle (heardIn r) (o .0)), o .1)
+        (rw g (reported-concludes d (inv .few) (inv .walked) (inv .full) (inv .begun) r ∙ unconfirmed s idle (answerIn r) (o .0)), o .1)
     go (next l k) e f x = absurd (true≢false (cc e))
     go (order w o n) e f x = absurd (true≢false (cc e))
     go (regroup w o n) e f x = absurd (true≢false (cc e))
@@ -88,10 +88,10 @@ asked s t ns ms p inv idle u d f r x = go d refl f x
 -- no other call sends
 alone : (s : Session) → s .walk < s .n → knows (entryOf s (s .walk + 1)) place ≡ false → (c : Call) (out : List ℕ) (n : ℕ)
     → calledOf c s out .answer .end ≡ Sent n → c ≡ calls.ask
-alone s l d calls.next out n e = absurd (true≢false (sym (next-says s (next-went s out (ap endNumber e) .clear) .placed) ∙ d))
+alone s l d calls.next out n e = absurd (true≢false (sym (next-says s (next-went s out (ap endNumber e) .passed) .placed) ∙ d))
 alone s l d calls.ask out n e = refl
-alone s l d (calls.order to c) out n e = absurd (let k = order-says s to c (order-went s out to c (ap endNumber e) .clear) .ended in omega arith)
-alone s l d (calls.regroup i g leader) out n e = absurd (let k = regroup-says s i g leader (regroup-went s out i g leader (ap endNumber e) .clear) .ended in omega arith)
+alone s l d (calls.order to c) out n e = absurd (let k = order-says s to c (order-went s out to c (ap endNumber e) .passed) .ended in omega arith)
+alone s l d (calls.regroup i g leader) out n e = absurd (let k = regroup-says s i g leader (regroup-went s out i g leader (ap endNumber e) .passed) .ended in omega arith)
 
 index : (k : ℕ) → k + 1 - 1 ≡ k
 index k = omega arith
@@ -105,7 +105,7 @@ only-power-up w comes up idle m =
       alone = alone (w .host) (m .walking) (m .unconfirmed);
       same = λ out n e q r arrives returns.
           let a = accepted calls.ask tt refl (w .host) out n e in
-          let x = exchanged (a .line) (a .command) (w .nodes) (a .goes .range) (a .goes .fits) (a .typed) (no-clash (w .host) (w .nodes) i)
+          let x = exchanged (a .line) (a .command) (w .nodes) (a .goes .range) (a .goes .fits) (a .typed) (none-collided (w .host) (w .nodes) i)
           (rw (a .goes .packet) at arrives) returns in
           rw (index (w .host .walk)) (asked (w .host) _ (w .nodes) _ (take n (calledOf calls.ask (w .host) out .left)) i idle u (a .due) (a .goes .after) r x);
     }

@@ -11,10 +11,10 @@ use Rattle.wire.specs.declared.address.Address.{Address}
 use Rattle.wire.specs.declared.address.Address.the-variants as address
 use Rattle.wire.proofs.Choice.{both}
 use Rattle.node.specs.declared.state.Node.{Node}
-use Rattle.heard.specs.declared.Heard.{Heard}
-use Rattle.survey.specs.One.{answers}
-use Rattle.survey.specs.Chain.{clash, said, hearsAt, repliesAt}
-use Rattle.survey.proofs.Clashes.{clash-two}
+use Rattle.message.specs.declared.Message.{Message}
+use Rattle.survey.specs.One.{isAnswering}
+use Rattle.survey.specs.Chain.{collided, said, hearsAt, repliesAt}
+use Rattle.survey.proofs.Collisions.{collision-two}
 use Rattle.session.specs.declared.Session.{Session}
 use Rattle.line.proofs.Closing.{entryAt}
 use Rattle.line.proofs.Invariant.{at, UnplacedAt, EdgeAt, Invariant, deaf}
@@ -63,18 +63,18 @@ module _ (h : Session) (ns : List Node) (inv : Invariant h ns) where
   -- at most one node replies to an address
   one-replies : (to : Address) (i j : ℕ) → i < h .n → j < h .n → repliesAt to ns i ≡ true → repliesAt to ns j ≡ true → i ≡ j
   one-replies (address.Individual a) i j l m p q =
-      let x = both (hearsAt ns i) (answers (address.Individual a) (at ns i .settings .place)) p in
-      let y = both (hearsAt ns j) (answers (address.Individual a) (at ns j .settings .place)) q in
+      let x = both (hearsAt ns i) (isAnswering (address.Individual a) (at ns i .settings .place)) p in
+      let y = both (hearsAt ns j) (isAnswering (address.Individual a) (at ns j .settings .place)) q in
       only-address (a .0) i j l m (own i l (ltb i (h .walk)) (eqb (h .walk) i) refl refl) (own j m (ltb j (h .walk)) (eqb (h .walk) j) refl refl)
       (eqb-true (a .0) _ (x .1)) (eqb-true (a .0) _ (y .1)) (x .0) (y .0) (ltb i j) (ltb j i) refl refl
   one-replies (address.Group g) i j l m p q =
-      let x = both (hearsAt ns i) (answers (address.Group g) (at ns i .settings .place)) p in
-      let y = both (hearsAt ns j) (answers (address.Group g) (at ns j .settings .place)) q in
+      let x = both (hearsAt ns i) (isAnswering (address.Group g) (at ns i .settings .place)) p in
+      let y = both (hearsAt ns j) (isAnswering (address.Group g) (at ns j .settings .place)) q in
       inv .alone (g .0) i j l m (x .1) (y .1)
 
-  pub no-clash : (to : Address) (heard : Heard) → said to heard ns ≡ clash → ⊥
-  no-clash to heard e =
-      let t = clash-two to heard ns e in
+  pub none-collided : (to : Address) (message : Message) → said to message ns ≡ collided → ⊥
+  none-collided to message e =
+      let t = collision-two to message ns e in
       let n = inv .long in
       let s = one-replies to (t .first) (t .second) (omega (arith, t .inside, t .apart)) (omega (arith, t .inside)) (t .one) (t .two) in
       omega (arith, t .apart)

@@ -23,11 +23,11 @@ use Rattle.node.specs.Setting.{place}
 use Rattle.node.specs.Effect.{effect, writes, settingsAfter}
 use Rattle.node.specs.Node.{addressedAfter}
 use Rattle.node.proofs.Laws.{addressed-stays, unwritten-stays}
-use Rattle.survey.specs.One.{meant}
+use Rattle.survey.specs.One.{isMeant}
 use Rattle.survey.specs.Chain.{hearsAt}
 use Rattle.entry.specs.declared.Reach.the-variants.{Misses, Hits, May}
 use Rattle.entry.specs.Entry.{knows, shows}
-use Rattle.ledger.specs.Ledger.{blank, reachOf, isLed}
+use Rattle.ledger.specs.Ledger.{blankEntry, reachOf, isLed}
 use Rattle.ledger.proofs.Ledgers.{free-says}
 use Rattle.session.specs.declared.Session.{Session}
 use Rattle.line.proofs.Closing.{entryAt, Concluded}
@@ -48,10 +48,10 @@ module _ (h : Session) (ns : List Node) (inv : Invariant h ns) (ended : h .walk 
 
   -- whoever acts is the one node with that number, or in that group
   acts-node : (j : Individual) (i : ℕ) → i < h .n → acts (address.Individual j) ns i ≡ true → j .0 ≡ suc i
-  acts-node j i l e = eqb-true (j .0) _ (both (hearsAt ns i) (meant (address.Individual j) (at ns i .settings .place)) e .1) ∙ numbered i l
+  acts-node j i l e = eqb-true (j .0) _ (both (hearsAt ns i) (isMeant (address.Individual j) (at ns i .settings .place)) e .1) ∙ numbered i l
 
   acts-group : (g : Group) (i : ℕ) → acts (address.Group g) ns i ≡ true → at ns i .settings .place .group .0 ≡ g .0
-  acts-group g i e = sym (eqb-true (g .0) _ (both (hearsAt ns i) (meant (address.Group g) (at ns i .settings .place)) e .1))
+  acts-group g i e = sym (eqb-true (g .0) _ (both (hearsAt ns i) (isMeant (address.Group g) (at ns i .settings .place)) e .1))
 
   fits-group : (g : Group) (i : ℕ) → i < h .n → (b : Bool) → (b ≡ true → acts (address.Group g) ns i ≡ true) → (k : Bool) → knows (entryAt h i) place ≡ k
       → Fits (cond k (cond (eqb (shows (entryAt h i) place .group .0) (g .0)) Hits Misses) May) b
@@ -124,7 +124,7 @@ module _ (h : Session) (ns ms : List Node) (inv : Invariant h ns) (ended : h .wa
   -- 11 has kept another leader away
   rival : (r i : ℕ) → i < h .n → leader ≡ true → r ≡ g .0 → (suc i ≡ n .0 → ⊥) → leads r (at ns i .settings) ≡ true → ⊥
   rival r i l w e o f =
-      let b = free-says (n .0) g (h .n) (h .entries) blank (inv .few) (free w) i l (omega (arith, inv .few, inv .full)) o in
+      let b = free-says (n .0) g (h .n) (h .entries) blankEntry (inv .few) (free w) i l (omega (arith, inv .few, inv .full)) o in
       let s : (at ns i .settings .place .leader && eqb (at ns i .settings .place .group .0) (g .0)) ≡ false = rw (inv .held i l place (b .known)) at (b .follows) in
       let p = both (at ns i .settings .place .leader) (eqb r (at ns i .settings .place .group .0)) f in
       false≢true (sym s ∙ rw (p .0, eq-eqb _ (g .0) (sym (eqb-true r _ (p .1)) ∙ e)) refl)

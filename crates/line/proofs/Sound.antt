@@ -11,7 +11,7 @@ use Rattle.entry.specs.declared.Known.{Known}
 use Rattle.entry.specs.declared.Entry.{Entry}
 use Rattle.entry.specs.declared.Reach.{Reach}
 use Rattle.entry.specs.declared.Reach.the-variants.{Misses, Hits, May}
-use Rattle.entry.specs.Entry.{flag, knows, shows, newFlag, newValue, confirmed, doubted, noted}
+use Rattle.entry.specs.Entry.{flag, knows, shows, newFlag, newValue, confirmOf, doubtOf, noteOf}
 use Rattle.entry.proofs.Entries.{knows-confirmed, shows-confirmed, knows-doubted}
 
 -- "each setting the host calls known is what the node holds"
@@ -55,7 +55,7 @@ known-applied (stores v) e x ok k = refl
 known-applied (copies t f) e x ok k = rw k (ap f (ok t k))
 
 -- confirmed, and the node acted
-confirmed-sound : (c : Command) (e : Entry) (x : Settings) → Sound e x → Sound (confirmed c e) (settingsAfter c x)
+confirmed-sound : (c : Command) (e : Entry) (x : Settings) → Sound e x → Sound (confirmOf c e) (settingsAfter c x)
 confirmed-sound c e x ok s k =
     shows-confirmed c e s ∙ known-applied (effect c s) e x ok (sym (knows-confirmed c e s) ∙ k) ∙ sym (get-after c x s)
 
@@ -65,7 +65,7 @@ kept (stores v) x k h = absurd (false≢true h)
 kept (copies t f) x k h = absurd (false≢true h)
 
 -- put in doubt, whether or not the node acted
-doubted-sound : (c : Command) (e : Entry) (x : Settings) (did : Bool) → Sound e x → Sound (doubted c e) (cond did (settingsAfter c x) x)
+doubted-sound : (c : Command) (e : Entry) (x : Settings) (did : Bool) → Sound e x → Sound (doubtOf c e) (cond did (settingsAfter c x) x)
 doubted-sound c e x did ok s k = go did
   where
     same : (applied (effect c s) x ≡ get x s) × (knows e s ≡ true)
@@ -77,7 +77,7 @@ doubted-sound c e x did ok s k = go did
 
 -- one exchange at one node
 pub noted-sound : (a : Answer) (r : Reach) (c : Command) (e : Entry) (x : Settings) (did : Bool)
-    → Told a r did → Fits r did → Sound e x → Sound (noted a r c e) (cond did (settingsAfter c x) x)
+    → Told a r did → Fits r did → Sound e x → Sound (noteOf a r c e) (cond did (settingsAfter c x) x)
 noted-sound Marked r c e x did t f ok = rw t ok
 noted-sound Clear Misses c e x did t f ok = rw f ok
 noted-sound Clear Hits c e x did t f ok = rw t (confirmed-sound c e x ok)

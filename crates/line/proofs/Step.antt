@@ -13,7 +13,7 @@ use Rattle.node.specs.declared.state.Node.{Node}
 use Rattle.node.specs.Effect.{settingsAfter}
 use Rattle.node.proofs.Laws.{fit-after}
 use Rattle.entry.specs.declared.Reach.the-variants.{Hits}
-use Rattle.entry.specs.Entry.{noted}
+use Rattle.entry.specs.Entry.{noteOf}
 use Rattle.ledger.specs.Ledger.{reachOf}
 use Rattle.session.specs.declared.Session.{Session}
 use Rattle.line.proofs.Closing.{entryAt, Concluded}
@@ -24,7 +24,7 @@ module _ (h : Session) (ns ms : List Node) (inv : Invariant h ns) (line : Addres
   -- what is known is held, also afterwards: whom the host counts as missed has not acted, whom it counts as reached has, if the answer is clear
   pub held-step : (to : Address) (i : ℕ) → i < h .n → Fits (reachOf to (suc i) (entryAt h i)) (x .did i)
       → (a ≡ Clear → reachOf to (suc i) (entryAt h i) ≡ Hits → x .did i ≡ true)
-      → Sound (noted a (reachOf to (suc i) (entryAt h i)) c (entryAt h i)) (at ms i .settings)
+      → Sound (noteOf a (reachOf to (suc i) (entryAt h i)) c (entryAt h i)) (at ms i .settings)
   held-step to i l f g =
       let r = reachOf to (suc i) (entryAt h i) in
       rw (x .settings i (omega (arith, inv .long)))
@@ -51,10 +51,10 @@ module _ (h : Session) (ns ms : List Node) (inv : Invariant h ns) (line : Addres
   -- the invariant after the report, from what each kind of command must show; the walk then stands at w
   module _ (t : Session) (to : Address) (m : Command) (w : ℕ) (k : Concluded h a to m w t) where
     pub stepped : fitsOf c ≡ true → w ≤ h .n
-        → ((i : ℕ) → i < h .n → Sound (noted a (reachOf to (suc i) (entryAt h i)) m (entryAt h i)) (at ms i .settings))
+        → ((i : ℕ) → i < h .n → Sound (noteOf a (reachOf to (suc i) (entryAt h i)) m (entryAt h i)) (at ms i .settings))
         → ((i : ℕ) → i < w → PlacedAt ms i)
         → ((i : ℕ) → w < i → i < h .n → UnplacedAt ms i)
-        → (w < h .n → EdgeAt (noted a (reachOf to (suc w) (entryAt h w)) m (entryAt h w)) ms w)
+        → (w < h .n → EdgeAt (noteOf a (reachOf to (suc w) (entryAt h w)) m (entryAt h w)) ms w)
         → Alone (h .n) ms
         → Invariant t ms
     stepped fits walked held front back edge alone =

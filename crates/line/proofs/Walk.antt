@@ -19,18 +19,18 @@ use Rattle.node.specs.declared.state.Settings.{Settings}
 use Rattle.node.specs.declared.state.Node.{Node}
 use Rattle.node.specs.Setting.{place}
 use Rattle.node.specs.Effect.{settingsAfter}
-use Rattle.survey.specs.One.{meant, answers}
+use Rattle.survey.specs.One.{isMeant, isAnswering}
 use Rattle.survey.specs.Chain.{hearsAt}
 use Rattle.entry.specs.declared.Entry.{Entry}
 use Rattle.entry.specs.declared.Reach.the-variants.{Misses, Hits}
 use Rattle.node.proofs.Laws.{nop-writes, placed-again}
-use Rattle.entry.specs.Entry.{knows, doubted, noted}
+use Rattle.entry.specs.Entry.{knows, doubtOf, noteOf}
 use Rattle.entry.proofs.Entries.{quiet-noted}
 use Rattle.ledger.specs.Ledger.{reachOf}
 use Rattle.session.specs.declared.Session.{Session}
 use Rattle.session.specs.Session.{nodeAt, givenPlace}
 use Rattle.line.specs.History.{gives, asks}
-use Rattle.line.proofs.Closing.{entryAt, walked, settles, Concluded}
+use Rattle.line.proofs.Closing.{entryAt, walkOn, settles, Concluded}
 use Rattle.line.proofs.Sound.{Sound, told, fits-test, hits-test, noted-sound}
 use Rattle.line.proofs.Invariant.{at, PlacedAt, Unplaced, UnplacedAt, Edge, EdgeAt, Alone, Invariant, acts, deaf, Answered, Exchanged}
 use Rattle.line.proofs.Step.{held-step, shrinks, stepped}
@@ -42,7 +42,7 @@ given h = SetAddress (givenPlace (h .walk + 1))
 -- nothing was learnt and nothing changed
 module _ (h t : Session) (ns ms : List Node) (inv : Invariant h ns) (line to : Address) (c : Command) (a : Answer) (x : Exchanged line c ns ms a)
     (k : Concluded h a to c (h .walk) t)
-    (learnt : (i : ℕ) → noted a (reachOf to (suc i) (entryAt h i)) c (entryAt h i) ≡ entryAt h i)
+    (learnt : (i : ℕ) → noteOf a (reachOf to (suc i) (entryAt h i)) c (entryAt h i) ≡ entryAt h i)
     (settings : (i : ℕ) → i < h .n → at ms i .settings ≡ at ns i .settings)
     (addressed : (i : ℕ) → i < h .n → at ms i .addressed ≡ at ns i .addressed) where
   still-step : fitsOf c ≡ true → Invariant t ms
@@ -71,8 +71,8 @@ module _ (h : Session) (ns : List Node) (inv : Invariant h ns) (l : h .walk < h 
   only : (i : ℕ) → i < h .n → acts (nodeAt 0) ns i ≡ true → h .walk ≡ i
   only i p e = go (ltb i (h .walk)) (eqb (h .walk) i) refl refl
     where
-      called : (hearsAt ns i ≡ true) × (meant (nodeAt 0) (at ns i .settings .place) ≡ true)
-      called = both (hearsAt ns i) (meant (nodeAt 0) (at ns i .settings .place)) e
+      called : (hearsAt ns i ≡ true) × (isMeant (nodeAt 0) (at ns i .settings .place) ≡ true)
+      called = both (hearsAt ns i) (isMeant (nodeAt 0) (at ns i .settings .place)) e
 
       go : (b c : Bool) → ltb i (h .walk) ≡ b → eqb (h .walk) i ≡ c → h .walk ≡ i
       go true c f k = absurd (omega (arith, inv .front i (ltb-true i (h .walk) f) .1, eqb-true 0 (at ns i .settings .place .address .0) (called .1)))
@@ -114,7 +114,7 @@ module _ (h : Session) (ns : List Node) (inv : Invariant h ns) (l : h .walk < h 
     alone-next : Alone (h .n) ms
     alone-next = shrinks h ns ms inv (nodeAt 0) (given h) a x (λ g i e. absurd (false≢true e))
 
-    held-next : (i : ℕ) → i < h .n → Sound (noted a (reachOf (nodeAt (h .walk + 1)) (suc i) (entryAt h i)) (given h) (entryAt h i)) (at ms i .settings)
+    held-next : (i : ℕ) → i < h .n → Sound (noteOf a (reachOf (nodeAt (h .walk + 1)) (suc i) (entryAt h i)) (given h) (entryAt h i)) (at ms i .settings)
     held-next i p =
         held-step h ns ms inv (nodeAt 0) (given h) a x (nodeAt (h .walk + 1)) i p
         (fits-test (eqb (h .walk + 1) (suc i)) (x .did i) (λ e. eq-eqb (h .walk + 1) (suc i) (omega (arith, at-walk i p e))))
@@ -143,7 +143,7 @@ module _ (h : Session) (ns : List Node) (inv : Invariant h ns) (l : h .walk < h 
         (λ i p. rw (x .settings i (omega (arith, inv .long)), x .marked e i) refl) (λ i p. rw (x .addressed i (omega (arith, inv .long)), x .marked e i) refl) fits
 
     -- unconfirmed: it may have it, and the host is in doubt
-    edge-if : (b : Bool) → x .did (h .walk) ≡ b → EdgeAt (doubted (given h) (entryAt h (h .walk))) ms (h .walk)
+    edge-if : (b : Bool) → x .did (h .walk) ≡ b → EdgeAt (doubtOf (given h) (entryAt h (h .walk))) ms (h .walk)
     edge-if true e = inr (refl, ap (λ (z : Settings). z .place) (settings-walk true e), addressed-walk true e)
     edge-if false e = inl (rw (settings-walk false e, addressed-walk false e) u)
 
@@ -162,14 +162,14 @@ not-come e x b n (inr p) k = absurd (false≢true (sym (p .0) ∙ k))
 
 pub next-step : (h t : Session) (ns ms : List Node) (inv : Invariant h ns) → (l : h .walk < h .n) → knows (entryAt h (h .walk)) place ≡ true
     → (a : Answer) → Exchanged (nodeAt 0) (given h) ns ms a → fitsOf (given h) ≡ true
-    → Concluded h a (nodeAt (h .walk + 1)) (given h) (walked (gives (h .walk + 1)) a (h .walk)) t → Invariant t ms
+    → Concluded h a (nodeAt (h .walk + 1)) (given h) (walkOn (gives (h .walk + 1)) a (h .walk)) t → Invariant t ms
 next-step h t ns ms inv l known a x fits k = go a x k
   where
     u : UnplacedAt ns (h .walk)
     u = not-come (entryAt h (h .walk)) (at ns (h .walk) .settings) (at ns (h .walk) .addressed) (h .walk + 1) (inv .edge l) known
 
     go : (a : Answer) → Exchanged (nodeAt 0) (given h) ns ms a
-        → Concluded h a (nodeAt (h .walk + 1)) (given h) (walked (gives (h .walk + 1)) a (h .walk)) t → Invariant t ms
+        → Concluded h a (nodeAt (h .walk + 1)) (given h) (walkOn (gives (h .walk + 1)) a (h .walk)) t → Invariant t ms
     go Clear x k = next-clear h ns inv l u ms t Clear x refl fits k
     go Marked x k = next-marked h ns inv l u ms t Marked x refl fits k
     go Silent x k = next-silent h ns inv l u ms t Silent x refl fits k
@@ -185,7 +185,7 @@ nobody h ns inv l u o = go (ltb (o .index) (h .walk)) refl
     inside = omega (arith, o .inside, inv .long)
 
     at-it : h .walk + 1 ≡ at ns (o .index) .settings .place .address .0
-    at-it = eqb-true (h .walk + 1) _ (both (hearsAt ns (o .index)) (answers (nodeAt (h .walk + 1)) (at ns (o .index) .settings .place)) (o .replies) .1)
+    at-it = eqb-true (h .walk + 1) _ (both (hearsAt ns (o .index)) (isAnswering (nodeAt (h .walk + 1)) (at ns (o .index) .settings .place)) (o .replies) .1)
 
     go : (b : Bool) → ltb (o .index) (h .walk) ≡ b → ⊥
     go true f = let q = ltb-true (o .index) (h .walk) f in omega (arith, at-it, inv .front (o .index) q .1)
@@ -211,7 +211,7 @@ module _ (h t : Session) (ns ms : List Node) (inv : Invariant h ns) (l : h .walk
         settings-ask i p ∙ sym (placed-again (at ns i .settings) (givenPlace (h .walk + 1)) (subst (λ (j : ℕ). at ns j .settings .place ≡ givenPlace (h .walk + 1)) q (f .0)))
     settings-found i p false e = settings-ask i p
 
-    held-found : (i : ℕ) → i < h .n → Sound (noted Clear (reachOf (nodeAt (h .walk + 1)) (suc i) (entryAt h i)) (given h) (entryAt h i)) (at ms i .settings)
+    held-found : (i : ℕ) → i < h .n → Sound (noteOf Clear (reachOf (nodeAt (h .walk + 1)) (suc i) (entryAt h i)) (given h) (entryAt h i)) (at ms i .settings)
     held-found i p =
         let b = eqb (h .walk + 1) (suc i) in
         rw (settings-found i p b refl)
@@ -236,12 +236,12 @@ module _ (h t : Session) (ns ms : List Node) (inv : Invariant h ns) (l : h .walk
         (λ p. inl (rw (settings-ask (h .walk + 1) p, addressed-ask (h .walk + 1) p) (inv .back (h .walk + 1) (omega arith) p)))
         alone-ask
 
-  ask-still : ((i : ℕ) → noted a (reachOf (nodeAt (h .walk + 1)) (suc i) (entryAt h i)) Nop (entryAt h i) ≡ entryAt h i)
+  ask-still : ((i : ℕ) → noteOf a (reachOf (nodeAt (h .walk + 1)) (suc i) (entryAt h i)) Nop (entryAt h i) ≡ entryAt h i)
       → Concluded h a (nodeAt (h .walk + 1)) Nop (h .walk) t → Invariant t ms
   ask-still learnt k = still-step h t ns ms inv (nodeAt (h .walk + 1)) (nodeAt (h .walk + 1)) Nop a x k learnt settings-ask addressed-ask refl
 
 pub ask-step : (h t : Session) (ns ms : List Node) (inv : Invariant h ns) → h .walk < h .n → (a : Answer) → Exchanged (nodeAt (h .walk + 1)) Nop ns ms a
-    → Concluded h a (nodeAt (h .walk + 1)) (settles (asks (h .walk + 1)) a Nop) (walked (asks (h .walk + 1)) a (h .walk)) t → Invariant t ms
+    → Concluded h a (nodeAt (h .walk + 1)) (settles (asks (h .walk + 1)) a Nop) (walkOn (asks (h .walk + 1)) a (h .walk)) t → Invariant t ms
 ask-step h t ns ms inv l Clear x k = ask-clear h t ns ms inv l Clear x (found h t ns ms inv l Clear x refl (inv .edge l)) refl k
 ask-step h t ns ms inv l Marked x k = ask-still h t ns ms inv l Marked x (λ i. refl) k
 ask-step h t ns ms inv l Silent x k =

@@ -44,8 +44,8 @@ resets (order to c) = isReset (roleOf c)
 resets (regroup i g leader) = false
 
 -- what the types of a call admit: a group is a byte
-abbrev pub Typed : Call → Type 0
-Typed next = Unit {0}
-Typed ask = Unit {0}
-Typed (order to c) = Unit {0}
-Typed (regroup i g leader) = g .0 < 256
+abbrev pub TypedCall : Call → Type 0
+TypedCall next = Unit {0}
+TypedCall ask = Unit {0}
+TypedCall (order to c) = Unit {0}
+TypedCall (regroup i g leader) = g .0 < 256

@@ -6,7 +6,7 @@ use mathlib.Core.Path.{_≡_}
 use Rattle.command.specs.declared.Command.the-variants.{SetOutputs}
 use Rattle.status.specs.declared.Answer.the-variants.{Clear, Silent}
 use Rattle.node.specs.Setting.{outputs, Setting, place, gate, Value, get}
-use Rattle.node.specs.Effect.{settingsUp}
+use Rattle.node.specs.Effect.{settingsPowerUp}
 use Rattle.entry.specs.Entry.{knows, shows}
 use Rattle.session.specs.declared.Exchange.the-variants.{Idle}
 use Rattle.session.specs.Session.{entryOf, nodeAt, givenPlace}
@@ -28,24 +28,24 @@ pub record Course (past : List Sent) (k : ℕ) (s : Setting) (known : Bool) (sho
 
 -- the first "next", whose reply is lost; and then the "ask", replied to
 abbrev pub unasked : List Sent
-unasked = record { what = gives 1; heard = Silent } ∷ []
+unasked = record { what = gives 1; answer = Silent } ∷ []
 
 abbrev pub asked : List Sent
-asked = record { what = asks 1; heard = Clear } ∷ unasked
+asked = record { what = asks 1; answer = Clear } ∷ unasked
 
 -- the walk, each step of it replied to; then Set Outputs 5 to node 2, whose reply is lost; and the same again, replied to
 abbrev pub walked : List Sent
-walked = record { what = gives 2; heard = Clear } ∷ record { what = gives 1; heard = Clear } ∷ []
+walked = record { what = gives 2; answer = Clear } ∷ record { what = gives 1; answer = Clear } ∷ []
 
 abbrev pub lost : List Sent
-lost = record { what = sends (nodeAt 2) (SetOutputs 5); heard = Silent } ∷ walked
+lost = record { what = sends (nodeAt 2) (SetOutputs 5); answer = Silent } ∷ walked
 
 abbrev pub again : List Sent
-again = record { what = sends (nodeAt 2) (SetOutputs 5); heard = Clear } ∷ lost
+again = record { what = sends (nodeAt 2) (SetOutputs 5); answer = Clear } ∷ lost
 
 -- where a reply is lost, the node has done what it was told, and the host is in doubt and shows the last known value; afterwards it knows
 pub record Courses : Type 0 where
-  pub addressing : Course unasked 1 place false (settingsUp .place) (givenPlace 1)
+  pub addressing : Course unasked 1 place false (settingsPowerUp .place) (givenPlace 1)
   pub addressed : Course asked 1 place true (givenPlace 1) (givenPlace 1)
   pub doubt : Course lost 2 (gate outputs) false 0 5
   pub known : Course again 2 (gate outputs) true 5 5

@@ -12,9 +12,9 @@ use Rattle.node.specs.declared.state.Node.{Node}
 use Rattle.node.specs.Setting.{Setting, get}
 use Rattle.survey.specs.declared.decision.Delivery.{Delivery}
 use Rattle.survey.specs.declared.decision.Delivery.the-variants.{Silent, Replied, Collision, Refused}
-use Rattle.survey.specs.One.{answers}
-use Rattle.survey.specs.Chain.{blank, Said, silence, reply, clash}
-use Rattle.survey.specs.Delivery.{valid, deliveredOn}
+use Rattle.survey.specs.One.{isAnswering}
+use Rattle.survey.specs.Chain.{blankNode, Said, silence, reply, collided}
+use Rattle.survey.specs.Delivery.{valid, deliverOf}
 use Rattle.entry.specs.Entry.{knows, shows}
 use Rattle.session.specs.declared.Exchange.the-variants.{Idle}
 use Rattle.session.specs.Session.{entryOf}
@@ -24,7 +24,7 @@ use Rattle.line.specs.World.{World, Comes}
 
 -- node k of the chain
 abbrev pub nodeOf : List Node → ℕ → Node
-nodeOf ns k = getD ns (k - 1) blank
+nodeOf ns k = getD ns (k - 1) blankNode
 
 -- what demand 3 promises of a world, for each node 1 to n and each setting
 pub record Kept (w : World) : Type 0 where
@@ -44,24 +44,24 @@ Demand3 = (w : World) → Comes w → w .up ≡ true → w .host .exchange ≡ I
 -- from a power-up to the next Hard Reset, also in mid-exchange, at most one node really leads a group
 abbrev pub OneLeader : Type 0
 OneLeader = (w : World) → Comes w → w .up ≡ true → (g : Group) (j k : ℕ) → 1 ≤ j → j ≤ w .host .n → 1 ≤ k → k ≤ w .host .n
-    → answers (address.Group g) (nodeOf (w .nodes) j .settings .place) ≡ true → answers (address.Group g) (nodeOf (w .nodes) k .settings .place) ≡ true → j ≡ k
+    → isAnswering (address.Group g) (nodeOf (w .nodes) j .settings .place) ≡ true → isAnswering (address.Group g) (nodeOf (w .nodes) k .settings .place) ≡ true → j ≡ k
 
 -- so no two nodes reply at once to a packet sent in that time, whatever becomes of it on its way
 abbrev pub NoCollision : Type 0
-NoCollision = (w : World) → Comes w → w .up ≡ true → (p : List ℕ) → OnItsWay p (w .line) → (q : Arrival) → Arrives p q → saidAfter q (w .nodes) ≡ clash → ⊥
+NoCollision = (w : World) → Comes w → w .up ≡ true → (p : List ℕ) → OnItsWay p (w .line) → (q : Arrival) → Arrives p q → saidAfter q (w .nodes) ≡ collided → ⊥
 
 -- what a delivery to a table says on the line
-abbrev pub heardBy : Delivery → List ℕ → Said
-heardBy Silent left = silence
-heardBy (Replied n) left = reply (take n left)
-heardBy Collision left = clash
-heardBy (Refused why) left = silence
+abbrev pub saidIn : Delivery → List ℕ → Said
+saidIn Silent left = silence
+saidIn (Replied n) left = reply (take n left)
+saidIn Collision left = collided
+saidIn (Refused why) left = silence
 
 -- the chain's call over these nodes, with room for a reply, isn't refused for the table, and does to nodes and line what is said of the list
 pub record Delivers (ns : List Node) (q out : List ℕ) : Type 0 where
   pub taken : valid ns ≡ true
-  pub nodes : deliveredOn ns q out .left .nodes ≡ nodesAfter (came q) ns
-  pub says : heardBy (deliveredOn ns q out .answer) (deliveredOn ns q out .left .reply) ≡ saidAfter (came q) ns
+  pub nodes : deliverOf ns q out .left .nodes ≡ nodesAfter (came q) ns
+  pub says : saidIn (deliverOf ns q out .answer) (deliverOf ns q out .left .reply) ≡ saidAfter (came q) ns
 
 abbrev pub ByCall : Type 0
 ByCall = (w : World) → Comes w → w .up ≡ true → (q out : List ℕ) → T + 2 ≤ length out → Delivers (w .nodes) q out

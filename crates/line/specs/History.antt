@@ -1,4 +1,4 @@
--- Demand 3: when a setting is in doubt, said over what was sent and heard since power-up. The host's record is not looked at.
+-- Demand 3: when a setting is in doubt, said over what was sent and answered since power-up. The host's record is not looked at.
 use Prim.Native.Nat.{ℕ}
 use mathlib.Core.Bool.{Bool, true, false, cond, not, _&&_, _||_}
 use mathlib.Core.List.{List, [], _∷_}
@@ -13,7 +13,7 @@ use Rattle.command.specs.declared.Command.the-variants.{SetAddress}
 use Rattle.status.specs.declared.Answer.{Answer}
 use Rattle.status.specs.declared.Answer.the-variants.{Clear, Marked, Silent}
 use Rattle.node.specs.Setting.{Setting, place}
-use Rattle.node.specs.Effect.{Effect, keeps, stores, copies, effect, writes, settingsUp}
+use Rattle.node.specs.Effect.{Effect, keeps, stores, copies, effect, writes, settingsPowerUp}
 use Rattle.session.specs.Session.{nodeAt, givenPlace}
 
 -- what the host sent: the walk's Set Address that gives k, the "ask" for it, a command to a node or a group
@@ -22,10 +22,10 @@ pub data Sending : Type 0 where
   asks : ℕ → Sending
   sends : Address → Command → Sending
 
--- and what was heard
+-- and what it was answered
 pub record Sent : Type 0 where
   pub what : Sending
-  pub heard : Answer
+  pub answer : Answer
 
 -- a command that counts, and whether it was confirmed
 pub record Counted : Type 0 where
@@ -51,7 +51,7 @@ count (sends to c) Silent past = countsAs (sends to c) false ∷ past
 -- the commands that count, the newest first
 abbrev pub counted : List Sent → List Counted
 counted [] = []
-counted (x ∷ past) = count (x .what) (x .heard) (counted past)
+counted (x ∷ past) = count (x .what) (x .answer) (counted past)
 
 -- a command to node k
 abbrev pub toNode : Address → ℕ → Bool
@@ -66,7 +66,7 @@ placeIn (copies t f) p = p
 
 -- the place that the last confirmed Set Address gave to node k
 abbrev pub lastPlace : List Counted → ℕ → Place
-lastPlace [] k = settingsUp .place
+lastPlace [] k = settingsPowerUp .place
 lastPlace (x ∷ past) k =
     cond (x .confirmed && toNode (x .to) k) (placeIn (effect (x .command) place) (lastPlace past k)) (lastPlace past k)
 

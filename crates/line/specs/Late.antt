@@ -10,7 +10,7 @@ use Rattle.node.specs.Node.{powerUp}
 use Rattle.entry.specs.Entry.{knows, shows}
 use Rattle.session.specs.declared.End.the-variants.{Done}
 use Rattle.session.specs.Session.{entryOf}
-use Rattle.start.specs.Start.{poweredOf}
+use Rattle.start.specs.Start.{startPowerUp}
 use Rattle.line.specs.History.{gives}
 use Rattle.line.specs.Line.{going, came, nodesAfter}
 use Rattle.line.specs.World.{World, Comes}
@@ -23,8 +23,8 @@ pub record Late : Type 0 where
   pub packet : List ℕ
   pub sent : world .line ≡ going (gives 1) packet
   pub bench : List Bench
-  pub told : poweredOf (world .host) (length bench) .end ≡ Done
+  pub told : startPowerUp (world .host) (length bench) .end ≡ Done
   -- the place of node 1 is known; were the packet to arrive now, the node would hold another
-  pub known : knows (entryOf (poweredOf (world .host) (length bench) .session) 1) place ≡ true
-  pub differs : shows (entryOf (poweredOf (world .host) (length bench) .session) 1) place
+  pub known : knows (entryOf (startPowerUp (world .host) (length bench) .session) 1) place ≡ true
+  pub differs : shows (entryOf (startPowerUp (world .host) (length bench) .session) 1) place
       ≡ get (nodeOf (nodesAfter (came packet) (map powerUp bench)) 1 .settings) place → ⊥

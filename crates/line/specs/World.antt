@@ -9,17 +9,17 @@ use Rattle.wire.specs.declared.refusal.Refusal.{Refusal}
 use Rattle.node.specs.declared.state.Bench.{Bench}
 use Rattle.node.specs.declared.state.Node.{Node}
 use Rattle.node.specs.Node.{powerUp}
-use Rattle.survey.specs.Chain.{blank}
+use Rattle.survey.specs.Chain.{blankNode}
 use Rattle.session.specs.declared.Session.{Session}
 use Rattle.session.specs.declared.End.{End}
 use Rattle.session.specs.declared.End.the-variants.{Done, Sent, Refused}
-use Rattle.start.specs.Start.{freshOf, poweredOf}
+use Rattle.start.specs.Start.{freshOf, startPowerUp}
 use Rattle.line.specs.History.{Sending}
 use Rattle.line.specs.History as history
-use Rattle.line.specs.Call.{Call, calledOf, whatOf, resets, Typed}
-use Rattle.line.specs.Line.{Line, quiet, going, coming, late, Arrival, Arrives, Nothing, nodesAfter, saidAfter, Returns, reportedOf, heardIn}
+use Rattle.line.specs.Call.{Call, calledOf, whatOf, resets, TypedCall}
+use Rattle.line.specs.Line.{Line, quiet, going, coming, lingering, Arrival, Arrives, Nothing, nodesAfter, saidAfter, Returns, reportedOf, answerIn}
 
--- `up`: the host was told of a power-up, and no Hard Reset was sent since; `past`: what was sent and heard since, the newest first
+-- `up`: the host was told of a power-up, and no Hard Reset was sent since; `past`: what was sent and answered since, the newest first
 pub record World : Type 0 where
   pub host : Session
   pub nodes : List Node
@@ -59,7 +59,7 @@ reported what r w = record {
   host = reportedOf (w .host) r .session;
   nodes = w .nodes;
   line = quiet;
-  past = record { what = what; heard = heardIn r } ∷ w .past;
+  past = record { what = what; answer = answerIn r } ∷ w .past;
   up = w .up;
 }
 
@@ -68,8 +68,8 @@ abbrev pub hurried : Sending → List ℕ → Option (List ℕ) → World → Wo
 hurried what p r w = record {
   host = reportedOf (w .host) r .session;
   nodes = w .nodes;
-  line = late p;
-  past = record { what = what; heard = heardIn r } ∷ w .past;
+  line = lingering p;
+  past = record { what = what; answer = answerIn r } ∷ w .past;
   up = w .up;
 }
 
@@ -85,11 +85,11 @@ pub data Comes : World → Type 0 where
   -- before any power-up there may be any nodes
   start : (ns : List Node) → Comes (started ns)
   -- "when the host is told of a power-up of n nodes, the chain has n nodes and all power up then", at any time
-  power : {w : World} → Comes w → (bs : List Bench) → poweredOf (w .host) (length bs) .end ≡ Done → Comes (powered bs (poweredOf (w .host) (length bs) .session))
+  power : {w : World} → Comes w → (bs : List Bench) → startPowerUp (w .host) (length bs) .end ≡ Done → Comes (powered bs (startPowerUp (w .host) (length bs) .session))
   -- a power-up that is refused
-  unpowered : {w : World} → Comes w → (n : ℕ) (why : Refusal) → poweredOf (w .host) n .end ≡ Refused why → Comes (hosting (poweredOf (w .host) n .session) w)
+  unpowered : {w : World} → Comes w → (n : ℕ) (why : Refusal) → startPowerUp (w .host) n .end ≡ Refused why → Comes (hosting (startPowerUp (w .host) n .session) w)
   -- a call, accepted or refused, with any buffer, at any time
-  call : {w : World} → Comes w → (c : Call) → Typed c → (out : List ℕ) → Comes (called c out w)
+  call : {w : World} → Comes w → (c : Call) → TypedCall c → (out : List ℕ) → Comes (called c out w)
   -- its packet reaches all nodes alike, and what they say comes back
   deliver : {w : World} → Comes w → (what : Sending) (p : List ℕ) → w .line ≡ going what p
       → (q : Arrival) (r : Option (List ℕ)) → Arrives p q → Returns (saidAfter q (w .nodes)) r → Comes (delivered q what r w)
@@ -97,9 +97,9 @@ pub data Comes : World → Type 0 where
   report : {w : World} → Comes w → (what : Sending) (r : Option (List ℕ)) → w .line ≡ coming what r → Comes (reported what r w)
   -- silence is reported before the packet has come to the nodes; it comes before the next command is sent, or not at all
   hurry : {w : World} → Comes w → (what : Sending) (p : List ℕ) → w .line ≡ going what p → (r : Option (List ℕ)) → Nothing r → Comes (hurried what p r w)
-  delay : {w : World} → Comes w → (p : List ℕ) → w .line ≡ late p → (q : Arrival) → Arrives p q → Comes (delayed q w)
+  delay : {w : World} → Comes w → (p : List ℕ) → w .line ≡ lingering p → (q : Arrival) → Arrives p q → Comes (delayed q w)
   -- a report that is refused: "a reply nobody waits for"
   stray : {w : World} → Comes w → (r : Option (List ℕ)) (why : Refusal) → reportedOf (w .host) r .end ≡ Refused why → Comes (hosting (reportedOf (w .host) r .session) w)
   -- the bench sets the values of a node, at any time
   bench : {w : World} → Comes w → (i : ℕ) (b : Bench)
-      → Comes (record { host = w .host; nodes = set (w .nodes) i (benched b (getD (w .nodes) i blank)); line = w .line; past = w .past; up = w .up })
+      → Comes (record { host = w .host; nodes = set (w .nodes) i (benched b (getD (w .nodes) i blankNode)); line = w .line; past = w .past; up = w .up })

@@ -3,7 +3,7 @@ use Prim.Native.Nat.{ℕ, suc, _+_, _/_, _%_, _^_}
 use mathlib.Core.Bool.{Bool, cond}
 use mathlib.Core.List.{List, [], _∷_}
 use lib.Dec.{eqb}
-use Rattle.status.specs.Status.{counts, statusOf}
+use Rattle.status.specs.Status.{counts, statusRead}
 use Rattle.status.specs.declared.Status.{Status}
 
 -- bit k of a mask
@@ -24,5 +24,5 @@ unfoldable pub sizeOf : ℕ → ℕ
 sizeOf m = 2 + countFrom 0 m counts
 
 -- "Reading a status packet under a mask": with as many item bytes as the mask asks for
-unfoldable pub readUnder : ℕ → List ℕ → Status
-readUnder m s = statusOf s (countFrom 0 m counts)
+unfoldable pub maskRead : ℕ → List ℕ → Status
+maskRead m s = statusRead s (countFrom 0 m counts)

@@ -5,7 +5,7 @@ use status::Status;
 ghost use mathlib.Core.Path.{_≡_};
 ghost use Rattle.wire.specs.Promise.{Promise};
 ghost use Rattle.status.specs.Status.{statusNumber};
-ghost use Rattle.mask.specs.Mask.{askedCount, sizeOf, readUnder};
+ghost use Rattle.mask.specs.Mask.{askedCount, sizeOf, maskRead};
 
 // The bytes of an item: none where it isn't asked for.
 fn asked_count(wanted: bool, count: usize) -> usize
@@ -32,7 +32,7 @@ pub fn size(mask: u8) -> usize
 
 // One whole status packet under a mask. Its items are `status::items_part`.
 pub fn read(s: &[u8], mask: u8) -> Status
-    ensures { λ r. ⌜ Promise statusNumber r (readUnder mask (now (s .entry))) ⌝ }
+    ensures { λ r. ⌜ Promise statusNumber r (maskRead mask (now (s .entry))) ⌝ }
 {
     status::read(s, size(mask) - 2)
 }

@@ -11,26 +11,26 @@ use Rattle.command.specs.Build.{placeFits, fitsBy, fitsOf}
 use Rattle.wire.proofs.Choice.{neither}
 use Rattle.node.specs.declared.state.Settings.{Settings}
 use Rattle.node.specs.declared.state.Node.{Node}
-use Rattle.heard.specs.declared.Heard.{Heard}
-use Rattle.heard.specs.declared.Heard.the-variants.{Intact, Other, Spoilt}
+use Rattle.message.specs.declared.Message.{Message}
+use Rattle.message.specs.declared.Message.the-variants.{Intact, Other, Spoilt}
 use Rattle.node.specs.Setting.{Setting, place, mask, gate, Value, get, make-same}
-use Rattle.node.specs.Effect.{Effect, keeps, stores, copies, settingsUp, effect, writes, applied, settingsAfter, get-after}
-use Rattle.node.specs.Node.{powerUp, addressedAfter, taken}
+use Rattle.node.specs.Effect.{Effect, keeps, stores, copies, settingsPowerUp, effect, writes, applied, settingsAfter, get-after}
+use Rattle.node.specs.Node.{powerUp, addressedAfter, takeOf}
 
 -- "Others .. change nothing"
-pub other-keeps : (n : Node) → taken Other n ≡ n
+pub other-keeps : (n : Node) → takeOf Other n ≡ n
 other-keeps n = refl
 
 -- "Wrong sum: nothing changes"
-pub spoilt-keeps : (n : Node) → taken Spoilt n ≡ n
+pub spoilt-keeps : (n : Node) → takeOf Spoilt n ≡ n
 spoilt-keeps n = refl
 
 -- "Hard Reset .. restores power-up state, except that bench values stay": leader flag, captured values and all
-pub reset-powers-up : (n : Node) → taken (Intact HardReset) n ≡ powerUp (n .bench)
+pub reset-powers-up : (n : Node) → takeOf (Intact HardReset) n ≡ powerUp (n .bench)
 reset-powers-up n = refl
 
 -- no packet changes what the bench sets
-pub bench-stays : (h : Heard) (n : Node) → taken h n .bench ≡ n .bench
+pub bench-stays : (h : Message) (n : Node) → takeOf h n .bench ≡ n .bench
 bench-stays (Intact c) n = refl
 bench-stays Other n = refl
 bench-stays Spoilt n = refl
@@ -63,7 +63,7 @@ placeEffect (Places p) = stores p
 placeEffect (Masks m) = keeps
 placeEffect Captures = keeps
 placeEffect Idles = keeps
-placeEffect Resets = stores (settingsUp .place)
+placeEffect Resets = stores (settingsPowerUp .place)
 
 pub place-effect : (c : Command) → effect c place ≡ placeEffect (roleOf c)
 place-effect (SetAddress p) = refl
@@ -118,10 +118,10 @@ fit-after c f x h = rw (place-effect c) (fits-by (roleOf c) x f h)
 -- ---- addressed or not
 
 -- "The node is addressed from then on"
-pub set-address-addresses : (p : Place) (n : Node) → taken (Intact (SetAddress p)) n .addressed ≡ true
+pub set-address-addresses : (p : Place) (n : Node) → takeOf (Intact (SetAddress p)) n .addressed ≡ true
 set-address-addresses p n = refl
 
-pub reset-unaddresses : (n : Node) → taken (Intact HardReset) n .addressed ≡ false
+pub reset-unaddresses : (n : Node) → takeOf (Intact HardReset) n .addressed ≡ false
 reset-unaddresses n = refl
 
 role-stays : (r : Role) (b : Bool) → writes (placeEffect r) ≡ false → addressedAfter r b ≡ b
@@ -133,5 +133,5 @@ role-stays Idles b h = refl
 role-stays Resets b h = absurd (true≢false h)
 
 -- a command that leaves the place leaves that too
-pub addressed-stays : (c : Command) (n : Node) → writes (effect c place) ≡ false → taken (Intact c) n .addressed ≡ n .addressed
+pub addressed-stays : (c : Command) (n : Node) → writes (effect c place) ≡ false → takeOf (Intact c) n .addressed ≡ n .addressed
 addressed-stays c n h = role-stays (roleOf c) (n .addressed) (rw (place-effect c) at h)

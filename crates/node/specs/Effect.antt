@@ -21,8 +21,8 @@ abbrev pub groupUp : ℕ
 groupUp = 0xFF
 
 -- "all else 0"
-abbrev pub settingsUp : Settings
-settingsUp = record {
+abbrev pub settingsPowerUp : Settings
+settingsPowerUp = record {
   place = record { address = record { 0 = addressUp }; group = record { 0 = groupUp }; leader = false };
   mask = 0;
   outputs = 0;
@@ -69,7 +69,7 @@ effect (SetSynchOutput h) = onGate (gateRow keeps keeps (stores h) keeps)
 effect (SetTimerMode m) = onGate (gateRow keeps keeps keeps (stores m))
 effect SynchInput = none
 effect Nop = none
-effect HardReset = λ s. stores (get settingsUp s)
+effect HardReset = λ s. stores (get settingsPowerUp s)
 
 -- whether a setting is written
 abbrev pub writes : {s : Setting} → Effect s → Bool

@@ -4,12 +4,12 @@ use Rattle.command.specs.declared.Command.{Command}
 use Rattle.command.specs.declared.Role.{Role}
 use Rattle.command.specs.declared.Role.the-variants.{Plain, Places, Masks, Captures, Idles, Resets}
 use Rattle.command.specs.Role.{roleOf}
-use Rattle.heard.specs.declared.Heard.{Heard}
-use Rattle.heard.specs.declared.Heard.the-variants.{Intact, Other, Spoilt}
+use Rattle.message.specs.declared.Message.{Message}
+use Rattle.message.specs.declared.Message.the-variants.{Intact, Other, Spoilt}
 use Rattle.node.specs.declared.state.Bench.{Bench}
 use Rattle.node.specs.declared.state.Captured.{Captured}
 use Rattle.node.specs.declared.state.Node.{Node}
-use Rattle.node.specs.Effect.{settingsUp, settingsAfter}
+use Rattle.node.specs.Effect.{settingsPowerUp, settingsAfter}
 
 -- captured at power-up: 0
 abbrev pub nothing : Captured
@@ -17,7 +17,7 @@ nothing = record { inputs = 0; counter = 0 }
 
 -- the power-up state; "bench values stay"
 abbrev pub powerUp : Bench → Node
-powerUp b = record { settings = settingsUp; addressed = false; bench = b; captured = nothing }
+powerUp b = record { settings = settingsPowerUp; addressed = false; bench = b; captured = nothing }
 
 -- "The node is addressed from then on", until a Hard Reset
 abbrev pub addressedAfter : Role → Bool → Bool
@@ -38,8 +38,8 @@ capturedAfter Idles b k = k
 capturedAfter Resets b k = nothing
 
 -- the node after a command
-abbrev pub acted : Command → Node → Node
-acted c n = record {
+abbrev pub actOf : Command → Node → Node
+actOf c n = record {
   settings = settingsAfter c (n .settings);
   addressed = addressedAfter (roleOf c) (n .addressed);
   bench = n .bench;
@@ -47,7 +47,7 @@ acted c n = record {
 }
 
 -- "Others .. are replied to as a Nop is and change nothing"; "Wrong sum: nothing changes"
-abbrev pub taken : Heard → Node → Node
-taken (Intact c) n = acted c n
-taken Other n = n
-taken Spoilt n = n
+abbrev pub takeOf : Message → Node → Node
+takeOf (Intact c) n = actOf c n
+takeOf Other n = n
+takeOf Spoilt n = n

@@ -4,12 +4,12 @@ use command::Held;
 use command::Place;
 use command::Pwm;
 use command::Role;
-use heard::Heard;
+use message::Message;
 use wire::Group;
 use wire::Individual;
 ghost use mathlib.Core.Path.{_≡_};
-ghost use Rattle.node.specs.Effect.{settingsUp, settingsAfter};
-ghost use Rattle.node.specs.Node.{powerUp, acted, taken};
+ghost use Rattle.node.specs.Effect.{settingsPowerUp, settingsAfter};
+ghost use Rattle.node.specs.Node.{powerUp, actOf, takeOf};
 
 // The six settings.
 pub struct Settings {
@@ -73,7 +73,7 @@ impl Node {
     // The node after a command.
     // A field goes through a local, here and below: there is no plan for a store to a field of a field.
     fn act(self, c: Command) -> Node
-        ensures { λ r. ⌜ r ≡ acted c self ⌝ }
+        ensures { λ r. ⌜ r ≡ actOf c self ⌝ }
     {
         let mut next = self;
         let settings = next.settings.after(c);
@@ -103,13 +103,13 @@ impl Node {
     }
 
     // The node after a packet: another command and a wrong sum change nothing.
-    pub fn take(self, heard: Heard) -> Node
-        ensures { λ r. ⌜ r ≡ taken heard self ⌝ }
+    pub fn take(self, message: Message) -> Node
+        ensures { λ r. ⌜ r ≡ takeOf message self ⌝ }
     {
-        match heard {
-            Heard::Intact(c) => self.act(c),
-            Heard::Other => self,
-            Heard::Spoilt => self,
+        match message {
+            Message::Intact(c) => self.act(c),
+            Message::Other => self,
+            Message::Spoilt => self,
         }
     }
 }
@@ -117,7 +117,7 @@ impl Node {
 impl Settings {
     // The settings at power-up.
     pub fn power_up() -> Settings
-        ensures { λ r. ⌜ r ≡ settingsUp ⌝ }
+        ensures { λ r. ⌜ r ≡ settingsPowerUp ⌝ }
     {
         let off = Pwm {
             first: 0,

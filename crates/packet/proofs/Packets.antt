@@ -10,9 +10,9 @@ use lib.Dec.{ltb, eqb}
 use borrow.Author.Tests.{eqb-true, eq-eqb, le-ltb, ltb-false, not-false}
 use Rattle.buffer.specs.Sum.{withSum}
 use Rattle.wire.specs.Address.{addressOf, byteOf}
-use Rattle.packet.specs.Packet.{commandOf, countOf, endOf, followed, partsOf, dataOf, frameOf, intactOf, checked, readOf}
+use Rattle.packet.specs.Packet.{commandOf, countOf, endOf, followed, partsOf, dataPart, frameOf, isIntact, checked, readOf}
 use Rattle.packet.specs.Build.{headOf, packetOf, buildOf}
-use Rattle.buffer.specs.Buffer.{written}
+use Rattle.buffer.specs.Buffer.{atStart}
 use Rattle.buffer.specs.Change.{AllBytes, Changed, Damaged}
 use Rattle.wire.specs.declared.address.Address.{Address}
 use Rattle.wire.specs.declared.refusal.Refusal.{Refusal}
@@ -23,7 +23,7 @@ use Rattle.wire.proofs.Choice.{chose-first, chose-second}
 use Rattle.wire.proofs.Impossible.{impossible}
 use Rattle.wire.proofs.Addresses.{byte-address}
 use Rattle.buffer.proofs.Bytes.{byte-at}
-use Rattle.buffer.proofs.Writing.{place-written, wrote, wrote-not, place-wrote}
+use Rattle.buffer.proofs.Writing.{written-fits, wrote, wrote-not, written-wrote}
 use Rattle.buffer.proofs.Sums.{length-with-sum, with-sum-ends, ends-shape, changed-length, changed-breaks}
 
 -- a refusal is no packet
@@ -68,23 +68,23 @@ frames s e h =
     )
 
 -- a whole packet with a right sum reads as its parts
-pub reads : (s : List ℕ) (a : Address) (c n : ℕ) → frameOf s ≡ Whole a c n → intactOf s ≡ true → readOf s ≡ Whole a c n
+pub reads : (s : List ℕ) (a : Address) (c n : ℕ) → frameOf s ≡ Whole a c n → isIntact s ≡ true → readOf s ≡ Whole a c n
 unfolding readOf
 reads s a c n f e = rw (f, e)
 
 -- and with a wrong sum as 4
-pub reads-not : (s : List ℕ) (a : Address) (c n : ℕ) → frameOf s ≡ Whole a c n → intactOf s ≡ false → readOf s ≡ Refused Sum
+pub reads-not : (s : List ℕ) (a : Address) (c n : ℕ) → frameOf s ≡ Whole a c n → isIntact s ≡ false → readOf s ≡ Refused Sum
 unfolding readOf
 reads-not s a c n f e = rw (f, e)
 
 -- what reading says of a packet that it accepts
-checked-says : (s : List ℕ) (f : Framed) (a : Address) (c n : ℕ) → checked s f ≡ Whole a c n → (f ≡ Whole a c n) × (intactOf s ≡ true)
+checked-says : (s : List ℕ) (f : Framed) (a : Address) (c n : ℕ) → checked s f ≡ Whole a c n → (f ≡ Whole a c n) × (isIntact s ≡ true)
 checked-says s (Whole a′ c′ n′) a c n e =
-    let t = chose-first (intactOf s) e (refused-not Sum a c n) in
+    let t = chose-first (isIntact s) e (refused-not Sum a c n) in
     (t .1, t .0)
 checked-says s (Refused why) a c n e = absurd (refused-not why a c n e)
 
-pub read-says : (s : List ℕ) (a : Address) (c n : ℕ) → readOf s ≡ Whole a c n → (frameOf s ≡ Whole a c n) × (intactOf s ≡ true)
+pub read-says : (s : List ℕ) (a : Address) (c n : ℕ) → readOf s ≡ Whole a c n → (frameOf s ≡ Whole a c n) × (isIntact s ≡ true)
 unfolding readOf
 read-says s a c n e = checked-says s (frameOf s) a c n e
 
@@ -102,16 +102,16 @@ module _ (a c : ℕ) (d : List ℕ) (small : c < 16) where
       let m : headOf c d % 16 ≡ c = omega arith in
       frames (packetOf a c d) (omega (arith, built-length a c d, built-count)) refl ∙ cc built-count
 
-  pub built-intact : intactOf (packetOf a c d) ≡ true
-  unfolding intactOf
+  pub built-intact : isIntact (packetOf a c d) ≡ true
+  unfolding isIntact
   built-intact = with-sum-ends (a ∷ headOf c d ∷ d)
 
   -- a built packet reads back as its parts
   pub built-reads : readOf (packetOf a c d) ≡ Whole (addressOf a) c (4 + length d)
   built-reads = reads (packetOf a c d) (addressOf a) c (4 + length d) built-frames built-intact
 
-  pub built-data : dataOf (packetOf a c d) ≡ d
-  unfolding dataOf
+  pub built-data : dataPart (packetOf a c d) ≡ d
+  unfolding dataPart
   built-data = rw built-count (take-append-seam d _)
 
 -- the builder answered n bytes: they read back as the parts that it was given
@@ -121,12 +121,12 @@ module _ (a c : ℕ) (d out left : List ℕ) (n : ℕ) (e : buildOf a c d out �
   placed =
       let t = chose-second (ltb 15 (length d)) e (wrote-not Range out left n) in
       let u = chose-second (ltb 15 c) (t .1) (wrote-not Range out left n) in
-      (omega (arith, ltb-false 15 c (u .0)), place-wrote (packetOf a c d) out left n (u .1))
+      (omega (arith, ltb-false 15 c (u .0)), written-wrote (packetOf a c d) out left n (u .1))
 
   pub written-reads : readOf (take n left) ≡ Whole (addressOf a) c (4 + length d)
   written-reads = rw (placed .1) (built-reads a c d (placed .0))
 
-  pub written-data : dataOf (take n left) ≡ d
+  pub written-data : dataPart (take n left) ≡ d
   written-data = rw (placed .1) (built-data a c d (placed .0))
 
 -- ---- accepted packets
@@ -143,8 +143,8 @@ shape (x ∷ y ∷ []) n e = absurd (omega arith)
 shape (x ∷ y ∷ z ∷ r) n e = (refl, rw (two n))
 
 -- an accepted packet is the one built from its parts
-pub accepted-built : (s : List ℕ) (a : Address) (c n : ℕ) → readOf s ≡ Whole a c n → s ≡ packetOf (byteOf a) c (dataOf s)
-unfolding dataOf intactOf
+pub accepted-built : (s : List ℕ) (a : Address) (c n : ℕ) → readOf s ≡ Whole a c n → s ≡ packetOf (byteOf a) c (dataPart s)
+unfolding dataPart isIntact
 accepted-built s a c n e =
     let t = read-says s a c n e in
     let f = framing s a c n (t .0) in
@@ -158,21 +158,21 @@ accepted-built s a c n e =
     p .0 ∙ cc (f .header, ap (λ (l : List ℕ). withSum l) q, ends-shape (drop 1 s) (t .1))
 
 -- the data bytes number what the command byte says: they are all but four
-pub data-length : (s : List ℕ) (a : Address) (c n : ℕ) → frameOf s ≡ Whole a c n → 4 + length (dataOf s) ≡ n
-unfolding dataOf
+pub data-length : (s : List ℕ) (a : Address) (c n : ℕ) → frameOf s ≡ Whole a c n → 4 + length (dataPart s) ≡ n
+unfolding dataPart
 data-length s a c n e =
     let f = framing s a c n e in
     ap (λ (k : ℕ). 4 + k) (length-take-le (countOf s) (drop 3 s) (omega (arith, length-drop 3 s, f .size, f .end))) ∙ f .end
 
 -- an accepted packet is, where it has room, the one that the builder writes from its parts
 pub accepted-written : (s : List ℕ) (a : Address) (c n : ℕ) (out : List ℕ) → AllBytes s → readOf s ≡ Whole a c n → length s ≤ length out
-    → buildOf (byteOf a) c (dataOf s) out ≡ written s out
+    → buildOf (byteOf a) c (dataPart s) out ≡ atStart s out
 unfolding buildOf
 accepted-written s a c n out b e h =
     let t = read-says s a c n e .0 in
     let f = framing s a c n t in
-    let few : length (dataOf s) ≤ 15 = omega (arith, data-length s a c n t, f .end, byte-at s 2 b) in
-    rw (le-ltb 15 (length (dataOf s)) few, le-ltb 15 c (omega (arith, f .command)), ← (accepted-built s a c n e)) (place-written s out h)
+    let few : length (dataPart s) ≤ 15 = omega (arith, data-length s a c n t, f .end, byte-at s 2 b) in
+    rw (le-ltb 15 (length (dataPart s)) few, le-ltb 15 c (omega (arith, f .command)), ← (accepted-built s a c n e)) (written-fits s out h)
 
 -- ---- damaged packets
 
@@ -196,8 +196,8 @@ module _ (s t : List ℕ) (a : Address) (c n : ℕ) (e : readOf s ≡ Whole a c 
       frames t (omega (arith, changed-length (d .change), f .size)) (x ∙ f .header) ∙ cc (k, m)
 
   -- the sum is wrong
-  pub damaged-spoilt : intactOf t ≡ false
-  unfolding intactOf
+  pub damaged-spoilt : isIntact t ≡ false
+  unfolding isIntact
   damaged-spoilt =
       let v = d .change in
       let j : ℕ = d .at - 1 in

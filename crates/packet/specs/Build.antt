@@ -6,7 +6,7 @@ use lib.ListN.{length}
 use lib.Dec.{ltb}
 use Rattle.wire.specs.Promise.{Outcome}
 use Rattle.buffer.specs.Sum.{withSum}
-use Rattle.buffer.specs.Buffer.{refused, place}
+use Rattle.buffer.specs.Buffer.{refused, written}
 use Rattle.wire.specs.declared.refusal.Refusal.the-variants.{Range}
 use Rattle.buffer.specs.declared.Built.{Built}
 
@@ -27,4 +27,4 @@ unfoldable pub buildOf : ℕ → ℕ → List ℕ → List ℕ → Outcome Built
 buildOf a c d out =
     cond (ltb 15 (length d)) (refused Range out)
     (cond (ltb 15 c) (refused Range out)
-    (place (packetOf a c d) out))
+    (written (packetOf a c d) out))

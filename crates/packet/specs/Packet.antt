@@ -35,8 +35,8 @@ abbrev pub dataFrom : ℕ
 dataFrom = 3
 
 -- "the data bytes as the part of the input that starts at its fourth byte"
-unfoldable pub dataOf : List ℕ → List ℕ
-dataOf s = take (countOf s) (drop dataFrom s)
+unfoldable pub dataPart : List ℕ → List ℕ
+dataPart s = take (countOf s) (drop dataFrom s)
 
 -- "empty, 1; first byte not 0xAA, 2; fewer than 4 bytes or fewer than 4 + count, 1; more, 3"
 unfoldable pub frameOf : List ℕ → Framed
@@ -49,12 +49,12 @@ frameOf s =
     (partsOf s)))))
 
 -- the sum is right; "the header isn't in it"
-unfoldable pub intactOf : List ℕ → Bool
-intactOf s = endsInSum (drop 1 s)
+unfoldable pub isIntact : List ℕ → Bool
+isIntact s = endsInSum (drop 1 s)
 
 -- "sum, 4", the last of the checks
 abbrev pub checked : List ℕ → Framed → Framed
-checked s (Whole a c e) = cond (intactOf s) (Whole a c e) (Refused Sum)
+checked s (Whole a c e) = cond (isIntact s) (Whole a c e) (Refused Sum)
 checked s (Refused why) = Refused why
 
 unfoldable pub readOf : List ℕ → Framed

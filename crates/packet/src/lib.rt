@@ -1,6 +1,6 @@
 // Command packets: 0xAA; address; command byte; 0 to 15 data bytes; sum.
 // Promised: a built packet reads back as its parts, an accepted one is the one built from its parts.
-// Left to others: which command a nibble with its data is (command), and that a wrong sum is answered (heard).
+// Left to others: which command a nibble with its data is (command), and that a wrong sum is answered (message).
 use buffer::Built;
 use wire::Address;
 use wire::Refusal;
@@ -10,7 +10,7 @@ ghost use lib.ListN.{length, drop};
 ghost use Prim.Native.Nat.{_+_, _≤_};
 ghost use Rattle.wire.specs.Promise.{Promise, Lending};
 ghost use Rattle.wire.specs.Part.{Part};
-ghost use Rattle.packet.specs.Packet.{frameOf, framedNumber, intactOf, readOf, dataFrom, dataOf};
+ghost use Rattle.packet.specs.Packet.{frameOf, framedNumber, isIntact, readOf, dataFrom, dataPart};
 ghost use Rattle.buffer.specs.Buffer.{builtNumber};
 ghost use Rattle.packet.specs.Build.{packetWith, buildOf};
 
@@ -74,7 +74,7 @@ pub fn frame(s: &[u8]) -> Framed
 
 // Whether a packet's sum is right: the header isn't in it.
 pub fn is_intact(s: &[u8]) -> bool
-    ensures { λ r. ⌜ r ≡ intactOf (now (s .entry)) ⌝ }
+    ensures { λ r. ⌜ r ≡ isIntact (now (s .entry)) ⌝ }
 {
     if s.len() < 1 {
         return false;
@@ -108,7 +108,7 @@ pub fn read(s: &[u8]) -> Framed
 
 // The data bytes of a packet: the part of the input that starts at its fourth byte.
 pub fn data_part(s: &[u8]) -> &[u8]
-    ensures { λ r. ⌜ Part (s .entry) dataFrom (dataOf (now (s .entry))) r ⌝ }
+    ensures { λ r. ⌜ Part (s .entry) dataFrom (dataPart (now (s .entry))) r ⌝ }
 {
     if s.len() < 3 {
         return &s[s.len()..];
@@ -121,7 +121,7 @@ pub fn data_part(s: &[u8]) -> &[u8]
 }
 
 // Writes a packet that fits.
-fn lay(address: u8, head: u8, bytes: &[u8], out: &mut [u8])
+fn put_packet_with(address: u8, head: u8, bytes: &[u8], out: &mut [u8])
     requires { ⌜ 4 + length (now bytes) ≤ length (now out) ⌝ }
     ensures { λ _. ⌜ now (out .exit) ≡ packetWith address head (now (bytes .entry)) ++ drop (4 + length (now (bytes .entry))) (now (out .entry)) ⌝ }
 {
@@ -150,6 +150,6 @@ pub fn build(address: u8, command: u8, bytes: &[u8], out: &mut [u8]) -> Built
         return Built::Refused(Refusal::Room);
     }
     let head = command + (n as u8) * 16;
-    lay(address, head, bytes, out);
+    put_packet_with(address, head, bytes, out);
     Built::Bytes(4 + n)
 }

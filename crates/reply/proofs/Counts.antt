@@ -9,10 +9,10 @@ use Rattle.status.specs.Status.{counts, T}
 use Rattle.node.specs.declared.state.Node.{Node}
 use Rattle.mask.specs.Mask.{bit, askedCount, countFrom}
 use Rattle.mask.proofs.Counts.{count-fits}
-use Rattle.reply.specs.Items.{bytesOf, valuesOf, asked, askedFrom, itemBytes}
+use Rattle.reply.specs.Items.{bytesOf, valuesOf, itemOf, askedFrom, replyItems}
 use Rattle.reply.proofs.Bytes.{bytes-length}
 
-asked-length : (t : Bool) (n w : ℕ) → length (asked t (bytesOf n w)) ≡ askedCount t n
+asked-length : (t : Bool) (n w : ℕ) → length (itemOf t (bytesOf n w)) ≡ askedCount t n
 asked-length true n w = bytes-length n w
 asked-length false n w = refl
 
@@ -21,14 +21,14 @@ asked-count : (k m : ℕ) (ns ws : List ℕ) → length ns ≡ length ws → len
 asked-count k m [] ws e = refl
 asked-count k m (n ∷ ns) [] e = absurd (omega arith)
 asked-count k m (n ∷ ns) (w ∷ ws) e =
-    length-append (asked (bit k m) (bytesOf n w)) (askedFrom (suc k) m ns ws)
+    length-append (itemOf (bit k m) (bytesOf n w)) (askedFrom (suc k) m ns ws)
     ∙ rw (asked-length (bit k m) n w, asked-count (suc k) m ns ws (omega arith))
 
-pub items-length : (m : ℕ) (n : Node) → length (itemBytes m n) ≡ countFrom 0 m counts
-unfolding itemBytes
+pub items-length : (m : ℕ) (n : Node) → length (replyItems m n) ≡ countFrom 0 m counts
+unfolding replyItems
 items-length m n = asked-count 0 m counts (valuesOf n) refl
 
-pub items-fit : (m : ℕ) (n : Node) → length (itemBytes m n) ≤ T
+pub items-fit : (m : ℕ) (n : Node) → length (replyItems m n) ≤ T
 items-fit m n = omega (arith, items-length m n, count-fits m)
 
 -- values that are a node's: eight, of at most T bytes
@@ -36,5 +36,5 @@ pub values-long : (n : Node) (ws : List ℕ) → ws ≡ valuesOf n → length ws
 values-long n ws e = ap length e
 
 pub values-fit : (m : ℕ) (n : Node) (ws : List ℕ) → ws ≡ valuesOf n → length (askedFrom 0 m counts ws) ≤ T
-unfolding itemBytes
+unfolding replyItems
 values-fit m n ws e = rw e (items-fit m n)

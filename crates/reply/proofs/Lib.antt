@@ -1,5 +1,5 @@
 pub mod Bytes
 pub mod Counts
-pub mod Writes
+mod Writes
 pub mod Replies
 pub mod Unique

@@ -14,11 +14,11 @@ use Rattle.buffer.proofs.Appends.{Going, going-start, going-on, going-done}
 use Rattle.status.specs.Status.{counts}
 use Rattle.node.specs.declared.state.Node.{Node}
 use Rattle.mask.proofs.Sizes.{bits-first, bits-next}
-use Rattle.reply.specs.Items.{bytesOf, asked, askedFrom, valuesOf, itemBytes}
+use Rattle.reply.specs.Items.{bytesOf, itemOf, askedFrom, valuesOf, replyItems}
 
 -- the bytes of item i, as the loop reads them
 abbrev pub bytesAt : List ℕ → ℕ → ℕ → List ℕ
-bytesAt ws bits i = asked (eqb (bits % 2) 1) (bytesOf (getD counts i 0) (getD ws i 0))
+bytesAt ws bits i = itemOf (eqb (bits % 2) 1) (bytesOf (getD counts i 0) (getD ws i 0))
 
 -- the loop over the values ws has passed i items: its bits are those of the mask that are left
 pub record Passed (m : ℕ) (ws : List ℕ) (o out : List ℕ) (bits at i : ℕ) : Type 0 where
@@ -45,8 +45,8 @@ module _ (m : ℕ) (ws o out : List ℕ) (bits at i : ℕ) (h : i < 8) (l : leng
   passed-one k r w = rw (add-one i) (record { left = bits-next m bits i (p .left); going = going-on next-item w })
 
 -- all items are passed
-pub passed-all : (m : ℕ) (n : Node) (ws o out : List ℕ) (bits at i : ℕ) → i ≡ 8 → ws ≡ valuesOf n → Passed m ws o out bits at i → Wrote (itemBytes m n) 0 o at out
-unfolding itemBytes
+pub passed-all : (m : ℕ) (n : Node) (ws o out : List ℕ) (bits at i : ℕ) → i ≡ 8 → ws ≡ valuesOf n → Passed m ws o out bits at i → Wrote (replyItems m n) 0 o at out
+unfolding replyItems
 passed-all m n ws o out bits at i e f p =
     subst (λ (l : List ℕ). Wrote (askedFrom 0 m counts l) 0 o at out) f (going-done (askedFrom i m (drop i counts) (drop i ws)) (rw e) (p .going))
 

@@ -27,14 +27,14 @@ valuesOf n =
     ∷ []
 
 -- an item's bytes, if it is asked for
-abbrev pub asked : Bool → List ℕ → List ℕ
-asked t d = cond t d []
+abbrev pub itemOf : Bool → List ℕ → List ℕ
+itemOf t d = cond t d []
 
 -- the bytes of the items that a mask asks for, in their order, from bit k on: n bytes of the value w each
 abbrev pub askedFrom : ℕ → ℕ → List ℕ → List ℕ → List ℕ
 askedFrom k m [] ws = []
 askedFrom k m (n ∷ ns) [] = []
-askedFrom k m (n ∷ ns) (w ∷ ws) = asked (bit k m) (bytesOf n w) ++ askedFrom (suc k) m ns ws
+askedFrom k m (n ∷ ns) (w ∷ ws) = itemOf (bit k m) (bytesOf n w) ++ askedFrom (suc k) m ns ws
 
-unfoldable pub itemBytes : ℕ → Node → List ℕ
-itemBytes m n = askedFrom 0 m counts (valuesOf n)
+unfoldable pub replyItems : ℕ → Node → List ℕ
+replyItems m n = askedFrom 0 m counts (valuesOf n)

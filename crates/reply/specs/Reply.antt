@@ -6,10 +6,10 @@ use Rattle.command.specs.declared.Role.the-variants.{Plain, Places, Masks, Capt
 use Rattle.command.specs.Role.{roleOf}
 use Rattle.status.specs.Status.{statusPacket}
 use Rattle.node.specs.declared.state.Node.{Node}
-use Rattle.heard.specs.declared.Heard.{Heard}
-use Rattle.heard.specs.declared.Heard.the-variants.{Intact, Other, Spoilt}
-use Rattle.node.specs.Node.{taken}
-use Rattle.reply.specs.Items.{itemBytes}
+use Rattle.message.specs.declared.Message.{Message}
+use Rattle.message.specs.declared.Message.the-variants.{Intact, Other, Spoilt}
+use Rattle.node.specs.Node.{takeOf}
+use Rattle.reply.specs.Items.{replyItems}
 
 -- "Read Status uses its own mask for its one reply", every other command the one that is held
 abbrev pub ownMask : Role → ℕ → ℕ
@@ -20,21 +20,21 @@ ownMask Captures held = held
 ownMask Idles held = held
 ownMask Resets held = held
 
-abbrev pub maskOf : Heard → ℕ → ℕ
+abbrev pub maskOf : Message → ℕ → ℕ
 maskOf (Intact c) held = ownMask (roleOf c) held
 maskOf Other held = held
 maskOf Spoilt held = held
 
 -- "Other replies use the mask held after the command acted"; "Wrong sum: nothing changes; the reply uses the held mask"
-abbrev pub maskFor : Heard → Node → ℕ
-maskFor h n = maskOf h (taken h n .settings .mask)
+abbrev pub maskFor : Message → Node → ℕ
+maskFor h n = maskOf h (takeOf h n .settings .mask)
 
 -- "Bit 1 of the status byte means that the command just received had a wrong sum. The model sends the other bits as 0"
-abbrev pub statusByte : Heard → ℕ
+abbrev pub statusByte : Message → ℕ
 statusByte (Intact c) = 0
 statusByte Other = 0
 statusByte Spoilt = 2
 
 -- status byte; the items asked for, as the node holds them once it has acted; sum
-unfoldable pub replyOf : Heard → Node → List ℕ
-replyOf h n = statusPacket (statusByte h) (itemBytes (maskFor h n) (taken h n))
+unfoldable pub replyOf : Message → Node → List ℕ
+replyOf h n = statusPacket (statusByte h) (replyItems (maskFor h n) (takeOf h n))

@@ -1,18 +1,18 @@
 // What a node sends back: the status packet, with the items of Define Status in their order, least significant byte first.
 // Promised: every reply is good, says by bit 1 whether the sum was wrong, and reads back under its mask as the items asked for.
-// Left to others: whether the node replies at all (heard, chain).
+// Left to others: whether the node replies at all (message, chain).
 use buffer::Built;
 use command::Role;
-use heard::Heard;
+use message::Message;
 use node::Node;
 ghost use mathlib.Core.Path.{_≡_};
 ghost use Prim.Native.Nat.{_+_, _≤_};
 ghost use lib.ListN.{length};
 ghost use Rattle.wire.specs.Promise.{Lending};
-ghost use Rattle.buffer.specs.Buffer.{builtNumber, place};
+ghost use Rattle.buffer.specs.Buffer.{builtNumber, written};
 ghost use Rattle.buffer.specs.Wrote.{Wrote};
 ghost use Rattle.status.specs.Status.{T};
-ghost use Rattle.reply.specs.Items.{bytesOf, asked, itemBytes, valuesOf};
+ghost use Rattle.reply.specs.Items.{bytesOf, itemOf, replyItems, valuesOf};
 ghost use Rattle.reply.specs.Reply.{ownMask, maskOf, statusByte, replyOf};
 
 // The mask of a command's reply: Read Status has its own.
@@ -30,24 +30,24 @@ fn own_mask(role: Role, held: u8) -> u8
 }
 
 // Under which mask a node replies; `held` is the one that it holds once it has acted.
-fn mask_of(heard: Heard, held: u8) -> u8
-    ensures { λ r. ⌜ r ≡ maskOf heard held ⌝ }
+fn mask_of(message: Message, held: u8) -> u8
+    ensures { λ r. ⌜ r ≡ maskOf message held ⌝ }
 {
-    match heard {
-        Heard::Intact(c) => own_mask(c.role(), held),
-        Heard::Other => held,
-        Heard::Spoilt => held,
+    match message {
+        Message::Intact(c) => own_mask(c.role(), held),
+        Message::Other => held,
+        Message::Spoilt => held,
     }
 }
 
 // Bit 1: the command had a wrong sum.
-fn status_byte(heard: Heard) -> u8
-    ensures { λ r. ⌜ r ≡ statusByte heard ⌝ }
+fn status_byte(message: Message) -> u8
+    ensures { λ r. ⌜ r ≡ statusByte message ⌝ }
 {
-    match heard {
-        Heard::Intact(_) => 0,
-        Heard::Other => 0,
-        Heard::Spoilt => 2,
+    match message {
+        Message::Intact(_) => 0,
+        Message::Other => 0,
+        Message::Spoilt => 2,
     }
 }
 
@@ -69,10 +69,10 @@ fn values(n: Node) -> [u32; 8]
     ]
 }
 
-// Writes an item's bytes from `at` on, least significant first, if it is asked for; the place behind them.
+// Writes an item's bytes from `at` on, least significant first, if it is asked for; the position behind them.
 fn put_item(out: &mut [u8], at: usize, wanted: bool, count: usize, value: u32) -> usize
-    requires { ⌜ at + length (asked wanted (bytesOf count value)) ≤ length (now out) ⌝ }
-    ensures { λ r. ⌜ Wrote (asked wanted (bytesOf count value)) at (now (out .entry)) r (now (out .exit)) ⌝ }
+    requires { ⌜ at + length (itemOf wanted (bytesOf count value)) ≤ length (now out) ⌝ }
+    ensures { λ r. ⌜ Wrote (itemOf wanted (bytesOf count value)) at (now (out .entry)) r (now (out .exit)) ⌝ }
 {
     if !wanted {
         return at;
@@ -90,7 +90,7 @@ fn put_item(out: &mut [u8], at: usize, wanted: bool, count: usize, value: u32) -
 // The items of a node that a mask asks for, from the start of the scratch space on; how many bytes they are.
 fn put_items(n: Node, mask: u8, out: &mut [u8]) -> usize
     requires { ⌜ length (now out) ≡ T ⌝ }
-    ensures { λ r. ⌜ Wrote (itemBytes mask n) 0 (now (out .entry)) r (now (out .exit)) ⌝ }
+    ensures { λ r. ⌜ Wrote (replyItems mask n) 0 (now (out .entry)) r (now (out .exit)) ⌝ }
 {
     let counts = status::COUNTS;
     let values = values(n);
@@ -106,12 +106,12 @@ fn put_items(n: Node, mask: u8, out: &mut [u8]) -> usize
 }
 
 // The reply of a node, as it stands before the packet, at the start of `out`, whose rest stays; 5 where it has no room.
-pub fn reply(n: Node, heard: Heard, out: &mut [u8]) -> Built
-    ensures { λ r. ⌜ Lending builtNumber r (now (out .exit)) (place (replyOf heard n) (now (out .entry))) ⌝ }
+pub fn reply(n: Node, message: Message, out: &mut [u8]) -> Built
+    ensures { λ r. ⌜ Lending builtNumber r (now (out .exit)) (written (replyOf message n) (now (out .entry))) ⌝ }
 {
-    let after = n.take(heard);
-    let mask = mask_of(heard, after.settings.mask);
+    let after = n.take(message);
+    let mask = mask_of(message, after.settings.mask);
     let mut scratch = [0u8; status::T];
     let count = put_items(after, mask, &mut scratch);
-    status::build(status_byte(heard), &scratch[..count], out)
+    status::build(status_byte(message), &scratch[..count], out)
 }

@@ -16,99 +16,99 @@ use Rattle.command.specs.declared.Command.{Command}
 use Rattle.command.specs.declared.Role.{Role}
 use Rattle.command.specs.Role.{roleOf, isPlacing, isNop}
 use Rattle.command.specs.declared.Command.the-variants.{SetAddress}
-use Rattle.status.specs.Status.{judged}
+use Rattle.status.specs.Status.{judgeOf}
 use Rattle.status.specs.declared.Answer.{Answer}
 use Rattle.status.specs.declared.Answer.the-variants.{Clear, Marked, Silent}
 use Rattle.entry.specs.declared.Entry.{Entry}
-use Rattle.ledger.specs.Ledger.{settled}
+use Rattle.ledger.specs.Ledger.{settleOf}
 use Rattle.session.specs.declared.Exchange.{Exchange}
 use Rattle.session.specs.declared.Exchange.the-variants.{Idle, Waiting}
 use Rattle.session.specs.declared.Session.{Session}
 use Rattle.session.specs.declared.End.the-variants.{Done}
 use Rattle.session.specs.declared.Step.{Step}
-use Rattle.session.specs.Session.{stepNumber, refusedStep, closedOf, askDue, givenPlace}
-use Rattle.reports.specs.Report.{onWalk, giving, asking, idleAt, concluded, finishedBy, finished, reportOf}
+use Rattle.session.specs.Session.{stepNumber, refuseOf, isClosed, isAskDue, givenPlace}
+use Rattle.reports.specs.Report.{isOnWalk, isGiving, isAsking, idleAt, concludeOf, finishBy, finishOf, reportOf}
 
 module _ (s : Session) (to : Address) where
-  pub walks : (i : Individual) (r : Bool) → to ≡ address.Individual i → s .walk < s .n → r ≡ eqb (i .0) (s .walk + 1) → r ≡ onWalk s to
+  pub walks : (i : Individual) (r : Bool) → to ≡ address.Individual i → s .walk < s .n → r ≡ eqb (i .0) (s .walk + 1) → r ≡ isOnWalk s to
   walks i r p q h = rw (p, lt-ltb (s .walk) (s .n) q) h
 
-  pub walked : (i : Individual) → to ≡ address.Individual i → s .n ≤ s .walk → false ≡ onWalk s to
+  pub walked : (i : Individual) → to ≡ address.Individual i → s .n ≤ s .walk → false ≡ isOnWalk s to
   walked i p q = rw (p, le-ltb (s .walk) (s .n) q)
 
-module _ (s : Session) (to : Address) (c : Command) (w : Bool) (by : w ≡ onWalk s to) where
-  pub giving-by : (role : Role) (r : Bool) → w ≡ true → role ≡ roleOf c → r ≡ isPlacing role → r ≡ giving s to c
-  unfolding giving
+module _ (s : Session) (to : Address) (c : Command) (w : Bool) (by : w ≡ isOnWalk s to) where
+  pub giving-by : (role : Role) (r : Bool) → w ≡ true → role ≡ roleOf c → r ≡ isPlacing role → r ≡ isGiving s to c
+  unfolding isGiving
   giving-by role r p of h = rw (← by, p, ← of) h
 
-  pub giving-not : w ≡ false → false ≡ giving s to c
-  unfolding giving
+  pub giving-not : w ≡ false → false ≡ isGiving s to c
+  unfolding isGiving
   giving-not p = rw (← by, p)
 
-  pub asking-by : (role : Role) (k r : Bool) → w ≡ true → role ≡ roleOf c → k ≡ isNop role → k ≡ true → r ≡ askDue s → r ≡ asking s to c
-  unfolding asking
+  pub asking-by : (role : Role) (k r : Bool) → w ≡ true → role ≡ roleOf c → k ≡ isNop role → k ≡ true → r ≡ isAskDue s → r ≡ isAsking s to c
+  unfolding isAsking
   asking-by role k r p of q y h = rw (← by, p, ← of, ← q, y) h
 
-  pub asking-other : (role : Role) (k : Bool) → w ≡ true → role ≡ roleOf c → k ≡ isNop role → k ≡ false → false ≡ asking s to c
-  unfolding asking
+  pub asking-other : (role : Role) (k : Bool) → w ≡ true → role ≡ roleOf c → k ≡ isNop role → k ≡ false → false ≡ isAsking s to c
+  unfolding isAsking
   asking-other role k p of q y = rw (← by, p, ← of, ← q, y)
 
-  pub asking-not : w ≡ false → false ≡ asking s to c
-  unfolding asking
+  pub asking-not : w ≡ false → false ≡ isAsking s to c
+  unfolding isAsking
   asking-not p = rw (← by, p)
 
 module _ (s : Session) (to : Address) (c : Command) (a : Answer) (r : Session) where
-  pub marked-end : a ≡ Marked → r ≡ idleAt s (s .walk) (s .entries) → r ≡ concluded s to c a
-  unfolding concluded
+  pub marked-end : a ≡ Marked → r ≡ idleAt s (s .walk) (s .entries) → r ≡ concludeOf s to c a
+  unfolding concludeOf
   marked-end p h = rw p h
 
-  pub silent-end : (es : List Entry) → a ≡ Silent → es ≡ settled Silent to c (s .n) (s .entries) → r ≡ idleAt s (s .walk) es → r ≡ concluded s to c a
-  unfolding concluded
+  pub silent-end : (es : List Entry) → a ≡ Silent → es ≡ settleOf Silent to c (s .n) (s .entries) → r ≡ idleAt s (s .walk) es → r ≡ concludeOf s to c a
+  unfolding concludeOf
   silent-end es p q h = rw (p, ← q) h
 
-  pub given-end : (es : List Entry) (g : Bool) → a ≡ Clear → g ≡ giving s to c → g ≡ true
-      → es ≡ settled Clear to c (s .n) (s .entries) → r ≡ idleAt s (s .walk + 1) es → r ≡ concluded s to c a
-  unfolding concluded
+  pub given-end : (es : List Entry) (g : Bool) → a ≡ Clear → g ≡ isGiving s to c → g ≡ true
+      → es ≡ settleOf Clear to c (s .n) (s .entries) → r ≡ idleAt s (s .walk + 1) es → r ≡ concludeOf s to c a
+  unfolding concludeOf
   given-end es g p q y f h = rw (p, ← q, y, ← f) h
 
-  pub asked-end : (es : List Entry) (g k : Bool) (x : Place) → a ≡ Clear → g ≡ giving s to c → g ≡ false → k ≡ asking s to c → k ≡ true
-      → x ≡ givenPlace (s .walk + 1) → es ≡ settled Clear to (SetAddress x) (s .n) (s .entries) → r ≡ idleAt s (s .walk + 1) es → r ≡ concluded s to c a
-  unfolding concluded
+  pub asked-end : (es : List Entry) (g k : Bool) (x : Place) → a ≡ Clear → g ≡ isGiving s to c → g ≡ false → k ≡ isAsking s to c → k ≡ true
+      → x ≡ givenPlace (s .walk + 1) → es ≡ settleOf Clear to (SetAddress x) (s .n) (s .entries) → r ≡ idleAt s (s .walk + 1) es → r ≡ concludeOf s to c a
+  unfolding concludeOf
   asked-end es g k x p q y t z e f h = rw (p, ← q, y, ← t, z, ← e, ← f) h
 
-  pub other-end : (es : List Entry) (g k : Bool) → a ≡ Clear → g ≡ giving s to c → g ≡ false → k ≡ asking s to c → k ≡ false
-      → es ≡ settled Clear to c (s .n) (s .entries) → r ≡ idleAt s (s .walk) es → r ≡ concluded s to c a
-  unfolding concluded
+  pub other-end : (es : List Entry) (g k : Bool) → a ≡ Clear → g ≡ isGiving s to c → g ≡ false → k ≡ isAsking s to c → k ≡ false
+      → es ≡ settleOf Clear to c (s .n) (s .entries) → r ≡ idleAt s (s .walk) es → r ≡ concludeOf s to c a
+  unfolding concludeOf
   other-end es g k p q y t z f h = rw (p, ← q, y, ← t, z, ← f) h
 
-module _ (s : Session) (a : Answer) (v : Bool) (by : v ≡ closedOf s) where
-  pub closed-reports : (r : Step) → v ≡ true → r ≡ refusedStep s refusal.Idle → Promise stepNumber r (finished s a)
-  unfolding finished
+module _ (s : Session) (a : Answer) (v : Bool) (by : v ≡ isClosed s) where
+  pub closed-reports : (r : Step) → v ≡ true → r ≡ refuseOf s refusal.Idle → Promise stepNumber r (finishOf s a)
+  unfolding finishOf
   closed-reports r p h = promised (rw (← by, p) h)
 
-  pub idle-reports : (r : Step) → v ≡ false → s .exchange ≡ Idle → r ≡ refusedStep s refusal.Idle → Promise stepNumber r (finished s a)
-  unfolding finished
-  idle-reports r p q h = promised (rw (← by, p) (h ∙ sym (ap (λ (x : Exchange). finishedBy x s a) q)))
+  pub idle-reports : (r : Step) → v ≡ false → s .exchange ≡ Idle → r ≡ refuseOf s refusal.Idle → Promise stepNumber r (finishOf s a)
+  unfolding finishOf
+  idle-reports r p q h = promised (rw (← by, p) (h ∙ sym (ap (λ (x : Exchange). finishBy x s a) q)))
 
-  pub waiting-reports : (t : Session) (to : Address) (c : Command) → v ≡ false → s .exchange ≡ Waiting to c → t ≡ concluded s to c a
-      → Promise stepNumber (record { end = Done; session = t }) (finished s a)
-  unfolding finished
+  pub waiting-reports : (t : Session) (to : Address) (c : Command) → v ≡ false → s .exchange ≡ Waiting to c → t ≡ concludeOf s to c a
+      → Promise stepNumber (record { end = Done; session = t }) (finishOf s a)
+  unfolding finishOf
   waiting-reports t to c p q h =
-      promised (rw (← by, p) (ap (λ (x : Session). record { end = Done; session = x }) h ∙ sym (ap (λ (x : Exchange). finishedBy x s a) q)))
+      promised (rw (← by, p) (ap (λ (x : Session). record { end = Done; session = x }) h ∙ sym (ap (λ (x : Exchange). finishBy x s a) q)))
 
-pub reported : (s : Session) (bytes : List ℕ) (a : Answer) (r : Step) → a ≡ judged bytes → Promise stepNumber r (finished s a) → Promise stepNumber r (reportOf s bytes)
+pub reported : (s : Session) (bytes : List ℕ) (a : Answer) (r : Step) → a ≡ judgeOf bytes → Promise stepNumber r (finishOf s a) → Promise stepNumber r (reportOf s bytes)
 unfolding reportOf
 reported s bytes a r p h = rw (← p) h
 
 -- an exchange of the walk
-on-walks : (s : Session) (to : Address) → onWalk s to ≡ true → s .walk < s .n
+on-walks : (s : Session) (to : Address) → isOnWalk s to ≡ true → s .walk < s .n
 on-walks s (address.Individual i) h = ltb-true (s .walk) (s .n) (both (ltb (s .walk) (s .n)) (eqb (i .0) (s .walk + 1)) h .0)
 on-walks s (address.Group g) h = absurd (false≢true h)
 
-pub giving-walks : (b : Bool) (s : Session) (to : Address) (c : Command) → b ≡ giving s to c → b ≡ true → s .walk < s .n
-unfolding giving
-giving-walks b s to c p q = on-walks s to (both (onWalk s to) (isPlacing (roleOf c)) (sym p ∙ q) .0)
+pub giving-walks : (b : Bool) (s : Session) (to : Address) (c : Command) → b ≡ isGiving s to c → b ≡ true → s .walk < s .n
+unfolding isGiving
+giving-walks b s to c p q = on-walks s to (both (isOnWalk s to) (isPlacing (roleOf c)) (sym p ∙ q) .0)
 
-pub asking-walks : (b : Bool) (s : Session) (to : Address) (c : Command) → b ≡ asking s to c → b ≡ true → s .walk < s .n
-unfolding asking
-asking-walks b s to c p q = on-walks s to (both (onWalk s to) (isNop (roleOf c)) (both (onWalk s to && isNop (roleOf c)) (askDue s) (sym p ∙ q) .0) .0)
+pub asking-walks : (b : Bool) (s : Session) (to : Address) (c : Command) → b ≡ isAsking s to c → b ≡ true → s .walk < s .n
+unfolding isAsking
+asking-walks b s to c p q = on-walks s to (both (isOnWalk s to) (isNop (roleOf c)) (both (isOnWalk s to && isNop (roleOf c)) (isAskDue s) (sym p ∙ q) .0) .0)

@@ -8,106 +8,106 @@ use Rattle.wire.specs.declared.address.Address.{Address}
 use Rattle.wire.specs.declared.refusal.Refusal.the-variants as refusal
 use Rattle.command.specs.declared.Command.{Command}
 use Rattle.command.specs.declared.Command.the-variants.{SetAddress}
-use Rattle.status.specs.Status.{judged}
+use Rattle.status.specs.Status.{judgeOf}
 use Rattle.status.specs.declared.Answer.{Answer}
 use Rattle.status.specs.declared.Answer.the-variants.{Clear, Marked, Silent}
 use Rattle.entry.specs.declared.Entry.{Entry}
-use Rattle.entry.specs.Entry.{noted}
-use Rattle.ledger.specs.Ledger.{reachOf, settled}
+use Rattle.entry.specs.Entry.{noteOf}
+use Rattle.ledger.specs.Ledger.{reachOf, settleOf}
 use Rattle.ledger.proofs.Ledgers.{settled-at, settled-past}
 use Rattle.session.specs.declared.Exchange.{Exchange}
 use Rattle.session.specs.declared.Exchange.the-variants.{Idle, Waiting}
 use Rattle.session.specs.declared.Session.{Session}
 use Rattle.session.specs.declared.End.the-variants.{Done}
-use Rattle.session.specs.Session.{refusedStep, closedOf, givenPlace}
-use Rattle.reports.specs.Report.{giving, asking, idleAt, concluded, finishedBy, finished, reportOf}
+use Rattle.session.specs.Session.{refuseOf, isClosed, givenPlace}
+use Rattle.reports.specs.Report.{isGiving, isAsking, idleAt, concludeOf, finishBy, finishOf, reportOf}
 
 -- the command that an answer is about: an "ask"'s good clear reply confirms the walk's Set Address
 abbrev pub meant : Session → Address → Command → Answer → Command
 meant s to c Marked = c
 meant s to c Silent = c
-meant s to c Clear = cond (giving s to c) c (cond (asking s to c) (SetAddress (givenPlace (s .walk + 1))) c)
+meant s to c Clear = cond (isGiving s to c) c (cond (isAsking s to c) (SetAddress (givenPlace (s .walk + 1))) c)
 
 -- where the walk then stands
 abbrev pub walkAfter : Session → Address → Command → Answer → ℕ
 walkAfter s to c Marked = s .walk
 walkAfter s to c Silent = s .walk
-walkAfter s to c Clear = cond (giving s to c) (s .walk + 1) (cond (asking s to c) (s .walk + 1) (s .walk))
+walkAfter s to c Clear = cond (isGiving s to c) (s .walk + 1) (cond (isAsking s to c) (s .walk + 1) (s .walk))
 
 -- one of the three ends of a good clear reply
 three : (g k : Bool) (s : Session) (to : Address) (c x : Command)
-    → cond g (idleAt s (s .walk + 1) (settled Clear to c (s .n) (s .entries)))
-    (cond k (idleAt s (s .walk + 1) (settled Clear to x (s .n) (s .entries)))
-    (idleAt s (s .walk) (settled Clear to c (s .n) (s .entries))))
-    ≡ idleAt s (cond g (s .walk + 1) (cond k (s .walk + 1) (s .walk))) (settled Clear to (cond g c (cond k x c)) (s .n) (s .entries))
+    → cond g (idleAt s (s .walk + 1) (settleOf Clear to c (s .n) (s .entries)))
+    (cond k (idleAt s (s .walk + 1) (settleOf Clear to x (s .n) (s .entries)))
+    (idleAt s (s .walk) (settleOf Clear to c (s .n) (s .entries))))
+    ≡ idleAt s (cond g (s .walk + 1) (cond k (s .walk + 1) (s .walk))) (settleOf Clear to (cond g c (cond k x c)) (s .n) (s .entries))
 three true k s to c x = refl
 three false true s to c x = refl
 three false false s to c x = refl
 
 module _ (s : Session) (to : Address) (c : Command) where
   -- a good clear reply, and silence: every node's entry by the rule, no exchange open, n and the rest as they were
-  pub clear-is : concluded s to c Clear ≡ idleAt s (walkAfter s to c Clear) (settled Clear to (meant s to c Clear) (s .n) (s .entries))
-  unfolding concluded
-  clear-is = three (giving s to c) (asking s to c) s to c (SetAddress (givenPlace (s .walk + 1)))
+  pub clear-is : concludeOf s to c Clear ≡ idleAt s (walkAfter s to c Clear) (settleOf Clear to (meant s to c Clear) (s .n) (s .entries))
+  unfolding concludeOf
+  clear-is = three (isGiving s to c) (isAsking s to c) s to c (SetAddress (givenPlace (s .walk + 1)))
 
-  pub silent-is : concluded s to c Silent ≡ idleAt s (s .walk) (settled Silent to c (s .n) (s .entries))
-  unfolding concluded
+  pub silent-is : concludeOf s to c Silent ≡ idleAt s (s .walk) (settleOf Silent to c (s .n) (s .entries))
+  unfolding concludeOf
   silent-is = refl
 
   -- a good reply that isn't clear changes nothing but the exchange
-  pub marked-is : concluded s to c Marked ≡ idleAt s (s .walk) (s .entries)
-  unfolding concluded
+  pub marked-is : concludeOf s to c Marked ≡ idleAt s (s .walk) (s .entries)
+  unfolding concludeOf
   marked-is = refl
 
   -- the entry of node i + 1, for each answer
   pub concluded-at : (a : Answer) (i : ℕ) (d : Entry) → s .n ≤ 31 → i < s .n → i < length (s .entries)
-      → getD (concluded s to c a .entries) i d ≡ noted a (reachOf to (suc i) (getD (s .entries) i d)) (meant s to c a) (getD (s .entries) i d)
+      → getD (concludeOf s to c a .entries) i d ≡ noteOf a (reachOf to (suc i) (getD (s .entries) i d)) (meant s to c a) (getD (s .entries) i d)
   concluded-at Marked i d f p q = rw marked-is
   concluded-at Silent i d f p q = rw silent-is (settled-at Silent to c (s .n) (s .entries) i d f p q)
   concluded-at Clear i d f p q = rw clear-is (settled-at Clear to (meant s to c Clear) (s .n) (s .entries) i d f p q)
 
   -- an entry past n stays
-  pub concluded-past : (a : Answer) (i : ℕ) (d : Entry) → s .n ≤ 31 → s .n ≤ i → getD (concluded s to c a .entries) i d ≡ getD (s .entries) i d
+  pub concluded-past : (a : Answer) (i : ℕ) (d : Entry) → s .n ≤ 31 → s .n ≤ i → getD (concludeOf s to c a .entries) i d ≡ getD (s .entries) i d
   concluded-past Marked i d f p = rw marked-is
   concluded-past Silent i d f p = rw silent-is (settled-past Silent to c (s .n) (s .entries) i d f p)
   concluded-past Clear i d f p = rw clear-is (settled-past Clear to (meant s to c Clear) (s .n) (s .entries) i d f p)
 
   -- the rest of the session
-  pub concluded-walk : (a : Answer) → concluded s to c a .walk ≡ walkAfter s to c a
+  pub concluded-walk : (a : Answer) → concludeOf s to c a .walk ≡ walkAfter s to c a
   concluded-walk Marked = rw marked-is
   concluded-walk Silent = rw silent-is
   concluded-walk Clear = rw clear-is
 
-  pub concluded-n : (a : Answer) → concluded s to c a .n ≡ s .n
+  pub concluded-n : (a : Answer) → concludeOf s to c a .n ≡ s .n
   concluded-n Marked = rw marked-is
   concluded-n Silent = rw silent-is
   concluded-n Clear = rw clear-is
 
-  pub concluded-idle : (a : Answer) → concluded s to c a .exchange ≡ Idle
+  pub concluded-idle : (a : Answer) → concludeOf s to c a .exchange ≡ Idle
   concluded-idle Marked = rw marked-is
   concluded-idle Silent = rw silent-is
   concluded-idle Clear = rw clear-is
 
-  pub concluded-started : (a : Answer) → concluded s to c a .started ≡ s .started
+  pub concluded-started : (a : Answer) → concludeOf s to c a .started ≡ s .started
   concluded-started Marked = rw marked-is
   concluded-started Silent = rw silent-is
   concluded-started Clear = rw clear-is
 
 -- reporting on an open exchange, and on none
-pub finished-waiting : (s : Session) (a : Answer) (to : Address) (c : Command) → closedOf s ≡ false → s .exchange ≡ Waiting to c
-    → finished s a ≡ record { end = Done; session = concluded s to c a }
-unfolding finished
-finished-waiting s a to c p q = rw p (ap (λ (x : Exchange). finishedBy x s a) q)
+pub finished-waiting : (s : Session) (a : Answer) (to : Address) (c : Command) → isClosed s ≡ false → s .exchange ≡ Waiting to c
+    → finishOf s a ≡ record { end = Done; session = concludeOf s to c a }
+unfolding finishOf
+finished-waiting s a to c p q = rw p (ap (λ (x : Exchange). finishBy x s a) q)
 
-pub finished-idle : (s : Session) (a : Answer) → closedOf s ≡ false → s .exchange ≡ Idle → finished s a ≡ refusedStep s refusal.Idle
-unfolding finished
-finished-idle s a p q = rw p (ap (λ (x : Exchange). finishedBy x s a) q)
+pub finished-idle : (s : Session) (a : Answer) → isClosed s ≡ false → s .exchange ≡ Idle → finishOf s a ≡ refuseOf s refusal.Idle
+unfolding finishOf
+finished-idle s a p q = rw p (ap (λ (x : Exchange). finishBy x s a) q)
 
-pub finished-closed : (s : Session) (a : Answer) → closedOf s ≡ true → finished s a ≡ refusedStep s refusal.Idle
-unfolding finished
+pub finished-closed : (s : Session) (a : Answer) → isClosed s ≡ true → finishOf s a ≡ refuseOf s refusal.Idle
+unfolding finishOf
 finished-closed s a p = rw p
 
 -- the bytes count by what they are judged to be
-pub report-is : (s : Session) (bytes : List ℕ) → reportOf s bytes ≡ finished s (judged bytes)
+pub report-is : (s : Session) (bytes : List ℕ) → reportOf s bytes ≡ finishOf s (judgeOf bytes)
 unfolding reportOf
 report-is s bytes = refl

@@ -1,4 +1,4 @@
-pub mod Closing
+mod Closing
 pub mod Concluding
-pub mod Soundness
+pub mod Validity
 pub mod Unique

@@ -9,53 +9,57 @@ use Rattle.wire.specs.declared.refusal.Refusal.the-variants as refusal
 use Rattle.command.specs.declared.Command.{Command}
 use Rattle.command.specs.declared.Command.the-variants.{SetAddress}
 use Rattle.command.specs.Role.{roleOf, isPlacing, isNop}
-use Rattle.status.specs.Status.{judged}
+use Rattle.status.specs.Status.{judgeOf}
 use Rattle.status.specs.declared.Answer.{Answer}
 use Rattle.status.specs.declared.Answer.the-variants.{Clear, Marked, Silent}
 use Rattle.entry.specs.declared.Entry.{Entry}
-use Rattle.ledger.specs.Ledger.{settled}
+use Rattle.ledger.specs.Ledger.{settleOf}
 use Rattle.session.specs.declared.Exchange.{Exchange}
 use Rattle.session.specs.declared.Exchange.the-variants.{Idle, Waiting}
 use Rattle.session.specs.declared.Session.{Session}
 use Rattle.session.specs.declared.End.the-variants.{Done}
 use Rattle.session.specs.declared.Step.{Step}
-use Rattle.session.specs.Session.{refusedStep, closedOf, givenPlace, askDue}
+use Rattle.session.specs.Session.{refuseOf, isClosed, givenPlace, isAskDue}
 
 -- the exchange is about the node to which the walk gives its next address
-abbrev pub onWalk : Session → Address → Bool
-onWalk s (address.Individual i) = ltb (s .walk) (s .n) && eqb (i .0) (s .walk + 1)
-onWalk s (address.Group g) = false
+abbrev pub isOnWalk : Session → Address → Bool
+isOnWalk s (address.Individual i) = ltb (s .walk) (s .n) && eqb (i .0) (s .walk + 1)
+isOnWalk s (address.Group g) = false
 
 -- it is the walk's Set Address
-unfoldable pub giving : Session → Address → Command → Bool
-giving s to c = onWalk s to && isPlacing (roleOf c)
+unfoldable pub isGiving : Session → Address → Command → Bool
+isGiving s to c = isOnWalk s to && isPlacing (roleOf c)
 
 -- it is the walk's "ask"
-unfoldable pub asking : Session → Address → Command → Bool
-asking s to c = onWalk s to && isNop (roleOf c) && askDue s
+unfoldable pub isAsking : Session → Address → Command → Bool
+isAsking s to c = isOnWalk s to && isNop (roleOf c) && isAskDue s
 
 abbrev pub idleAt : Session → ℕ → List Entry → Session
 idleAt s walk es = record { started = s .started; n = s .n; walk = walk; exchange = Idle; entries = es }
 
 -- "Good and not clear: the record stays as before. All else counts as silence: unconfirmed"; good and clear confirms the command,
 -- which on the walk is a step of it, and the "ask"'s reply "confirms that Set Address"
-unfoldable pub concluded : Session → Address → Command → Answer → Session
-concluded s to c Marked = idleAt s (s .walk) (s .entries)
-concluded s to c Silent = idleAt s (s .walk) (settled Silent to c (s .n) (s .entries))
-concluded s to c Clear =
-    cond (giving s to c) (idleAt s (s .walk + 1) (settled Clear to c (s .n) (s .entries)))
-    (cond (asking s to c) (idleAt s (s .walk + 1) (settled Clear to (SetAddress (givenPlace (s .walk + 1))) (s .n) (s .entries)))
-    (idleAt s (s .walk) (settled Clear to c (s .n) (s .entries))))
+unfoldable pub concludeOf : Session → Address → Command → Answer → Session
+concludeOf s to c Marked = idleAt s (s .walk) (s .entries)
+concludeOf s to c Silent = idleAt s (s .walk) (settleOf Silent to c (s .n) (s .entries))
+concludeOf s to c Clear =
+    cond (isGiving s to c) (idleAt s (s .walk + 1) (settleOf Clear to c (s .n) (s .entries)))
+    (cond (isAsking s to c) (idleAt s (s .walk + 1) (settleOf Clear to (SetAddress (givenPlace (s .walk + 1))) (s .n) (s .entries)))
+    (idleAt s (s .walk) (settleOf Clear to c (s .n) (s .entries))))
 
 -- by what waits; 8: "nothing to report on"
-abbrev pub finishedBy : Exchange → Session → Answer → Step
-finishedBy Idle s a = refusedStep s refusal.Idle
-finishedBy (Waiting to c) s a = record { end = Done; session = concluded s to c a }
+abbrev pub finishBy : Exchange → Session → Answer → Step
+finishBy Idle s a = refuseOf s refusal.Idle
+finishBy (Waiting to c) s a = record { end = Done; session = concludeOf s to c a }
 
 -- a closed session has no exchange
-unfoldable pub finished : Session → Answer → Step
-finished s a = cond (closedOf s) (refusedStep s refusal.Idle) (finishedBy (s .exchange) s a)
+unfoldable pub finishOf : Session → Answer → Step
+finishOf s a = cond (isClosed s) (refuseOf s refusal.Idle) (finishBy (s .exchange) s a)
+
+-- by silence
+abbrev pub silenceOf : Session → Step
+silenceOf s = finishOf s Silent
 
 -- by the bytes received, "as it came"
 unfoldable pub reportOf : Session → List ℕ → Step
-reportOf s bytes = finished s (judged bytes)
+reportOf s bytes = finishOf s (judgeOf bytes)

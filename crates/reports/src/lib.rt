@@ -19,11 +19,11 @@ ghost use mathlib.Core.Path.{_≡_};
 ghost use Rattle.wire.specs.Promise.{Promise};
 ghost use Rattle.session.specs.Session.{stepNumber};
 ghost use Rattle.status.specs.declared.Answer.the-variants.{Silent};
-ghost use Rattle.reports.specs.Report.{onWalk, giving, asking, idleAt, concluded, finished, reportOf};
+ghost use Rattle.reports.specs.Report.{isOnWalk, isGiving, isAsking, idleAt, concludeOf, finishOf, silenceOf, reportOf};
 
 // Whether an exchange is about the node to which the walk gives its next address.
 fn is_on_walk(s: Session, to: Address) -> bool
-    ensures { λ r. ⌜ r ≡ onWalk s to ⌝ }
+    ensures { λ r. ⌜ r ≡ isOnWalk s to ⌝ }
 {
     match to {
         Address::Individual(i) => {
@@ -38,7 +38,7 @@ fn is_on_walk(s: Session, to: Address) -> bool
 
 // The walk's Set Address waits.
 fn is_giving(s: Session, to: Address, c: Command) -> bool
-    ensures { λ r. ⌜ r ≡ giving s to c ⌝ }
+    ensures { λ r. ⌜ r ≡ isGiving s to c ⌝ }
 {
     if is_on_walk(s, to) {
         return c.role().is_placing();
@@ -48,7 +48,7 @@ fn is_giving(s: Session, to: Address, c: Command) -> bool
 
 // The walk's "ask" waits.
 fn is_asking(s: Session, to: Address, c: Command) -> bool
-    ensures { λ r. ⌜ r ≡ asking s to c ⌝ }
+    ensures { λ r. ⌜ r ≡ isAsking s to c ⌝ }
 {
     if is_on_walk(s, to) {
         if c.role().is_nop() {
@@ -74,7 +74,7 @@ fn idle_at(s: Session, walk: u8, entries: [Entry; MOST_NODES]) -> Session
 
 // The session once its exchange, a command to an address, is answered.
 fn conclude(s: Session, to: Address, c: Command, answer: Answer) -> Session
-    ensures { λ r. ⌜ r ≡ concluded s to c answer ⌝ }
+    ensures { λ r. ⌜ r ≡ concludeOf s to c answer ⌝ }
 {
     let entries = s.entries;
     match answer {
@@ -101,7 +101,7 @@ fn conclude(s: Session, to: Address, c: Command, answer: Answer) -> Session
 
 // The end of the open exchange; 8 where there is none. A closed session has none.
 fn finish(s: Session, answer: Answer) -> Step
-    ensures { λ r. ⌜ Promise stepNumber r (finished s answer) ⌝ }
+    ensures { λ r. ⌜ Promise stepNumber r (finishOf s answer) ⌝ }
 {
     if is_closed(s) {
         return refuse(s, Refusal::Idle);
@@ -125,7 +125,7 @@ pub fn report(s: Session, bytes: &[u8]) -> Step
 
 // Closes the open exchange by silence.
 pub fn silence(s: Session) -> Step
-    ensures { λ r. ⌜ Promise stepNumber r (finished s Silent) ⌝ }
+    ensures { λ r. ⌜ Promise stepNumber r (silenceOf s) ⌝ }
 {
     finish(s, Answer::Silent)
 }

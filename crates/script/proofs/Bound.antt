@@ -9,10 +9,10 @@ use lib.ListN.{length, replicate, take, length-append, length-take}
 use borrow.Author.Tests.{le-ltb, ltb-true, ltb-false}
 use Rattle.wire.specs.Promise.{Outcome}
 use Rattle.wire.specs.Numbers.{mostNodes}
-use Rattle.buffer.specs.Buffer.{written, place}
+use Rattle.buffer.specs.Buffer.{atStart, written}
 use Rattle.wire.specs.declared.refusal.Refusal.the-variants.{Range}
 use Rattle.text.specs.Lines.{newline, linesOf, grown}
-use Rattle.text.specs.Digits.{decimalOf, decimalIn}
+use Rattle.text.specs.Digits.{decimalOf, readDecimal}
 use Rattle.hex.specs.Hex.{hexText, Content, bytes, malformed, bytesIn}
 use Rattle.text.specs.declared.digits.Decimal.{Decimal}
 use Rattle.text.specs.declared.digits.Decimal.the-variants.{Value, Malformed}
@@ -23,10 +23,10 @@ use Rattle.survey.specs.declared.decision.Delivery.{Delivery}
 use Rattle.survey.specs.declared.decision.Delivery.the-variants.{Silent, Replied, Collision, Refused}
 use Rattle.survey.specs.Delivery.{Lent}
 use Rattle.survey.proofs.Lengths.{deliver-brief, deliver-left}
-use Rattle.table.specs.Table.{nodesOf, keptBy, deliveredOf}
+use Rattle.table.specs.Table.{nodesOf, keptBy, tableDeliver}
 use Rattle.script.specs.Answers.{numberEnd, answerLine}
-use Rattle.script.specs.Bench.{heard, onContent, stepOf, played, wrong, onCount, onDecimal, onLines, benchOf, startOf}
-use Rattle.script.proofs.Lined.{line-short, refused-short}
+use Rattle.script.specs.Bench.{answerStep, onContent, playOf, runOf, wrong, runWith, onDecimal, onLines, rehearseOf, startOf}
+use Rattle.script.proofs.TextLines.{line-short, refused-short}
 
 -- the output for the input's longest, 65536 bytes
 abbrev pub most : ℕ
@@ -45,17 +45,17 @@ long-enough : (p : List ℕ) → 4 ≤ length p → 11 ≤ length (hexText p)
 long-enough p h = omega (arith, length-line p (omega arith), length-append (hexText p) (newline ∷ []))
 
 module _ (t : Table) (l : List ℕ) where
-  brief : (p : List ℕ) → length p < 4 → length (heard (deliveredOf t p (replicate 19 0)) .line) ≤ 10
-  unfolding numberEnd decimalOf deliveredOf
-  brief p h = deliver-brief (nodesOf t) p (replicate 19 0) h (λ (o : Outcome Delivery Lent). length (heard (keptBy t o) .line) ≤ 10) (omega arith) (omega arith) (omega arith)
+  brief : (p : List ℕ) → length p < 4 → length (answerStep (tableDeliver t p (replicate 19 0)) .line) ≤ 10
+  unfolding numberEnd decimalOf tableDeliver
+  brief p h = deliver-brief (nodesOf t) p (replicate 19 0) h (λ (o : Outcome Delivery Lent). length (answerStep (keptBy t o) .line) ≤ 10) (omega arith) (omega arith) (omega arith)
 
-  any : (p : List ℕ) → length (heard (deliveredOf t p (replicate 19 0)) .line) ≤ 57
-  unfolding deliveredOf
+  any : (p : List ℕ) → length (answerStep (tableDeliver t p (replicate 19 0)) .line) ≤ 57
+  unfolding tableDeliver
   any p =
-      let z : length (deliveredOf t p (replicate 19 0) .left) ≡ 19 = deliver-left (nodesOf t) p (replicate 19 0) in
-      answer-short (deliveredOf t p (replicate 19 0) .answer .answer) (deliveredOf t p (replicate 19 0) .left) (omega arith)
+      let z : length (tableDeliver t p (replicate 19 0) .left) ≡ 19 = deliver-left (nodesOf t) p (replicate 19 0) in
+      answer-short (tableDeliver t p (replicate 19 0) .answer .answer) (tableDeliver t p (replicate 19 0) .left) (omega arith)
 
-  by-length : (p : List ℕ) (b : Bool) → ltb (length p) 4 ≡ b → l ≡ hexText p → length (heard (deliveredOf t p (replicate 19 0)) .line) ≤ 10 * (length l + 1)
+  by-length : (p : List ℕ) (b : Bool) → ltb (length p) 4 ≡ b → l ≡ hexText p → length (answerStep (tableDeliver t p (replicate 19 0)) .line) ≤ 10 * (length l + 1)
   by-length p true e f = omega (arith, brief p (ltb-true (length p) 4 e))
   by-length p false e f =
       let k : 11 ≤ length l = rw f (long-enough p (ltb-false (length p) 4 e)) in
@@ -66,8 +66,8 @@ module _ (t : Table) (l : List ℕ) where
   by-content malformed e = omega arith
   by-content (bytes p) e = by-length p (ltb (length p) 4) refl (read-written l p e .same)
 
-  step-short : length (stepOf t l .line) ≤ 10 * (length l + 1)
-  unfolding stepOf
+  step-short : length (playOf t l .line) ≤ 10 * (length l + 1)
+  unfolding playOf
   step-short = by-content (bytesIn l) refl
 
 -- ---- all lines
@@ -77,11 +77,11 @@ abbrev total : List (List ℕ) → ℕ
 total [] = 0
 total (l ∷ ls) = (length l + 1) + total ls
 
-played-short : (t : Table) (ls : List (List ℕ)) → length (played t ls) ≤ 10 * total ls
-unfolding played
+played-short : (t : Table) (ls : List (List ℕ)) → length (runOf t ls) ≤ 10 * total ls
+unfolding runOf
 played-short t [] = omega arith
 played-short t (l ∷ ls) =
-    omega (arith, step-short t l, played-short (stepOf t l .table) ls, length-append (stepOf t l .line) (played (stepOf t l .table) ls))
+    omega (arith, step-short t l, played-short (playOf t l .table) ls, length-append (playOf t l .line) (runOf (playOf t l .table) ls))
 
 grown-total : (b : ℕ) (ls : List (List ℕ)) (n : ℕ) → total ls ≤ n + 1 → total (grown b ls) ≤ suc n + 1
 grown-total b [] n h = omega arith
@@ -100,11 +100,11 @@ lines-total (b ∷ s) = go (eqb b newline) (lines-total s)
 wrong-short : length wrong ≤ 11
 wrong-short = refused-short Range
 
-count-short : (n : ℕ) (ls : List (List ℕ)) → total ls ≤ 65536 → length (onCount n ls) ≤ most
-unfolding onCount
+count-short : (n : ℕ) (ls : List (List ℕ)) → total ls ≤ 65536 → length (runWith n ls) ≤ most
+unfolding runWith
 count-short n ls h = go (ltb n 1) (ltb mostNodes n)
   where
-    go : (t u : Bool) → length (cond t wrong (cond u wrong (played (startOf n) ls))) ≤ most
+    go : (t u : Bool) → length (cond t wrong (cond u wrong (runOf (startOf n) ls))) ≤ most
     go true u = omega (arith, wrong-short)
     go false true = omega (arith, wrong-short)
     go false false = omega (arith, played-short (startOf n) ls)
@@ -115,10 +115,10 @@ decimal-short Malformed ls h = omega (arith, wrong-short)
 
 lines-short : (ls : List (List ℕ)) → total ls ≤ 65537 → length (onLines ls) ≤ most
 lines-short [] h = omega (arith, wrong-short)
-lines-short (l ∷ ls) h = decimal-short (decimalIn l) ls (omega arith)
+lines-short (l ∷ ls) h = decimal-short (readDecimal l) ls (omega arith)
 
-pub bench-short : (s : List ℕ) → length (benchOf s) ≤ most
-unfolding benchOf
+pub bench-short : (s : List ℕ) → length (rehearseOf s) ≤ most
+unfolding rehearseOf
 bench-short s = go (ltb 65536 (length s)) refl
   where
     go : (b : Bool) → ltb 65536 (length s) ≡ b → length (cond b wrong (onLines (linesOf s))) ≤ most
@@ -128,6 +128,6 @@ bench-short s = go (ltb 65536 (length s)) refl
         lines-short (linesOf s) (omega (arith, lines-total s))
 
 -- with that room no rehearsal is refused
-pub never-refused : (s out : List ℕ) → most ≤ length out → place (benchOf s) out ≡ written (benchOf s) out
-unfolding place
-never-refused s out h = rw (le-ltb (length out) (length (benchOf s)) (omega (arith, bench-short s)))
+pub never-refused : (s out : List ℕ) → most ≤ length out → written (rehearseOf s) out ≡ atStart (rehearseOf s) out
+unfolding written
+never-refused s out h = rw (le-ltb (length out) (length (rehearseOf s)) (omega (arith, bench-short s)))

@@ -1,8 +1,8 @@
-pub mod Lined
+mod TextLines
 pub mod Deliveries
-pub mod Playing
-pub mod Whole
-pub mod Placed
+mod Playing
+mod Whole
+pub mod Within
 pub mod Bound
 pub mod Examples
 pub mod Unique

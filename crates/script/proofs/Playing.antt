@@ -9,8 +9,8 @@ use Rattle.wire.specs.Promise.{Outcome, Lending}
 use Rattle.wire.proofs.Impossible.{impossible}
 use Rattle.buffer.specs.Change.{AllBytes}
 use Rattle.buffer.proofs.Bytes.{byte-at}
-use Rattle.text.specs.Lines.{lineOf, linesOf}
-use Rattle.hex.specs.Hex.{Content, bytes, malformed, bytesIn, over, readInto, parsedNumber}
+use Rattle.text.specs.Lines.{firstLine, linesOf}
+use Rattle.hex.specs.Hex.{Content, bytes, malformed, bytesIn, over, readBytes, parsedNumber}
 use Rattle.hex.specs.declared.pairs.Parsed.{Parsed}
 use Rattle.hex.specs.declared.pairs.Parsed.the-variants.{Bytes, Malformed}
 use Rattle.text.proofs.Parts.{line-short, lines-step}
@@ -19,11 +19,12 @@ use Rattle.node.specs.declared.state.Node.{Node}
 use Rattle.node.specs.Node.{powerUp}
 use Rattle.table.specs.declared.Table.{Table}
 use Rattle.table.specs.declared.Delivered.{Delivered}
-use Rattle.table.specs.Table.{deliveredNumber, deliveredOf}
+use Rattle.table.specs.Table.{deliveredNumber, tableDeliver}
 use Rattle.script.specs.Answers.{answerLine}
 use Rattle.buffer.specs.Wrote.{Wrote}
-use Rattle.script.specs.Line.{Line}
-use Rattle.script.specs.Bench.{zeros, startOf, Stepped, heard, refusedStep, onContent, stepOf, played, Lined}
+use Rattle.script.specs.Line.{WroteLine}
+use Rattle.script.specs.Bench.{zeros, startOf, Stepped, answerStep, refuseStep, onContent, playOf, runOf}
+use Rattle.script.specs.Line.{Played}
 use Rattle.script.specs.declared.rehearsal.Step.{Step}
 use Rattle.script.proofs.Deliveries.{deliver-kept}
 use Rattle.buffer.proofs.Appends.{Going, going-on, going-done}
@@ -37,25 +38,25 @@ start-done n k e = rw e
 -- ---- one line
 
 pub send-done : (d : Delivered) (b : List ℕ) (o : Outcome Delivered (List ℕ)) (at p : ℕ) (l m : List ℕ) → Lending deliveredNumber d b o
-    → Line (answerLine (d .answer) b) at l p m → Lined (heard o) at l (record { table = d .table; at = p }) m
+    → WroteLine (answerLine (d .answer) b) at l p m → Played (answerStep o) at l (record { table = d .table; at = p }) m
 send-done d b o at p l m e f =
     record { table = ap (λ (x : Delivered). x .table) (e .answer); line = rw (← (e .answer), ← (e .leaves)) f }
 
-module _ (t : Table) (l b : List ℕ) (found : Parsed) (e : Lending parsedNumber found b (readInto (bytesIn l) (replicate 20 0))) (at : ℕ) (o m : List ℕ) (r : Step) where
-  pub play-bad : found ≡ Malformed → Lined (refusedStep t) at o r m → Lined (stepOf t l) at o r m
-  unfolding stepOf
+module _ (t : Table) (l b : List ℕ) (found : Parsed) (e : Lending parsedNumber found b (readBytes (bytesIn l) (replicate 20 0))) (at : ℕ) (o m : List ℕ) (r : Step) where
+  pub play-bad : found ≡ Malformed → Played (refuseStep t) at o r m → Played (playOf t l) at o r m
+  unfolding playOf
   play-bad g f = go (bytesIn l) (sym g ∙ e .answer)
     where
-      go : (q : Content) → Malformed ≡ readInto q (replicate 20 0) .answer → Lined (onContent t q) at o r m
+      go : (q : Content) → Malformed ≡ readBytes q (replicate 20 0) .answer → Played (onContent t q) at o r m
       go malformed e = f
       go (bytes p) e = impossible cc
 
-  pub play-good : (n : ℕ) (d : List ℕ) → found ≡ Bytes n → d ≡ take n b → Lined (heard (deliveredOf t d (replicate 19 0))) at o r m → Lined (stepOf t l) at o r m
-  unfolding stepOf
+  pub play-good : (n : ℕ) (d : List ℕ) → found ≡ Bytes n → d ≡ take n b → Played (answerStep (tableDeliver t d (replicate 19 0))) at o r m → Played (playOf t l) at o r m
+  unfolding playOf
   play-good n d h g f = go (bytesIn l) (λ p q. read-written l p q .small) (sym h ∙ e .answer) (e .leaves)
     where
-      go : (q : Content) → ((p : List ℕ) → q ≡ bytes p → AllBytes p) → Bytes n ≡ readInto q (replicate 20 0) .answer → b ≡ readInto q (replicate 20 0) .left
-          → Lined (onContent t q) at o r m
+      go : (q : Content) → ((p : List ℕ) → q ≡ bytes p → AllBytes p) → Bytes n ≡ readBytes q (replicate 20 0) .answer → b ≡ readBytes q (replicate 20 0) .left
+          → Played (onContent t q) at o r m
       go malformed s i j = impossible cc
       go (bytes p) s i j =
           let en : n ≡ length p = cc in
@@ -64,31 +65,31 @@ module _ (t : Table) (l b : List ℕ) (found : Parsed) (e : Lending parsedNumber
 
 -- ---- all lines: those from i on are still to be played
 
-module _ (packets d l : List ℕ) (i : ℕ) (h : i < length packets) (ed : d ≡ drop i packets) (el : l ≡ lineOf d) where
+module _ (packets d l : List ℕ) (i : ℕ) (h : i < length packets) (ed : d ≡ drop i packets) (el : l ≡ firstLine d) where
   -- a line and its newline
   pub next-line : i + length l + 1 ≤ length packets + 1
   next-line = rw (el, ed) (omega (arith, line-short (drop i packets), length-drop i packets))
 
-  pub run-next : (t : Table) (out left e o : List ℕ) (s : Step) (p : ℕ) → Lined (stepOf t l) p out s left → Going (played t (linesOf (drop i packets))) p out e o
-      → Going (played (s .table) (linesOf (drop (i + length l + 1) packets))) (s .at) left e o
-  unfolding played
+  pub run-next : (t : Table) (out left e o : List ℕ) (s : Step) (p : ℕ) → Played (playOf t l) p out s left → Going (runOf t (linesOf (drop i packets))) p out e o
+      → Going (runOf (s .table) (linesOf (drop (i + length l + 1) packets))) (s .at) left e o
+  unfolding runOf
   run-next t out left e o s p f g =
       let k : 0 < length (drop i packets) = omega (arith, length-drop i packets) in
-      let n : lineOf (drop i packets) ≡ l = sym (el ∙ ap lineOf ed) in
+      let n : firstLine (drop i packets) ≡ l = sym (el ∙ ap firstLine ed) in
       let j : i + suc (length l) ≡ i + length l + 1 = omega arith in
       let q : drop (suc (length l)) (drop i packets) ≡ drop (i + length l + 1) packets = drop-drop (suc (length l)) i packets ∙ ap (λ (x : ℕ). drop x packets) j in
       let ls : linesOf (drop i packets) ≡ l ∷ linesOf (drop (i + length l + 1) packets) =
       lines-step (drop i packets) k
       ∙ ap (λ (x : List ℕ). x ∷ linesOf (drop (suc (length x)) (drop i packets))) n
       ∙ ap (λ (x : List ℕ). l ∷ linesOf x) q in
-      rw (f .table) (going-on (subst (λ (x : List (List ℕ)). Going (played t x) p out e o) ls g) (f .line .wrote))
+      rw (f .table) (going-on (subst (λ (x : List (List ℕ)). Going (runOf t x) p out e o) ls g) (f .line .wrote))
 
-pub run-near : (s : Stepped) (r : Step) (out left : List ℕ) (i n p : ℕ) → Lined s p out r left → p ≤ 64 * i → r .at ≤ 64 * (i + n + 1)
+pub run-near : (s : Stepped) (r : Step) (out left : List ℕ) (i n p : ℕ) → Played s p out r left → p ≤ 64 * i → r .at ≤ 64 * (i + n + 1)
 run-near s r out left i n p f h = omega (arith, f .line .wrote .behind, f .line .near)
 
-pub run-long : (s : Stepped) (r : Step) (out left : List ℕ) (p n : ℕ) → Lined s p out r left → length out ≡ n → length left ≡ n
+pub run-long : (s : Stepped) (r : Step) (out left : List ℕ) (p n : ℕ) → Played s p out r left → length out ≡ n → length left ≡ n
 run-long s r out left p n f e = f .line .wrote .long ∙ e
 
-pub run-done : (t : Table) (packets out e o : List ℕ) (i p : ℕ) → length packets ≤ i → Going (played t (linesOf (drop i packets))) p out e o → Wrote e 0 o p out
-unfolding played
-run-done t packets out e o i p h g = going-done (played t (linesOf (drop i packets))) (rw (drop-of-length-le packets h)) g
+pub run-done : (t : Table) (packets out e o : List ℕ) (i p : ℕ) → length packets ≤ i → Going (runOf t (linesOf (drop i packets))) p out e o → Wrote e 0 o p out
+unfolding runOf
+run-done t packets out e o i p h g = going-done (runOf t (linesOf (drop i packets))) (rw (drop-of-length-le packets h)) g

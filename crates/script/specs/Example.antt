@@ -3,18 +3,18 @@ use Prim.Native.Nat.{ℕ}
 use mathlib.Core.List.{List, [], _∷_}
 use Rattle.text.specs.Lines.{newline}
 
-pub record Shown : Type 0 where
+pub record Rehearsal : Type 0 where
   pub input : List ℕ
   pub output : List ℕ
 
 -- "Input lines: .. Whole output: .."
-abbrev pub paper : Shown
+abbrev pub paper : Rehearsal
 paper = record {
   input = 50 ∷ newline ∷ 65 ∷ 65 ∷ 32 ∷ 48 ∷ 48 ∷ 32 ∷ 50 ∷ 49 ∷ 32 ∷ 48 ∷ 49 ∷ 32 ∷ 70 ∷ 70 ∷ 32 ∷ 50 ∷ 49 ∷ newline ∷ 65 ∷ 65 ∷ 32 ∷ 48 ∷ 48 ∷ 32 ∷ 50 ∷ 49 ∷ 32 ∷ 48 ∷ 50 ∷ 32 ∷ 70 ∷ 70 ∷ 32 ∷ 50 ∷ 50 ∷ newline ∷ 65 ∷ 65 ∷ 32 ∷ 48 ∷ 50 ∷ 32 ∷ 50 ∷ 54 ∷ 32 ∷ 48 ∷ 53 ∷ 32 ∷ 48 ∷ 48 ∷ 32 ∷ 50 ∷ 68 ∷ newline ∷ 65 ∷ 65 ∷ 32 ∷ 48 ∷ 49 ∷ 32 ∷ 48 ∷ 69 ∷ 32 ∷ 49 ∷ 48 ∷ newline ∷ 65 ∷ 65 ∷ 32 ∷ 70 ∷ 70 ∷ 32 ∷ 48 ∷ 69 ∷ 32 ∷ 48 ∷ 68 ∷ newline ∷ [];
   output = 48 ∷ 48 ∷ 32 ∷ 48 ∷ 48 ∷ newline ∷ 48 ∷ 48 ∷ 32 ∷ 48 ∷ 48 ∷ newline ∷ 48 ∷ 48 ∷ 32 ∷ 48 ∷ 48 ∷ newline ∷ 48 ∷ 50 ∷ 32 ∷ 48 ∷ 50 ∷ newline ∷ 45 ∷ newline ∷ [];
 }
 
-abbrev pub edges : List Shown
+abbrev pub edges : List Rehearsal
 edges =
     -- no input at all
     record { input = []; output = 114 ∷ 101 ∷ 102 ∷ 117 ∷ 115 ∷ 101 ∷ 100 ∷ 32 ∷ 54 ∷ newline ∷ [] } ∷

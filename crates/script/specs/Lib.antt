@@ -1,4 +1,4 @@
 pub mod Answers
-pub mod Line
 pub mod Bench
+pub mod Line
 pub mod Example

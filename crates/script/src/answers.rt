@@ -1,5 +1,5 @@
 // The line that is written for an answer of the chain.
-// Each function writes from `at` on, if there is room, and answers the place behind what it wrote or would have written.
+// Each function writes from `at` on, if there is room, and answers the position behind what it wrote or would have written.
 use buffer::Built;
 use chain::Delivery;
 use wire::Refusal;
@@ -8,7 +8,7 @@ ghost use lib.ListN.{length};
 ghost use Rattle.hex.specs.Hex.{hexLine};
 ghost use Rattle.script.specs.Answers.{numberEnd, refusedLine, answerLine};
 ghost use Rattle.buffer.specs.Wrote.{Wrote};
-ghost use Rattle.script.specs.Line.{far, Line};
+ghost use Rattle.script.specs.Line.{far, WroteLine};
 
 fn append(out: &mut [u8], at: usize, part: &[u8]) -> usize
     requires { ⌜ (at ≤ far + 64) × (length (now part) ≤ 64) ⌝ }
@@ -19,7 +19,7 @@ fn append(out: &mut [u8], at: usize, part: &[u8]) -> usize
 }
 
 // A number below 100, and the newline.
-fn put_number(out: &mut [u8], at: usize, n: u8) -> usize
+fn put_number_end(out: &mut [u8], at: usize, n: u8) -> usize
     requires { ⌜ (at ≤ far + 64) × (n < 100) ⌝ }
     ensures { λ r. ⌜ Wrote (numberEnd n) at (now (out .entry)) r (now (out .exit)) ⌝ }
 {
@@ -31,18 +31,18 @@ fn put_number(out: &mut [u8], at: usize, n: u8) -> usize
     append(out, at, &two)
 }
 
-pub(crate) fn put_refused(out: &mut [u8], at: usize, why: Refusal) -> usize
+pub(crate) fn put_refused_line(out: &mut [u8], at: usize, why: Refusal) -> usize
     requires { ⌜ at ≤ far ⌝ }
-    ensures { λ r. ⌜ Line (refusedLine why) at (now (out .entry)) r (now (out .exit)) ⌝ }
+    ensures { λ r. ⌜ WroteLine (refusedLine why) at (now (out .entry)) r (now (out .exit)) ⌝ }
 {
     let p = append(out, at, b"refused ");
-    put_number(out, p, why.number())
+    put_number_end(out, p, why.number())
 }
 
 // A reply has at most 19 bytes, so that its line has room in 64.
-fn put_reply(out: &mut [u8], at: usize, reply: &[u8]) -> usize
+fn put_hex_line(out: &mut [u8], at: usize, reply: &[u8]) -> usize
     requires { ⌜ (at ≤ far) × (length (now reply) ≤ 19) ⌝ }
-    ensures { λ r. ⌜ Line (hexLine (now (reply .entry))) at (now (out .entry)) r (now (out .exit)) ⌝ }
+    ensures { λ r. ⌜ WroteLine (hexLine (now (reply .entry))) at (now (out .entry)) r (now (out .exit)) ⌝ }
 {
     let mut line = [0; 64];
     match hex::write_line(reply, &mut line) {
@@ -53,14 +53,14 @@ fn put_reply(out: &mut [u8], at: usize, reply: &[u8]) -> usize
 }
 
 // The line for an answer, whose reply stands at the start of `reply`.
-pub(crate) fn put_answer(out: &mut [u8], at: usize, answer: Delivery, reply: &[u8]) -> usize
+pub(crate) fn put_answer_line(out: &mut [u8], at: usize, answer: Delivery, reply: &[u8]) -> usize
     requires { ⌜ (at ≤ far) × (length (now reply) ≤ 19) ⌝ }
-    ensures { λ r. ⌜ Line (answerLine answer (now (reply .entry))) at (now (out .entry)) r (now (out .exit)) ⌝ }
+    ensures { λ r. ⌜ WroteLine (answerLine answer (now (reply .entry))) at (now (out .entry)) r (now (out .exit)) ⌝ }
 {
     match answer {
         Delivery::Silent => append(out, at, b"-\n"),
-        Delivery::Replied(n) => put_reply(out, at, text::first(reply, n)),
+        Delivery::Replied(n) => put_hex_line(out, at, text::first(reply, n)),
         Delivery::Collision => append(out, at, b"collision\n"),
-        Delivery::Refused(why) => put_refused(out, at, why),
+        Delivery::Refused(why) => put_refused_line(out, at, why),
     }
 }

@@ -1,7 +1,7 @@
-pub mod Refusing
+mod Refusing
 pub mod Transmitting
-pub mod Clear
+pub mod Passing
 pub mod Sent
 pub mod Stands
-pub mod Soundness
+pub mod Validity
 pub mod Unique

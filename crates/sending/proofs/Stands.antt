@@ -9,14 +9,14 @@ use Rattle.buffer.specs.declared.Built.the-variants as built
 use Rattle.wire.specs.Numbers.{done}
 use Rattle.buffer.proofs.Refusals.{Spares}
 use Rattle.command.specs.declared.Command.{Command}
-use Rattle.command.specs.Build.{commandBuilt}
+use Rattle.command.specs.Build.{commandBuild}
 use Rattle.command.proofs.Commands.{command-spares}
 use Rattle.session.specs.declared.Session.{Session}
 use Rattle.session.specs.declared.Step.{Step}
 use Rattle.session.specs.Session.{stepNumber}
 use Rattle.sending.specs.declared.Check.{Check}
-use Rattle.sending.specs.declared.Check.the-variants.{Clear, Refuse}
-use Rattle.sending.specs.Sending.{opened, stepBy, transmitted, byCheck}
+use Rattle.sending.specs.declared.Check.the-variants.{Passed, Refuse}
+use Rattle.sending.specs.Sending.{openExchange, stepBy, transmitOf, byCheck}
 
 -- refused with any number: session and buffer are as they were handed in
 abbrev pub Stands : Session → List ℕ → Outcome Step (List ℕ) → Type 0
@@ -26,12 +26,12 @@ by-built : (s t : Session) (out left : List ℕ) (b : Built) → Spares out (rec
 by-built s t out left (built.Bytes n) h z = absurd (z refl)
 by-built s t out left (built.Refused why) h z = (refl, h z)
 
-pub transmitted-stands : (s : Session) (line to : Address) (c : Command) (out : List ℕ) → Stands s out (transmitted s line to c out)
-unfolding transmitted
-transmitted-stands s line to c out =
-    by-built s (opened s to c) out (commandBuilt line c out .left) (commandBuilt line c out .answer) (command-spares line c out)
+pub transmitted-stands : (s : Session) (called to : Address) (c : Command) (out : List ℕ) → Stands s out (transmitOf s called to c out)
+unfolding transmitOf
+transmitted-stands s called to c out =
+    by-built s (openExchange s to c) out (commandBuild called c out .left) (commandBuild called c out .answer) (command-spares called c out)
 
 -- by the check before it
 pub check-stands : (k : Check) (s : Session) (out : List ℕ) (o : Outcome Step (List ℕ)) → Stands s out o → Stands s out (byCheck k s out o)
-check-stands Clear s out o h z = h z
+check-stands Passed s out o h z = h z
 check-stands (Refuse why) s out o h z = (refl, refl)

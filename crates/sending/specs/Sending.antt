@@ -11,59 +11,59 @@ use Rattle.buffer.specs.declared.Built.{Built}
 use Rattle.buffer.specs.declared.Built.the-variants as built
 use Rattle.command.specs.declared.Command.{Command}
 use Rattle.command.specs.Role.{roleOf, isReset}
-use Rattle.command.specs.Build.{commandBuilt}
-use Rattle.ledger.specs.Ledger.{forgotten}
+use Rattle.command.specs.Build.{commandBuild}
+use Rattle.ledger.specs.Ledger.{forgetOf}
 use Rattle.session.specs.declared.Exchange.{Exchange}
 use Rattle.session.specs.declared.Exchange.the-variants.{Idle, Waiting}
 use Rattle.session.specs.declared.Session.{Session}
 use Rattle.session.specs.declared.End.the-variants.{Sent}
 use Rattle.session.specs.declared.Step.{Step}
-use Rattle.session.specs.Session.{refusedStep, closedOf}
+use Rattle.session.specs.Session.{refuseOf, isClosed}
 use Rattle.sending.specs.declared.Check.{Check}
-use Rattle.sending.specs.declared.Check.the-variants.{Clear, Refuse}
+use Rattle.sending.specs.declared.Check.the-variants.{Passed, Refuse}
 
 -- the number of what the tests came to
 abbrev pub checkNumber : Check → ℕ
-checkNumber Clear = done
+checkNumber Passed = done
 checkNumber (Refuse why) = numberOf why
 
 -- refused already, or refused if the test holds
 abbrev pub refuseIf : Check → Bool → Refusal → Check
 refuseIf (Refuse first) test why = Refuse first
-refuseIf Clear true why = Refuse why
-refuseIf Clear false why = Clear
+refuseIf Passed true why = Refuse why
+refuseIf Passed false why = Passed
 
 -- 7: "an exchange is open"; a closed session has none
-abbrev pub waits : Exchange → Bool
-waits Idle = false
-waits (Waiting to c) = true
+abbrev pub doesWait : Exchange → Bool
+doesWait Idle = false
+doesWait (Waiting to c) = true
 
 -- whether one is open
-unfoldable pub waitingOf : Session → Bool
-waitingOf s = cond (closedOf s) false (waits (s .exchange))
+unfoldable pub isWaiting : Session → Bool
+isWaiting s = cond (isClosed s) false (doesWait (s .exchange))
 
 -- "Host order: 12, 7, 6, 10, 9, 11, 5"
 unfoldable pub readyCheck : Session → Check
-readyCheck s = refuseIf (refuseIf Clear (closedOf s) Closed) (waitingOf s) Busy
+readyCheck s = refuseIf (refuseIf Passed (isClosed s) Closed) (isWaiting s) Busy
 
 -- "Each sent command but Hard Reset opens an exchange"; "Hard Reset closes the session and puts all settings in doubt"
-unfoldable pub opened : Session → Address → Command → Session
-opened s to c =
+unfoldable pub openExchange : Session → Address → Command → Session
+openExchange s to c =
     cond (isReset (roleOf c))
-    (record { started = false; n = s .n; walk = s .walk; exchange = Idle; entries = forgotten (s .entries) })
+    (record { started = false; n = s .n; walk = s .walk; exchange = Idle; entries = forgetOf (s .entries) })
     (record { started = s .started; n = s .n; walk = s .walk; exchange = Waiting to c; entries = s .entries })
 
 -- sent as so many bytes, or refused as building says
 abbrev pub stepBy : Session → Session → Built → Step
 stepBy s t (built.Bytes n) = record { end = Sent n; session = t }
-stepBy s t (built.Refused why) = refusedStep s why
+stepBy s t (built.Refused why) = refuseOf s why
 
 -- the packet is built, or refused as the builder refuses it, and the exchange opened
-unfoldable pub transmitted : Session → Address → Address → Command → List ℕ → Outcome Step (List ℕ)
-transmitted s line to c out =
-    record { answer = stepBy s (opened s to c) (commandBuilt line c out .answer); left = commandBuilt line c out .left }
+unfoldable pub transmitOf : Session → Address → Address → Command → List ℕ → Outcome Step (List ℕ)
+transmitOf s called to c out =
+    record { answer = stepBy s (openExchange s to c) (commandBuild called c out .answer); left = commandBuild called c out .left }
 
 -- by the checks before it
 abbrev pub byCheck : Check → Session → List ℕ → Outcome Step (List ℕ) → Outcome Step (List ℕ)
-byCheck Clear s out o = o
-byCheck (Refuse why) s out o = record { answer = refusedStep s why; left = out }
+byCheck Passed s out o = o
+byCheck (Refuse why) s out o = record { answer = refuseOf s why; left = out }

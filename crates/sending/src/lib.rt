@@ -14,11 +14,11 @@ use wire::Refusal;
 ghost use mathlib.Core.Path.{_≡_};
 ghost use Rattle.wire.specs.Promise.{Promise, Lending};
 ghost use Rattle.session.specs.Session.{stepNumber};
-ghost use Rattle.sending.specs.Sending.{checkNumber, refuseIf, waits, waitingOf, readyCheck, opened, transmitted};
+ghost use Rattle.sending.specs.Sending.{checkNumber, refuseIf, doesWait, isWaiting, readyCheck, openExchange, transmitOf};
 
 // What the tests so far came to.
 pub enum Check {
-    Clear,
+    Passed,
     Refuse(Refusal),
 }
 
@@ -29,18 +29,18 @@ impl Check {
     {
         match self {
             Check::Refuse(first) => Check::Refuse(first),
-            Check::Clear => {
+            Check::Passed => {
                 if test {
                     return Check::Refuse(why);
                 }
-                Check::Clear
+                Check::Passed
             }
         }
     }
 }
 
 fn does_wait(x: Exchange) -> bool
-    ensures { λ r. ⌜ r ≡ waits x ⌝ }
+    ensures { λ r. ⌜ r ≡ doesWait x ⌝ }
 {
     match x {
         Exchange::Idle => false,
@@ -50,7 +50,7 @@ fn does_wait(x: Exchange) -> bool
 
 // Whether an exchange is open; a closed session has none.
 fn is_waiting(s: Session) -> bool
-    ensures { λ r. ⌜ r ≡ waitingOf s ⌝ }
+    ensures { λ r. ⌜ r ≡ isWaiting s ⌝ }
 {
     if is_closed(s) {
         return false;
@@ -63,14 +63,14 @@ fn is_waiting(s: Session) -> bool
 pub fn ready_check(s: Session) -> Check
     ensures { λ r. ⌜ Promise checkNumber r (readyCheck s) ⌝ }
 {
-    Check::Clear
+    Check::Passed
         .refuse_if(is_closed(s), Refusal::Closed)
         .refuse_if(is_waiting(s), Refusal::Busy)
 }
 
 // The session with a command on the line: Hard Reset closes it and opens no exchange, any other command waits.
 fn open_exchange(s: Session, to: Address, c: Command) -> Session
-    ensures { λ r. ⌜ r ≡ opened s to c ⌝ }
+    ensures { λ r. ⌜ r ≡ openExchange s to c ⌝ }
 {
     let entries = s.entries;
     if c.role().is_reset() {
@@ -91,11 +91,11 @@ fn open_exchange(s: Session, to: Address, c: Command) -> Session
     }
 }
 
-// Sends a command to the address `line`, for the node or group `to`; 6 and 5 as building gives them. The session is tested by the caller.
-pub fn transmit(s: Session, line: Address, to: Address, c: Command, out: &mut [u8]) -> Step
-    ensures { λ r. ⌜ Lending stepNumber r (now (out .exit)) (transmitted s line to c (now (out .entry))) ⌝ }
+// Sends a command to the address `called`, for the node or group `to`; 6 and 5 as building gives them. The session is tested by the caller.
+pub fn transmit(s: Session, called: Address, to: Address, c: Command, out: &mut [u8]) -> Step
+    ensures { λ r. ⌜ Lending stepNumber r (now (out .exit)) (transmitOf s called to c (now (out .entry))) ⌝ }
 {
-    match command::build(line, c, out) {
+    match command::build(called, c, out) {
         Built::Bytes(n) => Step {
             end: End::Sent(n),
             session: open_exchange(s, to, c),

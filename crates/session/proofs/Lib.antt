@@ -1,3 +1,3 @@
-pub mod Opening
+mod Opening
 pub mod Sessions
 pub mod Unique

@@ -13,32 +13,32 @@ use Rattle.node.specs.Setting.{place}
 use Rattle.entry.specs.Entry.{knows}
 use Rattle.session.specs.declared.Session.{Session}
 use Rattle.session.specs.declared.Step.{Step}
-use Rattle.session.specs.Session.{Sound, offChain, strayOf, validOf, closedOf, askDue, entryOf, stepNumber, refusedStep}
+use Rattle.session.specs.Session.{Valid, offChain, isStray, isValid, isClosed, isAskDue, entryOf, stepNumber, refuseOf}
 
 -- a valid session
-pub record Valid (s : Session) : Type 0 where
+pub record Bounds (s : Session) : Type 0 where
   pub few : s .n ≤ 31
   pub walked : s .walk ≤ s .n
-  pub onChain : strayOf (s .n) (s .exchange) ≡ false
+  pub onChain : isStray (s .n) (s .exchange) ≡ false
 
-pub valid-says : (s : Session) → validOf s ≡ true → Valid s
-unfolding validOf
+pub valid-says : (s : Session) → isValid s ≡ true → Bounds s
+unfolding isValid
 valid-says s h =
-    let t = both (leb (s .n) 31 && leb (s .walk) (s .n)) (not (strayOf (s .n) (s .exchange))) h in
+    let t = both (leb (s .n) 31 && leb (s .walk) (s .n)) (not (isStray (s .n) (s .exchange))) h in
     let u = both (leb (s .n) 31) (leb (s .walk) (s .n)) (t .0) in
-    record { few = leb-true (s .n) 31 (u .0); walked = leb-true (s .walk) (s .n) (u .1); onChain = not-true (strayOf (s .n) (s .exchange)) (t .1) }
+    record { few = leb-true (s .n) 31 (u .0); walked = leb-true (s .walk) (s .n) (u .1); onChain = not-true (isStray (s .n) (s .exchange)) (t .1) }
 
 open-says : (v t : Bool) → cond v (not t) true ≡ false → (v ≡ true) × (t ≡ true)
 open-says true t h = (refl, not-false t h)
 open-says false t h = absurd (true≢false h)
 
-pub closed-not : (s : Session) → closedOf s ≡ false → (validOf s ≡ true) × (s .started ≡ true)
-unfolding closedOf
-closed-not s h = open-says (validOf s) (s .started) h
+pub closed-not : (s : Session) → isClosed s ≡ false → (isValid s ≡ true) × (s .started ≡ true)
+unfolding isClosed
+closed-not s h = open-says (isValid s) (s .started) h
 
 -- whether the place of the walk's next node is in doubt
-pub due-says : (s : Session) → s .walk ≤ 30 → askDue s ≡ not (knows (entryOf s (s .walk + 1)) place)
-unfolding askDue
+pub due-says : (s : Session) → s .walk ≤ 30 → isAskDue s ≡ not (knows (entryOf s (s .walk + 1)) place)
+unfolding isAskDue
 due-says s h = rw (le-ltb 30 (s .walk) h)
 
 -- a node 1 to n
@@ -52,12 +52,12 @@ on-chain n i h =
     record { low = ltb-false (i .0) 1 (t .0); high = ltb-false n (i .0) (t .1) }
 
 -- what is valid, from its parts
-pub valid-from : (s : Session) → s .n ≤ 31 → s .walk ≤ s .n → strayOf (s .n) (s .exchange) ≡ false → validOf s ≡ true
-unfolding validOf
+pub valid-from : (s : Session) → s .n ≤ 31 → s .walk ≤ s .n → isStray (s .n) (s .exchange) ≡ false → isValid s ≡ true
+unfolding isValid
 valid-from s p q h = rw (le-leb (s .n) 31 p, le-leb (s .walk) (s .n) q, h)
 
 -- a step to one of two
-pub either : (b : Bool) (x y : Step) → (b ≡ true → Sound (x .session)) → (b ≡ false → Sound (y .session)) → Sound (cond b x y .session)
+pub either : (b : Bool) (x y : Step) → (b ≡ true → Valid (x .session)) → (b ≡ false → Valid (y .session)) → Valid (cond b x y .session)
 either true x y p q = p refl
 either false x y p q = q refl
 
@@ -65,11 +65,11 @@ either false x y p q = q refl
 abbrev pub Stays : Session → Step → Type 0
 Stays s r = (stepNumber r ≡ done → ⊥) → r .session ≡ s
 
-pub by-test : (t : Bool) (s : Session) (why : Refusal) (r : Step) → Stays s r → Stays s (cond t (refusedStep s why) r)
+pub by-test : (t : Bool) (s : Session) (why : Refusal) (r : Step) → Stays s r → Stays s (cond t (refuseOf s why) r)
 by-test true s why r h z = refl
 by-test false s why r h z = h z
 
 -- a started session that is valid is not closed
-pub open-is : (s : Session) → validOf s ≡ true → s .started ≡ true → closedOf s ≡ false
-unfolding closedOf
+pub open-is : (s : Session) → isValid s ≡ true → s .started ≡ true → isClosed s ≡ false
+unfolding isClosed
 open-is s p q = rw (p, q)

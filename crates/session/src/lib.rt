@@ -12,7 +12,7 @@ use wire::MOST_NODES;
 use wire::Refusal;
 ghost use mathlib.Core.Path.{_≡_};
 ghost use Rattle.wire.specs.Promise.{Promise};
-ghost use Rattle.session.specs.Session.{endNumber, stepNumber, refusedStep, offChain, strayOf, validOf, closedOf, givenPlace, askDue, lookNumber, lookOf};
+ghost use Rattle.session.specs.Session.{endNumber, stepNumber, refuseOf, offChain, isStray, isValid, isClosed, givenPlace, isAskDue, shownNumber, lookOf};
 
 // What waits for an answer: nothing, or a command that was sent to an address. The walk's Set Address has the node that it gives its number.
 pub enum Exchange {
@@ -56,7 +56,7 @@ pub struct Step {
 
 // A refused call gives back the session as it was handed in.
 pub fn refuse(s: Session, why: Refusal) -> Step
-    ensures { λ r. ⌜ Promise stepNumber r (refusedStep s why) ⌝ }
+    ensures { λ r. ⌜ Promise stepNumber r (refuseOf s why) ⌝ }
 {
     Step {
         end: End::Refused(why),
@@ -81,7 +81,7 @@ pub fn off_chain(n: u8, to: Address) -> bool
 
 // Whether an exchange waits on a node that is not 1 to n.
 fn is_stray(n: u8, x: Exchange) -> bool
-    ensures { λ r. ⌜ r ≡ strayOf n x ⌝ }
+    ensures { λ r. ⌜ r ≡ isStray n x ⌝ }
 {
     match x {
         Exchange::Idle => false,
@@ -91,7 +91,7 @@ fn is_stray(n: u8, x: Exchange) -> bool
 
 // Within its bounds; a session handed in that is not counts as closed with no exchange open.
 fn is_valid(s: Session) -> bool
-    ensures { λ r. ⌜ r ≡ validOf s ⌝ }
+    ensures { λ r. ⌜ r ≡ isValid s ⌝ }
 {
     if MOST_NODES < s.n as usize {
         return false;
@@ -104,44 +104,44 @@ fn is_valid(s: Session) -> bool
 }
 
 // What the host knows of a node.
-pub enum Seen {
+pub enum Shown {
     Found(Entry),
     Refused(Refusal),
 }
 
-impl Seen {
+impl Shown {
     // The paper's number.
     pub fn number(self) -> u8
-        ensures { λ r. ⌜ r ≡ lookNumber self ⌝ }
+        ensures { λ r. ⌜ r ≡ shownNumber self ⌝ }
     {
         match self {
-            Seen::Found(_) => wire::DONE,
-            Seen::Refused(why) => why.number(),
+            Shown::Found(_) => wire::DONE,
+            Shown::Refused(why) => why.number(),
         }
     }
 }
 
 // The entry of a node 1 to n, of any session: also a closed one shows its last known values.
-pub fn look(s: Session, node: Individual) -> Seen
-    ensures { λ r. ⌜ Promise lookNumber r (lookOf s node) ⌝ }
+pub fn look(s: Session, node: Individual) -> Shown
+    ensures { λ r. ⌜ Promise shownNumber r (lookOf s node) ⌝ }
 {
     let k = node.0;
     if k < 1 {
-        return Seen::Refused(Refusal::NoNode);
+        return Shown::Refused(Refusal::NoNode);
     }
     if s.n < k {
-        return Seen::Refused(Refusal::NoNode);
+        return Shown::Refused(Refusal::NoNode);
     }
     if MOST_NODES < k as usize {
-        return Seen::Refused(Refusal::NoNode);
+        return Shown::Refused(Refusal::NoNode);
     }
     let at = (k - 1) as usize;
-    Seen::Found(s.entries[at])
+    Shown::Found(s.entries[at])
 }
 
 // Not started, or handed in past its bounds.
 pub fn is_closed(s: Session) -> bool
-    ensures { λ r. ⌜ r ≡ closedOf s ⌝ }
+    ensures { λ r. ⌜ r ≡ isClosed s ⌝ }
 {
     if is_valid(s) {
         return !s.started;
@@ -163,7 +163,7 @@ pub fn given_place(k: u8) -> Place
 // Whether the walk's next node has its place in doubt, so that "ask" is due and "next" is not.
 // The test for 30 keeps the index within the record: of a walk of 31 there is no next node.
 pub fn is_ask_due(s: Session) -> bool
-    ensures { λ r. ⌜ r ≡ askDue s ⌝ }
+    ensures { λ r. ⌜ r ≡ isAskDue s ⌝ }
 {
     let at = s.walk as usize;
     if 30 < at {

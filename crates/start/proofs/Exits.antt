@@ -7,24 +7,24 @@ use borrow.Author.Tests.{lt-ltb, le-ltb}
 use Rattle.wire.specs.Promise.{Promise, promised}
 use Rattle.wire.specs.declared.refusal.Refusal.the-variants.{Range}
 use Rattle.entry.specs.declared.Entry.{Entry}
-use Rattle.ledger.specs.Ledger.{ledgerUp}
+use Rattle.ledger.specs.Ledger.{ledgerPowerUp}
 use Rattle.session.specs.declared.Exchange.the-variants.{Idle}
 use Rattle.session.specs.declared.Session.{Session}
 use Rattle.session.specs.declared.End.the-variants.{Done}
 use Rattle.session.specs.declared.Step.{Step}
-use Rattle.session.specs.Session.{stepNumber, refusedStep}
-use Rattle.start.specs.Start.{poweredOf}
+use Rattle.session.specs.Session.{stepNumber, refuseOf}
+use Rattle.start.specs.Start.{startPowerUp}
 
 module _ (s : Session) where
-  pub power-low : (n : ℕ) (r : Step) → n < 1 → r ≡ refusedStep s Range → Promise stepNumber r (poweredOf s n)
-  unfolding poweredOf
+  pub power-low : (n : ℕ) (r : Step) → n < 1 → r ≡ refuseOf s Range → Promise stepNumber r (startPowerUp s n)
+  unfolding startPowerUp
   power-low n r p h = promised (rw (lt-ltb n 1 p) h)
 
-  pub power-high : (n : ℕ) (r : Step) → 1 ≤ n → 31 < n → r ≡ refusedStep s Range → Promise stepNumber r (poweredOf s n)
-  unfolding poweredOf
+  pub power-high : (n : ℕ) (r : Step) → 1 ≤ n → 31 < n → r ≡ refuseOf s Range → Promise stepNumber r (startPowerUp s n)
+  unfolding startPowerUp
   power-high n r p q h = promised (rw (le-ltb n 1 p, lt-ltb 31 n q) h)
 
-  pub power-good : (n : ℕ) (es : List Entry) → 1 ≤ n → n ≤ 31 → es ≡ ledgerUp
-      → Promise stepNumber (record { end = Done; session = record { started = true; n = n; walk = 0; exchange = Idle; entries = es } }) (poweredOf s n)
-  unfolding poweredOf
+  pub power-good : (n : ℕ) (es : List Entry) → 1 ≤ n → n ≤ 31 → es ≡ ledgerPowerUp
+      → Promise stepNumber (record { end = Done; session = record { started = true; n = n; walk = 0; exchange = Idle; entries = es } }) (startPowerUp s n)
+  unfolding startPowerUp
   power-good n es p q h = promised (rw (le-ltb n 1 p, le-ltb 31 n q, h))

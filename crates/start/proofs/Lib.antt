@@ -1,3 +1,3 @@
-pub mod Exits
+mod Exits
 pub mod Starting
 pub mod Unique

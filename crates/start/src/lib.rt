@@ -11,7 +11,7 @@ use wire::Refusal;
 ghost use mathlib.Core.Path.{_≡_};
 ghost use Rattle.wire.specs.Promise.{Promise};
 ghost use Rattle.session.specs.Session.{stepNumber};
-ghost use Rattle.start.specs.Start.{freshOf, poweredOf};
+ghost use Rattle.start.specs.Start.{freshOf, startPowerUp};
 
 // A session that is closed and has no nodes.
 pub fn fresh() -> Session
@@ -29,7 +29,7 @@ pub fn fresh() -> Session
 
 // Starts a session of n nodes, at any time; an open exchange is dropped.
 pub fn power_up(s: Session, n: u8) -> Step
-    ensures { λ r. ⌜ Promise stepNumber r (poweredOf s n) ⌝ }
+    ensures { λ r. ⌜ Promise stepNumber r (startPowerUp s n) ⌝ }
 {
     if n < 1 {
         return refuse(s, Refusal::Range);

@@ -9,8 +9,8 @@ use lib.ListN.{length, getD, take, drop}
 use lib.Seq.{take-append-seam}
 use borrow.Author.Tests.{le-ltb, ltb-false}
 use Rattle.buffer.specs.Sum.{sumOf, withSum, endsInSum}
-use Rattle.status.specs.Status.{statusPacket, statusBuilt, statusOf, itemsOf, T, cleared, judged}
-use Rattle.buffer.specs.Buffer.{written}
+use Rattle.status.specs.Status.{statusPacket, statusBuild, statusRead, itemsPart, T, cleared, judgeOf}
+use Rattle.buffer.specs.Buffer.{atStart}
 use Rattle.buffer.specs.Change.{Altered}
 use Rattle.wire.specs.declared.refusal.Refusal.{Refusal}
 use Rattle.wire.specs.declared.refusal.Refusal.the-variants.{Short, Long, Sum}
@@ -18,7 +18,7 @@ use Rattle.status.specs.declared.Status.the-variants.{Whole, Refused}
 use Rattle.status.specs.declared.Answer.the-variants.{Silent}
 use Rattle.wire.proofs.Choice.{chose-first, chose-second}
 use Rattle.wire.proofs.Impossible.{impossible}
-use Rattle.buffer.proofs.Writing.{place-written, wrote, place-wrote}
+use Rattle.buffer.proofs.Writing.{written-fits, wrote, written-wrote}
 use Rattle.buffer.proofs.Sums.{length-with-sum, with-sum-ends, ends-shape, changed-length, changed-breaks}
 
 pub status-length : (b : ℕ) (d : List ℕ) → length (statusPacket b d) ≡ 2 + length d
@@ -27,31 +27,31 @@ status-length b d = omega (arith, length-with-sum (b ∷ d))
 -- ---- reading
 
 -- a status packet of the right length, by its sum
-pub whole : (s : List ℕ) (k : ℕ) (t : Bool) → length s ≡ 2 + k → endsInSum s ≡ t → statusOf s k ≡ cond t (Whole (getD s 0 0)) (Refused Sum)
-unfolding statusOf
+pub whole : (s : List ℕ) (k : ℕ) (t : Bool) → length s ≡ 2 + k → endsInSum s ≡ t → statusRead s k ≡ cond t (Whole (getD s 0 0)) (Refused Sum)
+unfolding statusRead
 whole s k t n e = simp (le-ltb (length s) (2 + k) (omega arith), le-ltb (2 + k) (length s) (omega arith), e)
 
 -- a built status packet reads back as its status byte
-pub built-reads : (b : ℕ) (d : List ℕ) → statusOf (statusPacket b d) (length d) ≡ Whole b
+pub built-reads : (b : ℕ) (d : List ℕ) → statusRead (statusPacket b d) (length d) ≡ Whole b
 built-reads b d = whole (statusPacket b d) (length d) true (status-length b d) (with-sum-ends (b ∷ d))
 
 -- and its items
-pub built-items : (b : ℕ) (d : List ℕ) → itemsOf (statusPacket b d) ≡ d
-unfolding itemsOf
+pub built-items : (b : ℕ) (d : List ℕ) → itemsPart (statusPacket b d) ≡ d
+unfolding itemsPart
 built-items b d =
     let k : length (statusPacket b d) - 2 ≡ length d = omega (arith, status-length b d) in
     rw k (take-append-seam d (sumOf (b ∷ d) ∷ []))
 
 -- the builder answered n bytes: they read back as the status byte and the items that it was given
-module _ (b : ℕ) (d out left : List ℕ) (n : ℕ) (e : statusBuilt b d out ≡ wrote n left) where
+module _ (b : ℕ) (d out left : List ℕ) (n : ℕ) (e : statusBuild b d out ≡ wrote n left) where
   placed : take n left ≡ statusPacket b d
-  unfolding statusBuilt
-  placed = place-wrote (statusPacket b d) out left n e
+  unfolding statusBuild
+  placed = written-wrote (statusPacket b d) out left n e
 
-  pub written-reads : statusOf (take n left) (length d) ≡ Whole b
+  pub written-reads : statusRead (take n left) (length d) ≡ Whole b
   written-reads = rw placed (built-reads b d)
 
-  pub written-items : itemsOf (take n left) ≡ d
+  pub written-items : itemsPart (take n left) ≡ d
   written-items = rw placed (built-items b d)
 
 refused-not : (why : Refusal) (b : ℕ) → Refused why ≡ Whole b → ⊥
@@ -62,8 +62,8 @@ pub record Accepted (s : List ℕ) (k b : ℕ) : Type 0 where
   pub ends : endsInSum s ≡ true
   pub first : getD s 0 0 ≡ b
 
-pub accepted : (s : List ℕ) (k b : ℕ) → statusOf s k ≡ Whole b → Accepted s k b
-unfolding statusOf
+pub accepted : (s : List ℕ) (k b : ℕ) → statusRead s k ≡ Whole b → Accepted s k b
+unfolding statusRead
 accepted s k b e =
     let t1 = chose-second (ltb (length s) (2 + k)) e (refused-not Short b) in
     let t2 = chose-second (ltb (2 + k) (length s)) (t1 .1) (refused-not Long b) in
@@ -75,8 +75,8 @@ first-then [] k e = absurd (omega arith)
 first-then (x ∷ s) k e = refl
 
 -- an accepted status packet is the one built from its parts
-pub accepted-built : (s : List ℕ) (k b : ℕ) → statusOf s k ≡ Whole b → s ≡ statusPacket b (itemsOf s)
-unfolding itemsOf
+pub accepted-built : (s : List ℕ) (k b : ℕ) → statusRead s k ≡ Whole b → s ≡ statusPacket b (itemsPart s)
+unfolding itemsPart
 accepted-built s k b e =
     let a = accepted s k b e in
     let n : length s - 2 ≡ k = omega (arith, a .size) in
@@ -85,12 +85,12 @@ accepted-built s k b e =
     ends-shape s (a .ends) ∙ ap (λ (l : List ℕ). withSum l) q
 
 -- and, where it has room, the one that the builder writes from them
-pub accepted-written : (s : List ℕ) (k b : ℕ) (out : List ℕ) → statusOf s k ≡ Whole b → length s ≤ length out → statusBuilt b (itemsOf s) out ≡ written s out
-unfolding statusBuilt
-accepted-written s k b out e h = rw (← (accepted-built s k b e)) (place-written s out h)
+pub accepted-written : (s : List ℕ) (k b : ℕ) (out : List ℕ) → statusRead s k ≡ Whole b → length s ≤ length out → statusBuild b (itemsPart s) out ≡ atStart s out
+unfolding statusBuild
+accepted-written s k b out e h = rw (← (accepted-built s k b e)) (written-fits s out h)
 
 -- one byte changed: wrong sum
-pub altered-reads : (s t : List ℕ) (k b : ℕ) → statusOf s k ≡ Whole b → Altered s t → statusOf t k ≡ Refused Sum
+pub altered-reads : (s t : List ℕ) (k b : ℕ) → statusRead s k ≡ Whole b → Altered s t → statusRead t k ≡ Refused Sum
 altered-reads s t k b e d =
     let a = accepted s k b e in
     whole t k false (changed-length (d .change) ∙ a .size) (changed-breaks (d .change) (a .ends))
@@ -98,8 +98,8 @@ altered-reads s t k b e d =
 -- ---- the host's judgement
 
 -- a status packet of at most T item bytes is good, and judged by its status byte
-pub judged-built : (b : ℕ) (d : List ℕ) → length d ≤ T → judged (statusPacket b d) ≡ cleared b
-unfolding judged
+pub judged-built : (b : ℕ) (d : List ℕ) → length d ≤ T → judgeOf (statusPacket b d) ≡ cleared b
+unfolding judgeOf
 judged-built b d h =
     let n = status-length b d in
     simp (le-ltb (length (statusPacket b d)) 2 (omega arith), le-ltb (T + 2) (length (statusPacket b d)) (omega arith), with-sum-ends (b ∷ d))
@@ -110,10 +110,10 @@ silent-unless false true = refl
 silent-unless false false = refl
 
 -- what doesn't end in its sum is silence
-pub judged-broken : (s : List ℕ) → endsInSum s ≡ false → judged s ≡ Silent
-unfolding judged
+pub judged-broken : (s : List ℕ) → endsInSum s ≡ false → judgeOf s ≡ Silent
+unfolding judgeOf
 judged-broken s e = rw e (silent-unless (ltb (length s) 2) (ltb (T + 2) (length s)))
 
 -- a reply with one byte changed is never good
-pub judged-altered : (b : ℕ) (d t : List ℕ) → Altered (statusPacket b d) t → judged t ≡ Silent
+pub judged-altered : (b : ℕ) (d t : List ℕ) → Altered (statusPacket b d) t → judgeOf t ≡ Silent
 judged-altered b d t a = judged-broken t (changed-breaks (a .change) (with-sum-ends (b ∷ d)))

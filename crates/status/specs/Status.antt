@@ -7,7 +7,7 @@ use lib.Dec.{ltb, eqb}
 use Rattle.wire.specs.Promise.{Outcome}
 use Rattle.wire.specs.Numbers.{done, numberOf}
 use Rattle.buffer.specs.Sum.{withSum, endsInSum}
-use Rattle.buffer.specs.Buffer.{place}
+use Rattle.buffer.specs.Buffer.{written}
 use Rattle.wire.specs.declared.refusal.Refusal.the-variants.{Short, Long, Sum}
 use Rattle.buffer.specs.declared.Built.{Built}
 use Rattle.status.specs.declared.Status.{Status}
@@ -20,12 +20,12 @@ abbrev pub statusPacket : ℕ → List ℕ → List ℕ
 statusPacket b d = withSum (b ∷ d)
 
 -- built at the start of the lent buffer, the rest stays; 5 where there is no room
-unfoldable pub statusBuilt : ℕ → List ℕ → List ℕ → Outcome Built (List ℕ)
-statusBuilt b d out = place (statusPacket b d) out
+unfoldable pub statusBuild : ℕ → List ℕ → List ℕ → Outcome Built (List ℕ)
+statusBuild b d out = written (statusPacket b d) out
 
 -- "Reading a status packet under a mask: too short, 1; too long, 3; wrong sum, 4"; k is how many item bytes the mask asks for
-unfoldable pub statusOf : List ℕ → ℕ → Status
-statusOf s k =
+unfoldable pub statusRead : List ℕ → ℕ → Status
+statusRead s k =
     cond (ltb (length s) (2 + k)) (Refused Short)
     (cond (ltb (2 + k) (length s)) (Refused Long)
     (cond (endsInSum s) (Whole (getD s 0 0))
@@ -36,8 +36,8 @@ abbrev pub itemsFrom : ℕ
 itemsFrom = 1
 
 -- the items: all between status byte and sum
-unfoldable pub itemsOf : List ℕ → List ℕ
-itemsOf s = take (length s - 2) (drop itemsFrom s)
+unfoldable pub itemsPart : List ℕ → List ℕ
+itemsPart s = take (length s - 2) (drop itemsFrom s)
 
 -- the number of what reading finds
 abbrev pub statusNumber : Status → ℕ
@@ -63,8 +63,8 @@ abbrev pub cleared : ℕ → Answer
 cleared b = cond (eqb (b / 2 % 2) 0) Clear Marked
 
 -- "A reply is good if it has 2 to T + 2 bytes and its sum is right"; "All else counts as silence"
-unfoldable pub judged : List ℕ → Answer
-judged s =
+unfoldable pub judgeOf : List ℕ → Answer
+judgeOf s =
     cond (ltb (length s) 2) Silent
     (cond (ltb (T + 2) (length s)) Silent
     (cond (endsInSum s) (cleared (getD s 0 0))

@@ -7,7 +7,7 @@ ghost use mathlib.Core.Path.{_≡_};
 ghost use Rattle.wire.specs.Promise.{Promise, Lending};
 ghost use Rattle.wire.specs.Part.{Part};
 ghost use Rattle.buffer.specs.Buffer.{builtNumber};
-ghost use Rattle.status.specs.Status.{statusOf, statusNumber, itemsFrom, itemsOf, statusBuilt, judged};
+ghost use Rattle.status.specs.Status.{statusRead, statusNumber, itemsFrom, itemsPart, statusBuild, judgeOf};
 
 // How many bytes each item has, from bit 0 of the mask on.
 pub const COUNTS: [usize; 8] = [2, 1, 1, 1, 4, 2, 2, 4];
@@ -42,7 +42,7 @@ impl Status {
 
 // One whole status packet with so many item bytes.
 pub fn read(s: &[u8], items: usize) -> Status
-    ensures { λ r. ⌜ Promise statusNumber r (statusOf (now (s .entry)) items) ⌝ }
+    ensures { λ r. ⌜ Promise statusNumber r (statusRead (now (s .entry)) items) ⌝ }
 {
     if s.len() < 2 {
         return Status::Refused(Refusal::Short);
@@ -63,7 +63,7 @@ pub fn read(s: &[u8], items: usize) -> Status
 
 // The item bytes of a status packet: all between its status byte and its sum.
 pub fn items_part(s: &[u8]) -> &[u8]
-    ensures { λ r. ⌜ Part (s .entry) itemsFrom (itemsOf (now (s .entry))) r ⌝ }
+    ensures { λ r. ⌜ Part (s .entry) itemsFrom (itemsPart (now (s .entry))) r ⌝ }
 {
     if s.len() < 2 {
         return &s[s.len()..];
@@ -74,7 +74,7 @@ pub fn items_part(s: &[u8]) -> &[u8]
 
 // Builds a status packet at the start of `out`, whose rest stays.
 pub fn build(status: u8, items: &[u8], out: &mut [u8]) -> Built
-    ensures { λ r. ⌜ Lending builtNumber r (now (out .exit)) (statusBuilt status (now (items .entry)) (now (out .entry))) ⌝ }
+    ensures { λ r. ⌜ Lending builtNumber r (now (out .exit)) (statusBuild status (now (items .entry)) (now (out .entry))) ⌝ }
 {
     let n = items.len();
     if out.len() < 2 {
@@ -102,7 +102,7 @@ pub enum Answer {
 
 // A reply is good if it has 2 to T + 2 bytes and its sum is right; clear if bit 1 of its status byte is 0.
 pub fn judge(s: &[u8]) -> Answer
-    ensures { λ r. ⌜ r ≡ judged (now (s .entry)) ⌝ }
+    ensures { λ r. ⌜ r ≡ judgeOf (now (s .entry)) ⌝ }
 {
     if s.len() < 2 {
         return Answer::Silent;

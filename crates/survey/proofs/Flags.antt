@@ -10,21 +10,21 @@ use lib.ListN.{length}
 use Rattle.wire.specs.Numbers.{mostNodes}
 use Rattle.wire.specs.declared.address.Address.{Address}
 use Rattle.node.specs.declared.state.Node.{Node}
-use Rattle.heard.specs.declared.Heard.{Heard}
-use Rattle.node.specs.Node.{taken}
+use Rattle.message.specs.declared.Message.{Message}
+use Rattle.node.specs.Node.{takeOf}
 use Rattle.survey.specs.declared.plan.Incoming.{Incoming}
 use Rattle.survey.specs.declared.plan.Incoming.the-variants.{Whole, Unread}
 use Rattle.survey.specs.declared.plan.Seen.{Seen}
-use Rattle.survey.specs.One.{acts, replies, turned, sound}
-use Rattle.survey.specs.Chain.{turnedFrom, repliersFrom, allSound}
-use Rattle.survey.specs.Sets.{joined, membersFrom}
-use Rattle.survey.specs.Survey.{start, glanceFor, glancePast, glancesOf}
-use Rattle.survey.specs.Decision.{visited}
+use Rattle.survey.specs.One.{doesAct, doesReply, turned, isRanged}
+use Rattle.survey.specs.Chain.{turnedFrom, repliersFrom, allRanged}
+use Rattle.survey.specs.Sets.{joinOf, membersFrom}
+use Rattle.survey.specs.Survey.{chainStart, glanceFor, glancePast, glancesOf}
+use Rattle.survey.specs.Decision.{actAll}
 
 -- what f says of each node and its `near`
-abbrev pub flags : (Bool → Node → Bool) → Bool → List Node → List Bool
-flags f near [] = []
-flags f near (n ∷ ns) = f near n ∷ flags f (n .addressed) ns
+abbrev pub flagsFrom : (Bool → Node → Bool) → Bool → List Node → List Bool
+flagsFrom f near [] = []
+flagsFrom f near (n ∷ ns) = f near n ∷ flagsFrom f (n .addressed) ns
 
 -- those of whom it is true, as a set whose first node has the digit w
 abbrev pub setFrom : ℕ → List Bool → ℕ
@@ -36,7 +36,7 @@ setOf bs = setFrom 1 bs
 
 -- ---- what was seen is that set
 
-joined-plain : (s w : ℕ) (b : Bool) → s < w → w + w < 2 ^ 32 → (joined s w b ≡ s + cond b w 0) × (joined s w b < w + w)
+joined-plain : (s w : ℕ) (b : Bool) → s < w → w + w < 2 ^ 32 → (joinOf s w b ≡ s + cond b w 0) × (joinOf s w b < w + w)
 joined-plain s w true h k =
     let e : (s + w) % 2 ^ 32 ≡ s + w = omega (arith, h, k) in
     (e, omega (arith, e, h))
@@ -56,16 +56,16 @@ regroup : (a x y z : ℕ) → z ≡ a + x → z + y ≡ a + (x + y)
 regroup a x y z e = omega (arith, e)
 
 -- one of the sets: it is `of s` when s was seen, and node i joins it if f says so
-module _ (to : Address) (h : Heard) (f : Bool → Node → Bool) (of : Seen → ℕ)
-    (joins : (s : Seen) (n : Node) → of (glanceFor to s n) ≡ joined (of s) (s .weight) (f (s .near) n)) where
+module _ (to : Address) (h : Message) (f : Bool → Node → Bool) (of : Seen → ℕ)
+    (joins : (s : Seen) (n : Node) → of (glanceFor to s n) ≡ joinOf (of s) (s .weight) (f (s .near) n)) where
   seen-from : (s : Seen) (ns : List Node) (i : ℕ) → s .weight ≡ 2 ^ i → of s < s .weight → i + length ns ≤ mostNodes
-      → of (glancesOf (Whole to h) s ns) ≡ of s + setFrom (s .weight) (flags f (s .near) ns)
+      → of (glancesOf (Whole to h) s ns) ≡ of s + setFrom (s .weight) (flagsFrom f (s .near) ns)
   unfolding glanceFor
   seen-from s [] i d a b = omega arith
   seen-from s (n ∷ ns) i d a b =
       let w = s .weight in
       let t = f (s .near) n in
-      let bs = flags f (n .addressed) ns in
+      let bs = flagsFrom f (n .addressed) ns in
       let r = room w i (length ns) d b in
       let e : (w + w) % 2 ^ 32 ≡ w + w = omega (arith, r .0) in
       let p = joined-plain (of s) w t a (r .0) in
@@ -74,34 +74,34 @@ module _ (to : Address) (h : Heard) (f : Bool → Node → Bool) (of : Seen → 
       ∙ ap (λ (v : ℕ). of (glanceFor to s n) + setFrom v bs) e
       ∙ regroup (of s) (cond t w 0) (setFrom (w + w) bs) (of (glanceFor to s n)) (joins s n ∙ p .0)
 
-  pub seen-set : (ns : List Node) → of start ≡ 0 → length ns ≤ mostNodes → of (glancesOf (Whole to h) start ns) ≡ setOf (flags f true ns)
+  pub seen-set : (ns : List Node) → of chainStart ≡ 0 → length ns ≤ mostNodes → of (glancesOf (Whole to h) chainStart ns) ≡ setOf (flagsFrom f true ns)
   seen-set ns e b =
-      let z : of start < 1 = omega (arith, e) in
-      let g = seen-from start ns 0 refl z (omega (arith, b)) in
+      let z : of chainStart < 1 = omega (arith, e) in
+      let g = seen-from chainStart ns 0 refl z (omega (arith, b)) in
       omega (arith, g, e)
 
-pub seen-acting : (to : Address) (h : Heard) (ns : List Node) → length ns ≤ mostNodes → glancesOf (Whole to h) start ns .acting ≡ setOf (flags (acts to) true ns)
+pub seen-acting : (to : Address) (h : Message) (ns : List Node) → length ns ≤ mostNodes → glancesOf (Whole to h) chainStart ns .acting ≡ setOf (flagsFrom (doesAct to) true ns)
 unfolding glanceFor
-seen-acting to h ns b = seen-set to h (acts to) (λ (s : Seen). s .acting) (λ s n. refl) ns refl b
+seen-acting to h ns b = seen-set to h (doesAct to) (λ (s : Seen). s .acting) (λ s n. refl) ns refl b
 
-pub seen-replying : (to : Address) (h : Heard) (ns : List Node) → length ns ≤ mostNodes → glancesOf (Whole to h) start ns .replying ≡ setOf (flags (replies to) true ns)
+pub seen-replying : (to : Address) (h : Message) (ns : List Node) → length ns ≤ mostNodes → glancesOf (Whole to h) chainStart ns .replying ≡ setOf (flagsFrom (doesReply to) true ns)
 unfolding glanceFor
-seen-replying to h ns b = seen-set to h (replies to) (λ (s : Seen). s .replying) (λ s n. refl) ns refl b
+seen-replying to h ns b = seen-set to h (doesReply to) (λ (s : Seen). s .replying) (λ s n. refl) ns refl b
 
 and-assoc : (a b c : Bool) → ((a && b) && c) ≡ (a && (b && c))
 and-assoc true b c = refl
 and-assoc false b c = refl
 
 -- every record, whether the packet can be read or not
-pub seen-sound : (c : Incoming) (s : Seen) (ns : List Node) → glancesOf c s ns .sound ≡ (s .sound && allSound ns)
+pub seen-ranged : (c : Incoming) (s : Seen) (ns : List Node) → glancesOf c s ns .ranged ≡ (s .ranged && allRanged ns)
 unfolding glanceFor glancePast
-seen-sound c s [] = and-true (s .sound)
+seen-ranged c s [] = and-true (s .ranged)
   where
     and-true : (b : Bool) → b ≡ (b && true)
     and-true true = refl
     and-true false = refl
-seen-sound (Whole to h) s (n ∷ ns) = seen-sound (Whole to h) (glanceFor to s n) ns ∙ and-assoc (s .sound) (sound (n .settings .place)) (allSound ns)
-seen-sound (Unread why) s (n ∷ ns) = seen-sound (Unread why) (glancePast s n) ns ∙ and-assoc (s .sound) (sound (n .settings .place)) (allSound ns)
+seen-ranged (Whole to h) s (n ∷ ns) = seen-ranged (Whole to h) (glanceFor to s n) ns ∙ and-assoc (s .ranged) (isRanged (n .settings .place)) (allRanged ns)
+seen-ranged (Unread why) s (n ∷ ns) = seen-ranged (Unread why) (glancePast s n) ns ∙ and-assoc (s .ranged) (isRanged (n .settings .place)) (allRanged ns)
 
 -- ---- the first node and the others
 
@@ -124,23 +124,23 @@ member-step : (k i : ℕ) (b : Bool) (x : ℕ) (rest : List ℕ) → x % 2 ≡ c
 member-step k i true x rest e f = rw (e, f)
 member-step k i false x rest e f = rw (e, f)
 
-pub repliers-are : (to : Address) (i : ℕ) (near : Bool) (ns : List Node) → membersFrom (length ns) i (setOf (flags (replies to) near ns)) ≡ repliersFrom to i near ns
+pub repliers-are : (to : Address) (i : ℕ) (near : Bool) (ns : List Node) → membersFrom (length ns) i (setOf (flagsFrom (doesReply to) near ns)) ≡ repliersFrom to i near ns
 repliers-are to i near [] = refl
 repliers-are to i near (n ∷ ns) =
-    let b = replies to near n in
-    let bs = flags (replies to) (n .addressed) ns in
+    let b = doesReply to near n in
+    let bs = flagsFrom (doesReply to) (n .addressed) ns in
     member-step (length ns) i b (setOf (b ∷ bs)) (repliersFrom to (suc i) (n .addressed) ns) (low b bs)
     (ap (λ (x : ℕ). membersFrom (length ns) (suc i) x) (high b bs) ∙ repliers-are to (suc i) (n .addressed) ns)
 
-visit-step : (h : Heard) (b : Bool) (x : ℕ) (n : Node) (ns rest : List Node) → x % 2 ≡ cond b 1 0 → visited h (x / 2) ns ≡ rest → visited h x (n ∷ ns) ≡ cond b (taken h n) n ∷ rest
+visit-step : (h : Message) (b : Bool) (x : ℕ) (n : Node) (ns rest : List Node) → x % 2 ≡ cond b 1 0 → actAll h (x / 2) ns ≡ rest → actAll h x (n ∷ ns) ≡ cond b (takeOf h n) n ∷ rest
 visit-step h true x n ns rest e f = rw (e, f)
 visit-step h false x n ns rest e f = rw (e, f)
 
-pub actors-turn : (to : Address) (h : Heard) (near : Bool) (ns : List Node) → visited h (setOf (flags (acts to) near ns)) ns ≡ turnedFrom to h near ns
+pub actors-turn : (to : Address) (h : Message) (near : Bool) (ns : List Node) → actAll h (setOf (flagsFrom (doesAct to) near ns)) ns ≡ turnedFrom to h near ns
 unfolding turned
 actors-turn to h near [] = refl
 actors-turn to h near (n ∷ ns) =
-    let b = acts to near n in
-    let bs = flags (acts to) (n .addressed) ns in
+    let b = doesAct to near n in
+    let bs = flagsFrom (doesAct to) (n .addressed) ns in
     visit-step h b (setOf (b ∷ bs)) n ns (turnedFrom to h (n .addressed) ns) (low b bs)
-    (ap (λ (x : ℕ). visited h x ns) (high b bs) ∙ actors-turn to h (n .addressed) ns)
+    (ap (λ (x : ℕ). actAll h x ns) (high b bs) ∙ actors-turn to h (n .addressed) ns)

@@ -9,7 +9,7 @@ use lib.ListN.{length, getD}
 use borrow.Author.Tests.{leb-true}
 use Rattle.wire.specs.Numbers.{mostNodes}
 use Rattle.wire.specs.Promise.{Outcome, Lending, lent}
-use Rattle.buffer.specs.Buffer.{place}
+use Rattle.buffer.specs.Buffer.{written}
 use Rattle.wire.specs.declared.address.Address.{Address}
 use Rattle.wire.specs.declared.refusal.Refusal.{Refusal}
 use Rattle.wire.specs.declared.refusal.Refusal.the-variants.{Range}
@@ -20,9 +20,9 @@ use Rattle.packet.specs.Packet.{frameOf}
 use Rattle.packet.specs.declared.Framed.{Framed}
 use Rattle.packet.specs.declared.Framed.the-variants as framed
 use Rattle.node.specs.declared.state.Node.{Node}
-use Rattle.heard.specs.declared.Heard.{Heard}
-use Rattle.heard.specs.declared.Heard.the-variants.{Other}
-use Rattle.heard.specs.Heard.{isAnswered}
+use Rattle.message.specs.declared.Message.{Message}
+use Rattle.message.specs.declared.Message.the-variants.{Other}
+use Rattle.message.specs.Message.{isAnswered}
 use Rattle.reply.specs.Reply.{replyOf}
 use Rattle.survey.specs.declared.sets.Replier.{Replier}
 use Rattle.survey.specs.declared.sets.Replier.the-variants.{None, One, Several}
@@ -33,18 +33,18 @@ use Rattle.survey.specs.declared.plan.Plan.the-variants.{Refuse}
 use Rattle.survey.specs.declared.plan.Survey.{Survey}
 use Rattle.survey.specs.declared.decision.Decided.{Decided}
 use Rattle.survey.specs.declared.decision.Delivery.{Delivery}
-use Rattle.survey.specs.One.{acts, replies, heardAs}
-use Rattle.survey.specs.Chain.{after, replierOf, replierIn, Said, silence, said, saidBy, blank, allSound}
-use Rattle.survey.specs.Survey.{incomingBy, incomingOf, start, glancesOf, replierTo, planBy, planOf, speakerIn, speakerOf, nobody, surveyOf}
-use Rattle.survey.specs.Decision.{decidedBuilt, decidedOne, decidedBy, decidedPlan, decidedOf, visited}
-use Rattle.survey.specs.Delivery.{Lent, valid, onBuilt, onSaid, deliveredTo, onFrame, deliveredOn, refused, deliveryNumber}
-use Rattle.survey.proofs.Flags.{flags, setOf, seen-acting, seen-replying, seen-sound, repliers-are, actors-turn}
+use Rattle.survey.specs.One.{doesAct, doesReply, messageAs}
+use Rattle.survey.specs.Chain.{after, searchOf, replierIn, Said, silence, said, saidBy, blankNode, allRanged}
+use Rattle.survey.specs.Survey.{receiveBy, receiveOf, chainStart, glancesOf, replierTo, planBy, planOf, speakerIn, speakerOf, nobody, surveyAll}
+use Rattle.survey.specs.Decision.{decideBuilt, decideOne, decideBy, decidePlan, decideOf, actAll}
+use Rattle.survey.specs.Delivery.{Lent, valid, onBuilt, onSaid, deliveredTo, onFrame, deliverOf, refusedDelivery, deliveryNumber}
+use Rattle.survey.proofs.Flags.{flagsFrom, setOf, seen-acting, seen-replying, seen-ranged, repliers-are, actors-turn}
 use Rattle.survey.proofs.Visiting.{visit-none}
 use Rattle.survey.proofs.Meaning.{none-one, replier-below}
 
 -- what a decision comes to, on the nodes ns
 abbrev came : Outcome Decided (List ℕ) → List Node → Outcome Delivery Lent
-came o ns = record { answer = o .answer .answer; left = record { nodes = visited (o .answer .heard) (o .answer .acting) ns; reply = o .left } }
+came o ns = record { answer = o .answer .answer; left = record { nodes = actAll (o .answer .message) (o .answer .acting) ns; reply = o .left } }
 
 -- within the list the default does not matter
 getD-any : {X : Type 0} (l : List X) (i : ℕ) (d e : X) → i < length l → getD l i d ≡ getD l i e
@@ -53,24 +53,24 @@ getD-any (x ∷ l) zero d e p = refl
 getD-any (x ∷ l) (suc i) d e p = getD-any l i d e (le-of-suc-le-suc p)
 
 -- a refusal leaves all as it stood
-refused-all : (why : Refusal) (n : Node) (ns : List Node) (out : List ℕ) → came (decidedPlan (Refuse why) n out) ns ≡ refused why ns out
+refused-all : (why : Refusal) (n : Node) (ns : List Node) (out : List ℕ) → came (decidePlan (Refuse why) n out) ns ≡ refusedDelivery why ns out
 refused-all why n ns out = rw (visit-none Other ns)
 
-module _ (to : Address) (h : Heard) (ns : List Node) (out : List ℕ) (acting : ℕ) (acted : visited h acting ns ≡ after to h ns) where
-  by-built : (b : Built) (left : List ℕ) → came (record { answer = decidedBuilt b acting h; left = left }) ns ≡ onBuilt b to h ns left
+module _ (to : Address) (h : Message) (ns : List Node) (out : List ℕ) (acting : ℕ) (acted : actAll h acting ns ≡ after to h ns) where
+  by-built : (b : Built) (left : List ℕ) → came (record { answer = decideBuilt b acting h; left = left }) ns ≡ onBuilt b to h ns left
   by-built (built.Bytes n) left = rw acted
   by-built (built.Refused why) left = rw (visit-none Other ns)
 
   -- by who replies; the one that does is a node of the chain
   by-replier : (r : Replier) → ((i : ℕ) → r ≡ One i → i < length ns)
-      → came (decidedBy r (getD ns (speakerIn r) nobody) acting h out) ns ≡ onSaid (saidBy h ns r) to h ns out
-  unfolding decidedOne
+      → came (decideBy r (getD ns (speakerIn r) nobody) acting h out) ns ≡ onSaid (saidBy h ns r) to h ns out
+  unfolding decideOne
   by-replier None b = rw acted
-  by-replier (One i) b = rw (getD-any ns i nobody blank (b i refl)) (by-built (place (replyOf h (getD ns i blank)) out .answer) (place (replyOf h (getD ns i blank)) out .left))
+  by-replier (One i) b = rw (getD-any ns i nobody blankNode (b i refl)) (by-built (written (replyOf h (getD ns i blankNode)) out .answer) (written (replyOf h (getD ns i blankNode)) out .left))
   by-replier Several b = rw acted
 
 -- who replies, if the packet is answered at all
-answered : (h : Heard) (ns : List Node) (b : Bool) (r : Replier) → cond b (saidBy h ns r) silence ≡ saidBy h ns (cond b r None)
+answered : (h : Message) (ns : List Node) (b : Bool) (r : Replier) → cond b (saidBy h ns r) silence ≡ saidBy h ns (cond b r None)
 answered h ns true r = refl
 answered h ns false r = refl
 
@@ -79,54 +79,54 @@ chosen-below true r n f i e = f i e
 chosen-below false r n f i e = absurd (none-one i e)
 
 -- the plan for a packet that was read comes to this, by who replies and who acts
-abbrev planned : Heard → List Node → List ℕ → Replier → ℕ → Outcome Delivery Lent
-planned h ns out r acting = came (decidedBy r (getD ns (speakerIn r) nobody) acting h out) ns
+abbrev planned : Message → List Node → List ℕ → Replier → ℕ → Outcome Delivery Lent
+planned h ns out r acting = came (decideBy r (getD ns (speakerIn r) nobody) acting h out) ns
 
-replier-is : (to : Address) (h : Heard) (ns : List Node) → replierTo h (setOf (flags (replies to) true ns)) (length ns) ≡ cond (isAnswered h) (replierIn to ns) None
+replier-is : (to : Address) (h : Message) (ns : List Node) → replierTo h (setOf (flagsFrom (doesReply to) true ns)) (length ns) ≡ cond (isAnswered h) (replierIn to ns) None
 unfolding replierTo replierIn
-replier-is to h ns = ap (λ (l : List ℕ). cond (isAnswered h) (replierOf l) None) (repliers-are to 0 true ns)
+replier-is to h ns = ap (λ (l : List ℕ). cond (isAnswered h) (searchOf l) None) (repliers-are to 0 true ns)
 
-said-is : (to : Address) (h : Heard) (ns : List Node) (out : List ℕ) → onSaid (saidBy h ns (cond (isAnswered h) (replierIn to ns) None)) to h ns out ≡ deliveredTo to h ns out
+said-is : (to : Address) (h : Message) (ns : List Node) (out : List ℕ) → onSaid (saidBy h ns (cond (isAnswered h) (replierIn to ns) None)) to h ns out ≡ deliveredTo to h ns out
 unfolding said deliveredTo
 said-is to h ns out = ap (λ (x : Said). onSaid x to h ns out) (sym (answered h ns (isAnswered h) (replierIn to ns)))
 
-actors-after : (to : Address) (h : Heard) (ns : List Node) → visited h (setOf (flags (acts to) true ns)) ns ≡ after to h ns
+actors-after : (to : Address) (h : Message) (ns : List Node) → actAll h (setOf (flagsFrom (doesAct to) true ns)) ns ≡ after to h ns
 unfolding after
 actors-after to h ns = actors-turn to h true ns
 
 -- a packet that was read, to a valid table
-read-plan : (to : Address) (h : Heard) (ns : List Node) (out : List ℕ) → length ns ≤ mostNodes
-    → planned h ns out (replierTo h (glancesOf (Whole to h) start ns .replying) (length ns)) (glancesOf (Whole to h) start ns .acting) ≡ deliveredTo to h ns out
+read-plan : (to : Address) (h : Message) (ns : List Node) (out : List ℕ) → length ns ≤ mostNodes
+    → planned h ns out (replierTo h (glancesOf (Whole to h) chainStart ns .replying) (length ns)) (glancesOf (Whole to h) chainStart ns .acting) ≡ deliveredTo to h ns out
 read-plan to h ns out b =
-    ap (λ (a : ℕ). planned h ns out (replierTo h (glancesOf (Whole to h) start ns .replying) (length ns)) a) (seen-acting to h ns b)
-    ∙ ap (λ (r : Replier). planned h ns out r (setOf (flags (acts to) true ns))) (ap (λ (x : ℕ). replierTo h x (length ns)) (seen-replying to h ns b) ∙ replier-is to h ns)
-    ∙ by-replier to h ns out (setOf (flags (acts to) true ns)) (actors-after to h ns) (cond (isAnswered h) (replierIn to ns) None)
+    ap (λ (a : ℕ). planned h ns out (replierTo h (glancesOf (Whole to h) chainStart ns .replying) (length ns)) a) (seen-acting to h ns b)
+    ∙ ap (λ (r : Replier). planned h ns out r (setOf (flagsFrom (doesAct to) true ns))) (ap (λ (x : ℕ). replierTo h x (length ns)) (seen-replying to h ns b) ∙ replier-is to h ns)
+    ∙ by-replier to h ns out (setOf (flagsFrom (doesAct to) true ns)) (actors-after to h ns) (cond (isAnswered h) (replierIn to ns) None)
     (chosen-below (isAnswered h) (replierIn to ns) (length ns) (replier-below to ns))
     ∙ said-is to h ns out
 
 -- by the frame
 framed-plan : (f : Framed) (p : List ℕ) (ns : List Node) (out : List ℕ) → length ns ≤ mostNodes
-    → came (decidedPlan (planBy (incomingBy f p) (glancesOf (incomingBy f p) start ns) (length ns)) (getD ns (speakerOf (planBy (incomingBy f p) (glancesOf (incomingBy f p) start ns) (length ns))) nobody) out) ns
+    → came (decidePlan (planBy (receiveBy f p) (glancesOf (receiveBy f p) chainStart ns) (length ns)) (getD ns (speakerOf (planBy (receiveBy f p) (glancesOf (receiveBy f p) chainStart ns) (length ns))) nobody) out) ns
     ≡ onFrame f p ns out
-framed-plan (framed.Whole to k n) p ns out b = read-plan to (heardAs k p) ns out b
+framed-plan (framed.Whole to k n) p ns out b = read-plan to (messageAs k p) ns out b
 framed-plan (framed.Refused why) p ns out b = refused-all why nobody ns out
 
 -- by the table
-tabled-plan : (c : Incoming) (t : Bool) (q : Plan) (ns : List Node) (out : List ℕ) (o : Outcome Delivery Lent) → (t ≡ true → came (decidedPlan q (getD ns (speakerOf q) nobody) out) ns ≡ o)
-    → came (decidedPlan (cond t q (Refuse Range)) (getD ns (speakerOf (cond t q (Refuse Range))) nobody) out) ns ≡ cond t o (refused Range ns out)
+tabled-plan : (c : Incoming) (t : Bool) (q : Plan) (ns : List Node) (out : List ℕ) (o : Outcome Delivery Lent) → (t ≡ true → came (decidePlan q (getD ns (speakerOf q) nobody) out) ns ≡ o)
+    → came (decidePlan (cond t q (Refuse Range)) (getD ns (speakerOf (cond t q (Refuse Range))) nobody) out) ns ≡ cond t o (refusedDelivery Range ns out)
 tabled-plan c true q ns out o f = f refl
 tabled-plan c false q ns out o f = refused-all Range nobody ns out
 
-pub delivers : (ns : List Node) (p out : List ℕ) → came (decidedOf (surveyOf (incomingOf p) ns) out) ns ≡ deliveredOn ns p out
-unfolding incomingOf planOf surveyOf deliveredOn valid
+pub delivers : (ns : List Node) (p out : List ℕ) → came (decideOf (surveyAll (receiveOf p) ns) out) ns ≡ deliverOf ns p out
+unfolding receiveOf planOf surveyAll deliverOf valid
 delivers ns p out =
-    let c = incomingBy (frameOf p) p in
-    rw (seen-sound c start ns)
-    (tabled-plan c (leb 1 (length ns) && leb (length ns) mostNodes && allSound ns) (planBy c (glancesOf c start ns) (length ns)) ns out (onFrame (frameOf p) p ns out)
-    (λ v. framed-plan (frameOf p) p ns out (leb-true (length ns) mostNodes (both (leb 1 (length ns)) _ (both _ (allSound ns) v .0) .1))))
+    let c = receiveBy (frameOf p) p in
+    rw (seen-ranged c chainStart ns)
+    (tabled-plan c (leb 1 (length ns) && leb (length ns) mostNodes && allRanged ns) (planBy c (glancesOf c chainStart ns) (length ns)) ns out (onFrame (frameOf p) p ns out)
+    (λ v. framed-plan (frameOf p) p ns out (leb-true (length ns) mostNodes (both (leb 1 (length ns)) _ (both _ (allRanged ns) v .0) .1))))
 
 pub joined : (ns : List Node) (p out : List ℕ) (c : Incoming) (s : Survey) (d : Decided) (left : List ℕ) (zs : List Node)
-    → c ≡ incomingOf p → s ≡ surveyOf c ns → record { answer = d; left = left } ≡ decidedOf s out → zs ≡ visited (d .heard) (d .acting) ns
-    → Lending deliveryNumber (d .answer) (record { nodes = zs; reply = left }) (deliveredOn ns p out)
+    → c ≡ receiveOf p → s ≡ surveyAll c ns → record { answer = d; left = left } ≡ decideOf s out → zs ≡ actAll (d .message) (d .acting) ns
+    → Lending deliveryNumber (d .answer) (record { nodes = zs; reply = left }) (deliverOf ns p out)
 joined ns p out c s d left zs e f g k =
-    lent (rw k (ap (λ (o : Outcome Decided (List ℕ)). came o ns) (g ∙ ap (λ (x : Survey). decidedOf x out) (f ∙ ap (λ (x : Incoming). surveyOf x ns) e)) ∙ delivers ns p out))
+    lent (rw k (ap (λ (o : Outcome Decided (List ℕ)). came o ns) (g ∙ ap (λ (x : Survey). decideOf x out) (f ∙ ap (λ (x : Incoming). surveyAll x ns) e)) ∙ delivers ns p out))

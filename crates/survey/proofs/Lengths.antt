@@ -9,26 +9,26 @@ use lib.ListN.{length, getD, take}
 use lib.Seq.{length-take-le, getD-take}
 use borrow.Author.Tests.{lt-ltb, le-ltb}
 use Rattle.wire.specs.Promise.{Outcome}
-use Rattle.buffer.specs.Buffer.{place}
+use Rattle.buffer.specs.Buffer.{written}
 use Rattle.wire.specs.declared.address.Address.{Address}
 use Rattle.wire.specs.declared.refusal.Refusal.the-variants.{Short, Header, Long, Room, Range}
 use Rattle.wire.proofs.Impossible.{impossible}
 use Rattle.buffer.specs.declared.Built.{Built}
 use Rattle.buffer.specs.declared.Built.the-variants as built
-use Rattle.buffer.proofs.Writing.{place-long}
+use Rattle.buffer.proofs.Writing.{written-long}
 use Rattle.packet.specs.Packet.{countOf, partsOf, frameOf}
 use Rattle.packet.specs.declared.Framed.{Framed}
 use Rattle.packet.specs.declared.Framed.the-variants as framed
 use Rattle.node.specs.declared.state.Node.{Node}
-use Rattle.heard.specs.declared.Heard.{Heard}
+use Rattle.message.specs.declared.Message.{Message}
 use Rattle.reply.specs.Reply.{maskFor}
 use Rattle.mask.proofs.Counts.{size-range}
 use Rattle.reply.proofs.Replies.{reply-length}
 use Rattle.survey.specs.declared.decision.Delivery.{Delivery}
 use Rattle.survey.specs.declared.decision.Delivery.the-variants.{Replied, Refused}
-use Rattle.survey.specs.One.{heardAs}
-use Rattle.survey.specs.Chain.{Said, silence, reply, clash, said, blank}
-use Rattle.survey.specs.Delivery.{Lent, valid, onBuilt, onSaid, onFrame, deliveredTo, deliveredOn, refused}
+use Rattle.survey.specs.One.{messageAs}
+use Rattle.survey.specs.Chain.{Said, silence, reply, collided, said, blankNode}
+use Rattle.survey.specs.Delivery.{Lent, valid, onBuilt, onSaid, onFrame, deliveredTo, deliverOf, refusedDelivery}
 use Rattle.survey.proofs.Meaning.{said-says}
 
 -- ---- a packet of 20 bytes or more is refused for what its first 20 are refused for: no packet has more than 19
@@ -46,8 +46,8 @@ on-overlong : (t : Bool) (p q : List ℕ) (ns : List Node) (out : List ℕ)
 on-overlong true p q ns out = refl
 on-overlong false p q ns out = refl
 
-pub deliver-long : (ns : List Node) (p out : List ℕ) → 20 ≤ length p → getD p 2 0 < 256 → deliveredOn ns (take 20 p) out ≡ deliveredOn ns p out
-unfolding deliveredOn
+pub deliver-long : (ns : List Node) (p out : List ℕ) → 20 ≤ length p → getD p 2 0 < 256 → deliverOf ns (take 20 p) out ≡ deliverOf ns p out
+unfolding deliverOf
 deliver-long ns p out h b =
     let n : length (take 20 p) ≡ 20 = length-take-le 20 p h in
     let b2 : getD (take 20 p) 2 0 ≡ getD p 2 0 = getD-take 20 p 2 0 (omega arith) in
@@ -59,12 +59,12 @@ deliver-long ns p out h b =
 
 -- what holds of the three refusals holds of such a delivery
 pub deliver-brief : (ns : List Node) (p out : List ℕ) → length p < 4 → (Q : Outcome Delivery Lent → Type 0)
-    → Q (refused Short ns out) → Q (refused Header ns out) → Q (refused Range ns out) → Q (deliveredOn ns p out)
-unfolding deliveredOn frameOf
+    → Q (refusedDelivery Short ns out) → Q (refusedDelivery Header ns out) → Q (refusedDelivery Range ns out) → Q (deliverOf ns p out)
+unfolding deliverOf frameOf
 deliver-brief ns p out h Q short header range =
     rw (lt-ltb (length p) 4 h) (go (valid ns) (ltb (length p) 1) (not (eqb (getD p 0 0) 0xAA)))
   where
-    go : (v e n : Bool) → Q (cond v (onFrame (cond e (framed.Refused Short) (cond n (framed.Refused Header) (framed.Refused Short))) p ns out) (refused Range ns out))
+    go : (v e n : Bool) → Q (cond v (onFrame (cond e (framed.Refused Short) (cond n (framed.Refused Header) (framed.Refused Short))) p ns out) (refusedDelivery Range ns out))
     go false e n = range
     go true true n = short
     go true false true = header
@@ -72,25 +72,25 @@ deliver-brief ns p out h Q short header range =
 
 -- ---- the reply buffer keeps its length
 
-built-left : (b : Built) (to : Address) (h : Heard) (ns : List Node) (out : List ℕ) → onBuilt b to h ns out .left .reply ≡ out
+built-left : (b : Built) (to : Address) (h : Message) (ns : List Node) (out : List ℕ) → onBuilt b to h ns out .left .reply ≡ out
 built-left (built.Bytes n) to h ns out = refl
 built-left (built.Refused why) to h ns out = refl
 
-said-left : (s : Said) (to : Address) (h : Heard) (ns : List Node) (out : List ℕ) → length (onSaid s to h ns out .left .reply) ≡ length out
+said-left : (s : Said) (to : Address) (h : Message) (ns : List Node) (out : List ℕ) → length (onSaid s to h ns out .left .reply) ≡ length out
 said-left silence to h ns out = refl
-said-left (reply r) to h ns out = ap length (built-left (place r out .answer) to h ns (place r out .left)) ∙ place-long r out
-said-left clash to h ns out = refl
+said-left (reply r) to h ns out = ap length (built-left (written r out .answer) to h ns (written r out .left)) ∙ written-long r out
+said-left collided to h ns out = refl
 
 frame-left : (f : Framed) (p : List ℕ) (ns : List Node) (out : List ℕ) → length (onFrame f p ns out .left .reply) ≡ length out
 unfolding deliveredTo
-frame-left (framed.Whole to k n) p ns out = said-left (said to (heardAs k p) ns) to (heardAs k p) ns out
+frame-left (framed.Whole to k n) p ns out = said-left (said to (messageAs k p) ns) to (messageAs k p) ns out
 frame-left (framed.Refused why) p ns out = refl
 
-pub deliver-left : (ns : List Node) (p out : List ℕ) → length (deliveredOn ns p out .left .reply) ≡ length out
-unfolding deliveredOn
+pub deliver-left : (ns : List Node) (p out : List ℕ) → length (deliverOf ns p out .left .reply) ≡ length out
+unfolding deliverOf
 deliver-left ns p out = go (valid ns)
   where
-    go : (v : Bool) → length (cond v (onFrame (frameOf p) p ns out) (refused Range ns out) .left .reply) ≡ length out
+    go : (v : Bool) → length (cond v (onFrame (frameOf p) p ns out) (refusedDelivery Range ns out) .left .reply) ≡ length out
     go true = frame-left (frameOf p) p ns out
     go false = refl
 
@@ -112,31 +112,31 @@ frame-whys p = go (ltb (length p) 1) (not (eqb (getD p 0 0) 0xAA)) (ltb (length 
     go false false false false false x = impossible cc
 
 module _ (ns : List Node) (out : List ℕ) (room : 19 ≤ length out) where
-  reply-fits : (to : Address) (h : Heard) (r : List ℕ) → said to h ns ≡ reply r → length r ≤ length out
+  reply-fits : (to : Address) (h : Message) (r : List ℕ) → said to h ns ≡ reply r → length r ≤ length out
   reply-fits to h r e =
       let q = said-says to h ns r e in
-      let n = getD ns (q .at) blank in
+      let n = getD ns (q .at) blankNode in
       rw (q .bytes) (omega (arith, reply-length h n, size-range (maskFor h n) .1))
 
-  said-roomy : (s : Said) (to : Address) (h : Heard) → said to h ns ≡ s → onSaid s to h ns out .answer ≡ Refused Room → ⊥
-  unfolding place
+  said-roomy : (s : Said) (to : Address) (h : Message) → said to h ns ≡ s → onSaid s to h ns out .answer ≡ Refused Room → ⊥
+  unfolding written
   said-roomy silence to h e x = impossible cc
   said-roomy (reply r) to h e x =
       let y : Replied (length r) ≡ Refused Room = rw (le-ltb (length out) (length r) (reply-fits to h r e)) at x in
       impossible cc
-  said-roomy clash to h e x = impossible cc
+  said-roomy collided to h e x = impossible cc
 
   frame-roomy : (f : Framed) (p : List ℕ) → frameOf p ≡ f → onFrame f p ns out .answer ≡ Refused Room → ⊥
   unfolding deliveredTo
-  frame-roomy (framed.Whole to k n) p e x = said-roomy (said to (heardAs k p) ns) to (heardAs k p) refl x
+  frame-roomy (framed.Whole to k n) p e x = said-roomy (said to (messageAs k p) ns) to (messageAs k p) refl x
   frame-roomy (framed.Refused why) p e x =
       let y : why ≡ Room = cc in
       frame-whys p (e ∙ ap framed.Refused y)
 
-  pub never-five : (p : List ℕ) → deliveredOn ns p out .answer ≡ Refused Room → ⊥
-  unfolding deliveredOn
+  pub never-five : (p : List ℕ) → deliverOf ns p out .answer ≡ Refused Room → ⊥
+  unfolding deliverOf
   never-five p = go (valid ns)
     where
-      go : (v : Bool) → cond v (onFrame (frameOf p) p ns out) (refused Range ns out) .answer ≡ Refused Room → ⊥
+      go : (v : Bool) → cond v (onFrame (frameOf p) p ns out) (refusedDelivery Range ns out) .answer ≡ Refused Room → ⊥
       go true x = frame-roomy (frameOf p) p refl x
       go false x = impossible cc

@@ -1,12 +1,12 @@
-pub mod Ones
-pub mod Members
-pub mod Searching
+mod Ones
+mod Members
+mod Searching
 pub mod Visiting
-pub mod Surveying
-pub mod Deciding
+mod Surveying
+mod Deciding
 pub mod Meaning
-pub mod Clashes
-pub mod Flags
+pub mod Collisions
+mod Flags
 pub mod Joining
 pub mod Refusals
 pub mod Lengths

@@ -1,4 +1,4 @@
--- What a packet means at each index of the chain, for the layers above: who hears, what stands there afterwards, whose reply is heard.
+-- What a packet means at each index of the chain, for the layers above: who hears, what stands there afterwards, whose reply is said.
 use Prim.Native.Nat.{ℕ, zero, suc, _+_, _<_}
 use mathlib.Core.Bool.{Bool, true, false, cond, _&&_}
 use mathlib.Core.List.{List, [], _∷_}
@@ -10,43 +10,43 @@ use Rattle.wire.specs.declared.address.Address.{Address}
 use Rattle.wire.proofs.Choice.{same}
 use Rattle.wire.proofs.Impossible.{impossible}
 use Rattle.node.specs.declared.state.Node.{Node}
-use Rattle.heard.specs.declared.Heard.{Heard}
-use Rattle.heard.specs.declared.Heard.the-variants.{Other, Spoilt}
-use Rattle.heard.specs.Heard.{isAnswered}
-use Rattle.node.specs.Node.{taken}
+use Rattle.message.specs.declared.Message.{Message}
+use Rattle.message.specs.declared.Message.the-variants.{Other, Spoilt}
+use Rattle.message.specs.Message.{isAnswered}
+use Rattle.node.specs.Node.{takeOf}
 use Rattle.reply.specs.Reply.{replyOf}
 use Rattle.survey.specs.declared.sets.Replier.{Replier}
 use Rattle.survey.specs.declared.sets.Replier.the-variants.{None, One, Several}
-use Rattle.survey.specs.One.{hears, meant, acts, replies, turned}
-use Rattle.survey.specs.Chain.{turnedFrom, after, repliersFrom, replierOf, replierIn, Said, silence, reply, said, saidBy, blank, nearAt, hearsAt, repliesAt}
+use Rattle.survey.specs.One.{doesHear, isMeant, doesAct, doesReply, turned}
+use Rattle.survey.specs.Chain.{turnedFrom, after, repliersFrom, searchOf, replierIn, Said, silence, reply, said, saidBy, blankNode, nearAt, hearsAt, repliesAt}
 
 -- ---- the nodes afterwards
 
-length-from : (to : Address) (h : Heard) (near : Bool) (l : List Node) → length (turnedFrom to h near l) ≡ length l
+length-from : (to : Address) (h : Message) (near : Bool) (l : List Node) → length (turnedFrom to h near l) ≡ length l
 length-from to h near [] = refl
 length-from to h near (n ∷ ns) = ap suc (length-from to h (n .addressed) ns)
 
-pub length-after : (to : Address) (h : Heard) (l : List Node) → length (after to h l) ≡ length l
+pub length-after : (to : Address) (h : Message) (l : List Node) → length (after to h l) ≡ length l
 unfolding after
 length-after to h l = length-from to h true l
 
-turned-at : (to : Address) (h : Heard) (near : Bool) (l : List Node) (i : ℕ) → i < length l
-    → getD (turnedFrom to h near l) i blank ≡ turned to h (nearAt near l i) (getD l i blank)
+turned-at : (to : Address) (h : Message) (near : Bool) (l : List Node) (i : ℕ) → i < length l
+    → getD (turnedFrom to h near l) i blankNode ≡ turned to h (nearAt near l i) (getD l i blankNode)
 turned-at to h near [] i b = absurd (not-suc-le-zero b)
 turned-at to h near (n ∷ ns) zero b = refl
 turned-at to h near (n ∷ ns) (suc zero) b = turned-at to h (n .addressed) ns zero (le-of-suc-le-suc b)
 turned-at to h near (n ∷ ns) (suc (suc i)) b = turned-at to h (n .addressed) ns (suc i) (le-of-suc-le-suc b)
 
 -- a node that hears and is meant has taken the packet; every other stands as it stood
-pub after-at : (to : Address) (h : Heard) (l : List Node) (i : ℕ) → i < length l
-    → getD (after to h l) i blank ≡ cond (hearsAt l i && meant to (getD l i blank .settings .place)) (taken h (getD l i blank)) (getD l i blank)
-unfolding after turned acts
+pub after-at : (to : Address) (h : Message) (l : List Node) (i : ℕ) → i < length l
+    → getD (after to h l) i blankNode ≡ cond (hearsAt l i && isMeant to (getD l i blankNode .settings .place)) (takeOf h (getD l i blankNode)) (getD l i blankNode)
+unfolding after turned doesAct
 after-at to h l i b = turned-at to h true l i b
 
-unmoved : (to : Address) (h : Heard) → ((n : Node) → taken h n ≡ n) → (near : Bool) (l : List Node) → turnedFrom to h near l ≡ l
-unfolding turned acts
+unmoved : (to : Address) (h : Message) → ((n : Node) → takeOf h n ≡ n) → (near : Bool) (l : List Node) → turnedFrom to h near l ≡ l
+unfolding turned doesAct
 unmoved to h f near [] = refl
-unmoved to h f near (n ∷ ns) = rw (f n, same (hears near (n .addressed) && meant to (n .settings .place)) n, unmoved to h f (n .addressed) ns)
+unmoved to h f near (n ∷ ns) = rw (f n, same (doesHear near (n .addressed) && isMeant to (n .settings .place)) n, unmoved to h f (n .addressed) ns)
 
 -- a wrong sum, and another command, leave all nodes
 pub spoilt-stays : (to : Address) (l : List Node) → after to Spoilt l ≡ l
@@ -57,55 +57,55 @@ pub other-stays : (to : Address) (l : List Node) → after to Other l ≡ l
 unfolding after
 other-stays to l = unmoved to Other (λ n. refl) true l
 
--- ---- what is heard on the line
+-- ---- what is said on the line
 
 -- what holds of each node and its `near`, behind the first node
 behind : (P : ℕ → Bool → Node → Type 0) (near : Bool) (n : Node) (ns : List Node)
-    → ((j : ℕ) → j < suc (length ns) → P j (nearAt near (n ∷ ns) j) (getD (n ∷ ns) j blank))
-    → (j : ℕ) → j < length ns → P (suc j) (nearAt (n .addressed) ns j) (getD ns j blank)
+    → ((j : ℕ) → j < suc (length ns) → P j (nearAt near (n ∷ ns) j) (getD (n ∷ ns) j blankNode))
+    → (j : ℕ) → j < length ns → P (suc j) (nearAt (n .addressed) ns j) (getD ns j blankNode)
 behind P near n ns f zero b = f (suc zero) (omega arith)
 behind P near n ns f (suc j) b = f (suc (suc j)) (omega arith)
 
 -- nobody replies
 quiet-from : (to : Address) (i : ℕ) (near : Bool) (l : List Node)
-    → ((j : ℕ) → j < length l → replies to (nearAt near l j) (getD l j blank) ≡ false) → repliersFrom to i near l ≡ []
+    → ((j : ℕ) → j < length l → doesReply to (nearAt near l j) (getD l j blankNode) ≡ false) → repliersFrom to i near l ≡ []
 quiet-from to i near [] f = refl
 quiet-from to i near (n ∷ ns) f =
-    rw (f zero (omega arith)) (quiet-from to (suc i) (n .addressed) ns (behind (λ j b m. replies to b m ≡ false) near n ns f))
+    rw (f zero (omega arith)) (quiet-from to (suc i) (n .addressed) ns (behind (λ j b m. doesReply to b m ≡ false) near n ns f))
 
 at-suc : (to : Address) (near : Bool) (n : Node) (ns : List Node) (j : ℕ)
-    → replies to (nearAt near (n ∷ ns) (suc j)) (getD (n ∷ ns) (suc j) blank) ≡ true → replies to (nearAt (n .addressed) ns j) (getD ns j blank) ≡ true
+    → doesReply to (nearAt near (n ∷ ns) (suc j)) (getD (n ∷ ns) (suc j) blankNode) ≡ true → doesReply to (nearAt (n .addressed) ns j) (getD ns j blankNode) ≡ true
 at-suc to near n ns zero y = y
 at-suc to near n ns (suc j) y = y
 
 -- node j alone replies
-one-from : (to : Address) (i : ℕ) (near : Bool) (l : List Node) (j : ℕ) → j < length l → replies to (nearAt near l j) (getD l j blank) ≡ true
-    → ((k : ℕ) → k < length l → (k ≡ j → ⊥) → replies to (nearAt near l k) (getD l k blank) ≡ false) → repliersFrom to i near l ≡ (i + j) ∷ []
+one-from : (to : Address) (i : ℕ) (near : Bool) (l : List Node) (j : ℕ) → j < length l → doesReply to (nearAt near l j) (getD l j blankNode) ≡ true
+    → ((k : ℕ) → k < length l → (k ≡ j → ⊥) → doesReply to (nearAt near l k) (getD l k blankNode) ≡ false) → repliersFrom to i near l ≡ (i + j) ∷ []
 one-from to i near [] j b y f = absurd (not-suc-le-zero b)
 one-from to i near (n ∷ ns) zero b y f =
-    rw (y, quiet-from to (suc i) (n .addressed) ns (λ k c. behind (λ k b m. (k ≡ 0 → ⊥) → replies to b m ≡ false) near n ns f k c (λ e. omega arith)), add-zero i)
+    rw (y, quiet-from to (suc i) (n .addressed) ns (λ k c. behind (λ k b m. (k ≡ 0 → ⊥) → doesReply to b m ≡ false) near n ns f k c (λ e. omega arith)), add-zero i)
 one-from to i near (n ∷ ns) (suc j) b y f =
     rw (f zero (omega arith) (λ e. omega arith), add-suc i j, ← (suc-add i j))
     (one-from to (suc i) (n .addressed) ns j (le-of-suc-le-suc b) (at-suc to near n ns j y)
-    (λ k c d. behind (λ k b m. (k ≡ suc j → ⊥) → replies to b m ≡ false) near n ns f k c (λ e. d (omega arith))))
+    (λ k c d. behind (λ k b m. (k ≡ suc j → ⊥) → doesReply to b m ≡ false) near n ns f k c (λ e. d (omega arith))))
 
 nothing : (t : Bool) → cond t silence silence ≡ silence
 nothing true = refl
 nothing false = refl
 
--- if nobody hears and answers, nothing is heard; nor after an intact Hard Reset
-pub said-none : (to : Address) (h : Heard) (l : List Node) → ((j : ℕ) → j < length l → repliesAt to l j ≡ false) → said to h l ≡ silence
-unfolding said replierIn replies
+-- if nobody hears and answers, nothing is said; nor after an intact Hard Reset
+pub said-none : (to : Address) (h : Message) (l : List Node) → ((j : ℕ) → j < length l → repliesAt to l j ≡ false) → said to h l ≡ silence
+unfolding said replierIn doesReply
 said-none to h l f = rw (quiet-from to 0 true l f) (nothing (isAnswered h))
 
-pub said-reset : (to : Address) (h : Heard) (l : List Node) → isAnswered h ≡ false → said to h l ≡ silence
+pub said-reset : (to : Address) (h : Message) (l : List Node) → isAnswered h ≡ false → said to h l ≡ silence
 unfolding said
 said-reset to h l n = rw n
 
--- if one node hears and answers, and no other, its reply is heard
-pub said-one : (to : Address) (h : Heard) (l : List Node) (j : ℕ) → isAnswered h ≡ true → j < length l → repliesAt to l j ≡ true
-    → ((k : ℕ) → k < length l → (k ≡ j → ⊥) → repliesAt to l k ≡ false) → said to h l ≡ reply (replyOf h (getD l j blank))
-unfolding said replierIn replies
+-- if one node hears and answers, and no other, its reply is said
+pub said-one : (to : Address) (h : Message) (l : List Node) (j : ℕ) → isAnswered h ≡ true → j < length l → repliesAt to l j ≡ true
+    → ((k : ℕ) → k < length l → (k ≡ j → ⊥) → repliesAt to l k ≡ false) → said to h l ≡ reply (replyOf h (getD l j blankNode))
+unfolding said replierIn doesReply
 said-one to h l j a b y f = rw (a, one-from to 0 true l j b y f, zero-add j)
 
 -- who was found
@@ -113,7 +113,7 @@ pub record Found (to : Address) (near : Bool) (l : List Node) (i m : ℕ) : Type
   pub at : ℕ
   pub index : m ≡ i + at
   pub inside : at < length l
-  pub answering : replies to (nearAt near l at) (getD l at blank) ≡ true
+  pub answering : doesReply to (nearAt near l at) (getD l at blankNode) ≡ true
 
 shift : (to : Address) (near : Bool) (n : Node) (ns : List Node) (i m : ℕ) → Found to (n .addressed) ns (suc i) m → Found to near (n ∷ ns) i m
 shift to near n ns i m f = record {
@@ -122,42 +122,42 @@ shift to near n ns i m f = record {
   inside = omega (arith, f .inside);
   answering = back (f .at) (f .answering);
 } where
-  back : (j : ℕ) → replies to (nearAt (n .addressed) ns j) (getD ns j blank) ≡ true → replies to (nearAt near (n ∷ ns) (suc j)) (getD (n ∷ ns) (suc j) blank) ≡ true
+  back : (j : ℕ) → doesReply to (nearAt (n .addressed) ns j) (getD ns j blankNode) ≡ true → doesReply to (nearAt near (n ∷ ns) (suc j)) (getD (n ∷ ns) (suc j) blankNode) ≡ true
   back zero y = y
   back (suc j) y = y
 
 pub none-one : (m : ℕ) → None ≡ One m → ⊥
 none-one m e = impossible cc
 
-alone : (i m : ℕ) (rest : List ℕ) → replierOf (i ∷ rest) ≡ One m → m ≡ i
+alone : (i m : ℕ) (rest : List ℕ) → searchOf (i ∷ rest) ≡ One m → m ≡ i
 alone i m [] e = cc
 alone i m (x ∷ rest) e = impossible cc
 
-found-step : (to : Address) (near : Bool) (n : Node) (ns : List Node) (i m : ℕ) (t : Bool) → replies to near n ≡ t
-    → (replierOf (repliersFrom to (suc i) (n .addressed) ns) ≡ One m → Found to (n .addressed) ns (suc i) m)
-    → replierOf (cond t (i ∷ repliersFrom to (suc i) (n .addressed) ns) (repliersFrom to (suc i) (n .addressed) ns)) ≡ One m → Found to near (n ∷ ns) i m
+found-step : (to : Address) (near : Bool) (n : Node) (ns : List Node) (i m : ℕ) (t : Bool) → doesReply to near n ≡ t
+    → (searchOf (repliersFrom to (suc i) (n .addressed) ns) ≡ One m → Found to (n .addressed) ns (suc i) m)
+    → searchOf (cond t (i ∷ repliersFrom to (suc i) (n .addressed) ns) (repliersFrom to (suc i) (n .addressed) ns)) ≡ One m → Found to near (n ∷ ns) i m
 found-step to near n ns i m true y f e =
     record { at = 0; index = alone i m (repliersFrom to (suc i) (n .addressed) ns) e ∙ sym (add-zero i); inside = omega arith; answering = y }
 found-step to near n ns i m false y f e = shift to near n ns i m (f e)
 
-found-from : (to : Address) (i : ℕ) (near : Bool) (l : List Node) (m : ℕ) → replierOf (repliersFrom to i near l) ≡ One m → Found to near l i m
+found-from : (to : Address) (i : ℕ) (near : Bool) (l : List Node) (m : ℕ) → searchOf (repliersFrom to i near l) ≡ One m → Found to near l i m
 found-from to i near [] m e = absurd (none-one m e)
-found-from to i near (n ∷ ns) m e = found-step to near n ns i m (replies to near n) refl (found-from to (suc i) (n .addressed) ns m) e
+found-from to i near (n ∷ ns) m e = found-step to near n ns i m (doesReply to near n) refl (found-from to (suc i) (n .addressed) ns m) e
 
 pub replier-below : (to : Address) (l : List Node) (i : ℕ) → replierIn to l ≡ One i → i < length l
 unfolding replierIn
 replier-below to l i e = let f = found-from to 0 true l i e in omega (arith, f .index, f .inside)
 
 -- the one reply is that of a node of the chain that hears and is called
-pub record Replying (to : Address) (h : Heard) (l : List Node) (r : List ℕ) : Type 0 where
+pub record Replying (to : Address) (h : Message) (l : List Node) (r : List ℕ) : Type 0 where
   pub at : ℕ
   pub inside : at < length l
   pub calling : repliesAt to l at ≡ true
   pub answered : isAnswered h ≡ true
-  pub bytes : r ≡ replyOf h (getD l at blank)
+  pub bytes : r ≡ replyOf h (getD l at blankNode)
 
-replying : (to : Address) (h : Heard) (l : List Node) (r : List ℕ) (w : Replier) → replierIn to l ≡ w → isAnswered h ≡ true → saidBy h l w ≡ reply r → Replying to h l r
-unfolding replierIn replies
+replying : (to : Address) (h : Message) (l : List Node) (r : List ℕ) (w : Replier) → replierIn to l ≡ w → isAnswered h ≡ true → saidBy h l w ≡ reply r → Replying to h l r
+unfolding replierIn doesReply
 replying to h l r None q a e = impossible cc
 replying to h l r (One m) q a e =
     let f = found-from to 0 true l m q in
@@ -169,7 +169,7 @@ answered-by : (t : Bool) (s : Said) (r : List ℕ) → cond t s silence ≡ repl
 answered-by true s r e = (refl, e)
 answered-by false s r e = impossible cc
 
-pub said-says : (to : Address) (h : Heard) (l : List Node) (r : List ℕ) → said to h l ≡ reply r → Replying to h l r
+pub said-says : (to : Address) (h : Message) (l : List Node) (r : List ℕ) → said to h l ≡ reply r → Replying to h l r
 unfolding said
 said-says to h l r e =
     let p = answered-by (isAnswered h) (saidBy h l (replierIn to l)) r e in

@@ -5,7 +5,7 @@ use mathlib.Core.Path.{_≡_, refl, sym, ap, _∙_, subst}
 use native.Mathlib.Omega.{arith}
 use native.Mathlib.Nat.{pow-suc}
 use lib.Count.{trailingZeros, under, trailing-le}
-use Rattle.survey.specs.Sets.{joined, firstOf, withoutFirst}
+use Rattle.survey.specs.Sets.{joinOf, firstOf, withoutFirst}
 
 -- ---- halving, which takes one digit off
 
@@ -74,5 +74,5 @@ module _ (s : ℕ) (some : s ≡ 0 → ⊥) (fits : s < 2 ^ 32) where
 
 -- ---- joining
 
-pub joined-yes : (s w r : ℕ) (b : Bool) → r ≡ (s + w) % 2 ^ 32 → b ≡ true → r ≡ joined s w b
+pub joined-yes : (s w r : ℕ) (b : Bool) → r ≡ (s + w) % 2 ^ 32 → b ≡ true → r ≡ joinOf s w b
 joined-yes s w r b e f = rw f e

@@ -5,7 +5,7 @@ use mathlib.Core.List.{List}
 use mathlib.Core.Path.{_≡_, refl}
 use Rattle.wire.specs.Promise.{Outcome}
 use Rattle.wire.specs.Numbers.{done, collision}
-use Rattle.buffer.specs.Buffer.{place, builtNumber}
+use Rattle.buffer.specs.Buffer.{written, builtNumber}
 use Rattle.wire.specs.declared.address.Address.{Address}
 use Rattle.wire.specs.declared.refusal.Refusal.the-variants.{Range}
 use Rattle.buffer.specs.declared.Built.{Built}
@@ -15,36 +15,36 @@ use Rattle.packet.specs.Packet.{frameOf}
 use Rattle.packet.specs.declared.Framed.{Framed}
 use Rattle.packet.specs.declared.Framed.the-variants as framed
 use Rattle.node.specs.declared.state.Node.{Node}
-use Rattle.heard.specs.declared.Heard.{Heard}
+use Rattle.message.specs.declared.Message.{Message}
 use Rattle.survey.specs.declared.decision.Delivery.{Delivery}
-use Rattle.survey.specs.One.{heardAs}
-use Rattle.survey.specs.Chain.{Said, silence, reply, clash, said}
-use Rattle.survey.specs.Delivery.{Lent, valid, refused, onBuilt, onSaid, deliveredTo, onFrame, deliveredOn, deliveryNumber}
+use Rattle.survey.specs.One.{messageAs}
+use Rattle.survey.specs.Chain.{Said, silence, reply, collided, said}
+use Rattle.survey.specs.Delivery.{Lent, valid, refusedDelivery, onBuilt, onSaid, deliveredTo, onFrame, deliverOf, deliveryNumber}
 
 -- o leaves the nodes ns and the buffer `out` as they stood, unless its number is 0 or 13
 abbrev pub Spares : List Node → List ℕ → Outcome Delivery Lent → Type 0
 Spares ns out o =
     (deliveryNumber (o .answer) ≡ done → ⊥) → (deliveryNumber (o .answer) ≡ collision → ⊥) → (o .left .nodes ≡ ns) × (o .left .reply ≡ out)
 
-built-spares : (to : Address) (h : Heard) (ns : List Node) (out left : List ℕ) (b : Built) → ((builtNumber b ≡ done → ⊥) → left ≡ out)
+built-spares : (to : Address) (h : Message) (ns : List Node) (out left : List ℕ) (b : Built) → ((builtNumber b ≡ done → ⊥) → left ≡ out)
     → Spares ns out (onBuilt b to h ns left)
 built-spares to h ns out left (built.Bytes n) f d k = absurd (d refl)
 built-spares to h ns out left (built.Refused why) f d k = (refl, f d)
 
-said-spares : (to : Address) (h : Heard) (ns : List Node) (out : List ℕ) (s : Said) → Spares ns out (onSaid s to h ns out)
+said-spares : (to : Address) (h : Message) (ns : List Node) (out : List ℕ) (s : Said) → Spares ns out (onSaid s to h ns out)
 said-spares to h ns out silence d k = absurd (d refl)
-said-spares to h ns out (reply r) d k = built-spares to h ns out (place r out .left) (place r out .answer) (wire.place-spares r out) d k
-said-spares to h ns out clash d k = absurd (k refl)
+said-spares to h ns out (reply r) d k = built-spares to h ns out (written r out .left) (written r out .answer) (wire.written-spares r out) d k
+said-spares to h ns out collided d k = absurd (k refl)
 
 frame-spares : (ns : List Node) (p out : List ℕ) (f : Framed) → Spares ns out (onFrame f p ns out)
 unfolding deliveredTo
-frame-spares ns p out (framed.Whole to c n) = said-spares to (heardAs c p) ns out (said to (heardAs c p) ns)
+frame-spares ns p out (framed.Whole to c n) = said-spares to (messageAs c p) ns out (said to (messageAs c p) ns)
 frame-spares ns p out (framed.Refused why) = λ d k. (refl, refl)
 
-valid-spares : (v : Bool) (ns : List Node) (p out : List ℕ) → Spares ns out (cond v (onFrame (frameOf p) p ns out) (refused Range ns out))
+valid-spares : (v : Bool) (ns : List Node) (p out : List ℕ) → Spares ns out (cond v (onFrame (frameOf p) p ns out) (refusedDelivery Range ns out))
 valid-spares true ns p out = frame-spares ns p out (frameOf p)
 valid-spares false ns p out = λ d k. (refl, refl)
 
-pub deliver-spares : (ns : List Node) (p out : List ℕ) → Spares ns out (deliveredOn ns p out)
-unfolding deliveredOn
+pub deliver-spares : (ns : List Node) (p out : List ℕ) → Spares ns out (deliverOf ns p out)
+unfolding deliverOf
 deliver-spares ns p out = valid-spares (valid ns) ns p out

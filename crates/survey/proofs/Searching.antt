@@ -11,7 +11,7 @@ use denote.Enum.Declared.{tagOf}
 use Rattle.survey.specs.declared.sets.Replier.{Replier}
 use Rattle.survey.specs.declared.sets.Replier.the-variants.{None, One, Several}
 use Rattle.survey.specs.Sets.{membersFrom, members}
-use Rattle.survey.specs.Chain.{replierOf}
+use Rattle.survey.specs.Chain.{searchOf}
 use Rattle.survey.proofs.sets.Replier.{the-type}
 
 none-from : (k i : ℕ) → membersFrom k i 0 ≡ []
@@ -24,12 +24,12 @@ kept None = []
 kept (One i) = i ∷ []
 kept Several = 0 ∷ 0 ∷ []
 
-kept-is : (r : Replier) → r ≡ replierOf (kept r ++ [])
+kept-is : (r : Replier) → r ≡ searchOf (kept r ++ [])
 kept-is None = refl
 kept-is (One i) = refl
 kept-is Several = refl
 
-second : (r : Replier) (x : ℕ) (xs : List ℕ) → (r ≡ None → ⊥) → Several ≡ replierOf (kept r ++ (x ∷ xs))
+second : (r : Replier) (x : ℕ) (xs : List ℕ) → (r ≡ None → ⊥) → Several ≡ searchOf (kept r ++ (x ∷ xs))
 second None x xs h = absurd (h refl)
 second (One i) x xs h = refl
 second Several x xs h = refl
@@ -42,13 +42,13 @@ not-none r w n =
 
 -- found so far, before node i of n, with `rest` the repliers from there on, of those in s
 abbrev pub Going : ℕ → ℕ → ℕ → ℕ → Replier → Type 0
-Going s n rest i found = replierOf (kept found ++ membersFrom (n - i) i rest) ≡ replierOf (members n s)
+Going s n rest i found = searchOf (kept found ++ membersFrom (n - i) i rest) ≡ searchOf (members n s)
 
 pub search-start : (s n : ℕ) → Going s n s 0 None
 search-start s n = rw sub-zero
 
 module _ (s n rest i : ℕ) (r : Replier) (inv : Going s n rest i r) where
-  pub search-end : n ≤ i → r ≡ replierOf (members n s)
+  pub search-end : n ≤ i → r ≡ searchOf (members n s)
   search-end h =
       let e : n - i ≡ 0 = omega arith in
       kept-is r ∙ (rw e at inv)
@@ -67,8 +67,8 @@ module _ (s n rest i : ℕ) (r : Replier) (inv : Going s n rest i r) where
       search-first r′ e f = rw (f, add-one) (rw (e, one-less, replying) at inv)
 
       -- nobody behind node i replies
-      pub search-last : r ≡ None → rest ≡ 1 → One i ≡ replierOf (members n s)
+      pub search-last : r ≡ None → rest ≡ 1 → One i ≡ searchOf (members n s)
       search-last e f = rw (none-from (n - suc i) (suc i)) at (rw (e, one-less, f) at inv)
 
-      pub search-second : (r ≡ None → ⊥) → Several ≡ replierOf (members n s)
+      pub search-second : (r ≡ None → ⊥) → Several ≡ searchOf (members n s)
       search-second h = second r i (membersFrom (n - suc i) (suc i) (rest / 2)) h ∙ (rw (one-less, replying) at inv)

@@ -8,7 +8,7 @@ use Rattle.wire.proofs.OneResult.{OneResult}
 use Rattle.survey.specs.declared.decision.Decided.{Decided}
 use Rattle.survey.proofs.sets.first.Reads as first
 use Rattle.survey.proofs.sets.without_first.Reads as without-first
-use Rattle.survey.proofs.plan.hear.Reads as hear
+use Rattle.survey.proofs.plan.receive.Reads as receive
 use Rattle.survey.proofs.plan.glance.Reads as glance
 use Rattle.survey.proofs.plan.plan_for.Reads as plan-for
 use Rattle.survey.proofs.plan.plan_of.Reads as plan-of
@@ -22,8 +22,8 @@ first-unique κs a r r′ s s′ p q = p ∙ sym q
 pub without-first-unique : OneResult without-first.Post
 without-first-unique κs a r r′ s s′ p q = p ∙ sym q
 
-pub hear-unique : OneResult hear.Post
-hear-unique κs a r r′ s s′ p q = p ∙ sym q
+pub receive-unique : OneResult receive.Post
+receive-unique κs a r r′ s s′ p q = p ∙ sym q
 
 pub glance-unique : OneResult glance.Post
 glance-unique κs a r r′ s s′ p q = p ∙ sym q

@@ -1,4 +1,4 @@
--- How a delivery is done; the paper does not speak of it. A set of nodes is a number: node i is in it exactly if its binary digit i, counted from the lowest, is 1.
+-- Serves the contracts of the functions that deliver. How a delivery is done; the paper does not speak of it. A set of nodes is a number: node i is in it exactly if its binary digit i, counted from the lowest, is 1.
 use Prim.Native.Nat.{ℕ, zero, suc, _+_, _-_, _/_, _%_, _^_}
 use mathlib.Core.Bool.{Bool, cond}
 use mathlib.Core.List.{List, [], _∷_}
@@ -6,8 +6,8 @@ use lib.Count.{trailingZeros}
 use lib.Dec.{eqb}
 
 -- the node of digit `weight` joins, in 32 digits
-abbrev pub joined : ℕ → ℕ → Bool → ℕ
-joined s weight joins = cond joins ((s + weight) % 2 ^ 32) s
+abbrev pub joinOf : ℕ → ℕ → Bool → ℕ
+joinOf s weight joins = cond joins ((s + weight) % 2 ^ 32) s
 
 -- the first of a set of 32 digits; 32 if it is empty
 abbrev pub firstOf : ℕ → ℕ

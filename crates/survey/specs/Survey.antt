@@ -1,4 +1,4 @@
--- How a delivery is done; the paper does not speak of it. How it comes by its plan: a look at each node in order, then the tests of document 01 in their order.
+-- Serves the contracts of the functions that deliver. How a delivery is done; the paper does not speak of it. How it comes by its plan: a look at each node in order, then the tests of document 01 in their sequence.
 use Prim.Native.Nat.{ℕ, _+_, _%_, _^_}
 use mathlib.Core.Bool.{Bool, true, cond, _&&_}
 use mathlib.Core.List.{List, [], _∷_}
@@ -13,8 +13,8 @@ use Rattle.packet.specs.declared.Framed.the-variants as framed
 use Rattle.command.specs.declared.Place.{Place}
 use Rattle.node.specs.Node.{powerUp}
 use Rattle.node.specs.declared.state.Node.{Node}
-use Rattle.heard.specs.declared.Heard.{Heard}
-use Rattle.heard.specs.Heard.{isAnswered}
+use Rattle.message.specs.declared.Message.{Message}
+use Rattle.message.specs.Message.{isAnswered}
 use Rattle.survey.specs.declared.sets.Replier.{Replier}
 use Rattle.survey.specs.declared.sets.Replier.the-variants.{None, One, Several}
 use Rattle.survey.specs.declared.plan.Incoming.{Incoming}
@@ -23,38 +23,38 @@ use Rattle.survey.specs.declared.plan.Seen.{Seen}
 use Rattle.survey.specs.declared.plan.Plan.{Plan}
 use Rattle.survey.specs.declared.plan.Plan.the-variants.{Refuse, Deliver}
 use Rattle.survey.specs.declared.plan.Survey.{Survey}
-use Rattle.survey.specs.One.{acts, replies, sound, heardAs}
-use Rattle.survey.specs.Chain.{replierOf}
-use Rattle.survey.specs.Sets.{joined, members}
+use Rattle.survey.specs.One.{doesAct, doesReply, isRanged, messageAs}
+use Rattle.survey.specs.Chain.{searchOf}
+use Rattle.survey.specs.Sets.{joinOf, members}
 
 -- a packet as it comes in
-abbrev pub incomingBy : Framed → List ℕ → Incoming
-incomingBy (framed.Whole to k n) p = Whole to (heardAs k p)
-incomingBy (framed.Refused why) p = Unread why
+abbrev pub receiveBy : Framed → List ℕ → Incoming
+receiveBy (framed.Whole to k n) p = Whole to (messageAs k p)
+receiveBy (framed.Refused why) p = Unread why
 
-unfoldable pub incomingOf : List ℕ → Incoming
-incomingOf p = incomingBy (frameOf p) p
+unfoldable pub receiveOf : List ℕ → Incoming
+receiveOf p = receiveBy (frameOf p) p
 
 -- nothing seen yet: the first node is near
-abbrev pub start : Seen
-start = record { near = true; weight = 1; acting = 0; replying = 0; sound = true }
+abbrev pub chainStart : Seen
+chainStart = record { near = true; weight = 1; acting = 0; replying = 0; ranged = true }
 
--- every record so far is sound
-abbrev pub soundWith : Bool → Place → Bool
-soundWith b p = b && sound p
+-- every record so far is in range
+abbrev pub isStillRanged : Bool → Place → Bool
+isStillRanged b p = b && isRanged p
 
 -- one node more
 unfoldable pub glanceFor : Address → Seen → Node → Seen
 glanceFor to s n = record {
   near = n .addressed;
   weight = (s .weight + s .weight) % 2 ^ 32;
-  acting = joined (s .acting) (s .weight) (acts to (s .near) n);
-  replying = joined (s .replying) (s .weight) (replies to (s .near) n);
-  sound = soundWith (s .sound) (n .settings .place);
+  acting = joinOf (s .acting) (s .weight) (doesAct to (s .near) n);
+  replying = joinOf (s .replying) (s .weight) (doesReply to (s .near) n);
+  ranged = isStillRanged (s .ranged) (n .settings .place);
 }
 
 unfoldable pub glancePast : Seen → Node → Seen
-glancePast s n = record { near = s .near; weight = s .weight; acting = s .acting; replying = s .replying; sound = soundWith (s .sound) (n .settings .place) }
+glancePast s n = record { near = s .near; weight = s .weight; acting = s .acting; replying = s .replying; ranged = isStillRanged (s .ranged) (n .settings .place) }
 
 abbrev pub glanceOf : Incoming → Seen → Node → Seen
 glanceOf (Whole to h) s n = glanceFor to s n
@@ -66,11 +66,11 @@ glancesOf c s [] = s
 glancesOf c s (n ∷ ns) = glancesOf c (glanceOf c s n) ns
 
 -- who replies, if the packet is answered at all: the nodes 0 to n - 1 are searched for those in the set s
-unfoldable pub replierTo : Heard → ℕ → ℕ → Replier
-replierTo h s n = cond (isAnswered h) (replierOf (members n s)) None
+unfoldable pub replierTo : Message → ℕ → ℕ → Replier
+replierTo h s n = cond (isAnswered h) (searchOf (members n s)) None
 
 -- and who acts
-abbrev pub planFor : Heard → Seen → ℕ → Plan
+abbrev pub planFor : Message → Seen → ℕ → Plan
 planFor h s n = Deliver (replierTo h (s .replying) n) (s .acting) h
 
 abbrev pub planBy : Incoming → Seen → ℕ → Plan
@@ -79,7 +79,7 @@ planBy (Unread why) s n = Refuse why
 
 -- "For the chain 6 comes first"
 unfoldable pub planOf : Incoming → Seen → ℕ → Plan
-planOf c s n = cond (leb 1 n && leb n mostNodes && s .sound) (planBy c s n) (Refuse Range)
+planOf c s n = cond (leb 1 n && leb n mostNodes && s .ranged) (planBy c s n) (Refuse Range)
 
 -- the index of the one that replies
 abbrev pub speakerIn : Replier → ℕ
@@ -104,5 +104,5 @@ surveyAlone p = surveyWith p nobody
 abbrev pub surveyBy : Plan → List Node → Survey
 surveyBy p ns = surveyWith p (getD ns (speakerOf p) nobody)
 
-unfoldable pub surveyOf : Incoming → List Node → Survey
-surveyOf c ns = surveyBy (planOf c (glancesOf c start ns) (length ns)) ns
+unfoldable pub surveyAll : Incoming → List Node → Survey
+surveyAll c ns = surveyBy (planOf c (glancesOf c chainStart ns) (length ns)) ns

@@ -3,12 +3,12 @@ use crate::plan::Plan;
 use crate::plan::Survey;
 use crate::sets::Replier;
 use buffer::Built;
-use heard::Heard;
+use message::Message;
 use node::Node;
 use wire::Refusal;
 ghost use mathlib.Core.Path.{_≡_};
 ghost use Rattle.survey.specs.Delivery.{deliveryNumber};
-ghost use Rattle.survey.specs.Decision.{refusal, decided, decidedOne, decidedBy, decidedOf};
+ghost use Rattle.survey.specs.Decision.{decideRefusal, decideAnswer, decideOne, decideBy, decideOf};
 
 // What a packet to the chain comes to: nobody replied; one node did, with so many bytes; several did at once; or the refusal.
 pub enum Delivery {
@@ -36,38 +36,38 @@ impl Delivery {
 pub struct Decided {
     pub answer: Delivery,
     pub acting: u32,
-    pub heard: Heard,
+    pub message: Message,
 }
 
 // A refusal: nobody acts.
-fn refuse(why: Refusal) -> Decided
-    ensures { λ r. ⌜ r ≡ refusal why ⌝ }
+fn decide_refusal(why: Refusal) -> Decided
+    ensures { λ r. ⌜ r ≡ decideRefusal why ⌝ }
 {
     Decided {
         answer: Delivery::Refused(why),
         acting: 0,
-        heard: Heard::Other,
+        message: Message::Other,
     }
 }
 
 // No refusal: those that are to act do.
-fn accept(answer: Delivery, acting: u32, heard: Heard) -> Decided
-    ensures { λ r. ⌜ r ≡ decided answer acting heard ⌝ }
+fn decide_answer(answer: Delivery, acting: u32, message: Message) -> Decided
+    ensures { λ r. ⌜ r ≡ decideAnswer answer acting message ⌝ }
 {
     Decided {
         answer,
         acting,
-        heard,
+        message,
     }
 }
 
 // One node replies: 5 where its reply has no room, before any node acts.
-fn decide_one(speaker: Node, acting: u32, heard: Heard, reply: &mut [u8]) -> Decided
-    ensures { λ r. ⌜ record { answer = r; left = now (reply .exit) } ≡ decidedOne speaker acting heard (now (reply .entry)) ⌝ }
+fn decide_one(speaker: Node, acting: u32, message: Message, reply: &mut [u8]) -> Decided
+    ensures { λ r. ⌜ record { answer = r; left = now (reply .exit) } ≡ decideOne speaker acting message (now (reply .entry)) ⌝ }
 {
-    match reply::reply(speaker, heard, reply) {
-        Built::Bytes(n) => accept(Delivery::Replied(n), acting, heard),
-        Built::Refused(why) => refuse(why),
+    match reply::reply(speaker, message, reply) {
+        Built::Bytes(n) => decide_answer(Delivery::Replied(n), acting, message),
+        Built::Refused(why) => decide_refusal(why),
     }
 }
 
@@ -76,30 +76,30 @@ fn decide_by(
     replier: Replier,
     speaker: Node,
     acting: u32,
-    heard: Heard,
+    message: Message,
     reply: &mut [u8],
 ) -> Decided
-    ensures { λ r. ⌜ record { answer = r; left = now (reply .exit) } ≡ decidedBy replier speaker acting heard (now (reply .entry)) ⌝ }
+    ensures { λ r. ⌜ record { answer = r; left = now (reply .exit) } ≡ decideBy replier speaker acting message (now (reply .entry)) ⌝ }
 {
     match replier {
-        Replier::None => accept(Delivery::Silent, acting, heard),
-        Replier::One(_) => decide_one(speaker, acting, heard, reply),
-        Replier::Several => accept(Delivery::Collision, acting, heard),
+        Replier::None => decide_answer(Delivery::Silent, acting, message),
+        Replier::One(_) => decide_one(speaker, acting, message, reply),
+        Replier::Several => decide_answer(Delivery::Collision, acting, message),
     }
 }
 
 // The one reply is written, if there is one and it has room.
 pub fn decide(survey: Survey, reply: &mut [u8]) -> Decided
-    ensures { λ r. ⌜ record { answer = r; left = now (reply .exit) } ≡ decidedOf survey (now (reply .entry)) ⌝ }
+    ensures { λ r. ⌜ record { answer = r; left = now (reply .exit) } ≡ decideOf survey (now (reply .entry)) ⌝ }
 {
     let plan = survey.plan;
     let speaker = survey.speaker;
     match plan {
-        Plan::Refuse(why) => refuse(why),
+        Plan::Refuse(why) => decide_refusal(why),
         Plan::Deliver {
             replier,
             acting,
-            heard,
-        } => decide_by(replier, speaker, acting, heard, reply),
+            message,
+        } => decide_by(replier, speaker, acting, message, reply),
     }
 }

@@ -4,18 +4,18 @@ use command::Place;
 use node::Node;
 use wire::Address;
 ghost use mathlib.Core.Path.{_≡_};
-ghost use Rattle.survey.specs.One.{hears, meant, answers, acts, replies, sound};
+ghost use Rattle.survey.specs.One.{doesHear, isMeant, isAnswering, doesAct, doesReply, isRanged};
 
 // Near: the node is first, or the node before it is addressed.
 fn does_hear(addressed: bool, near: bool) -> bool
-    ensures { λ r. ⌜ r ≡ hears near addressed ⌝ }
+    ensures { λ r. ⌜ r ≡ doesHear near addressed ⌝ }
 {
     near | addressed
 }
 
 // The address is the node's individual one, or its group.
 fn is_meant(place: Place, to: Address) -> bool
-    ensures { λ r. ⌜ r ≡ meant to place ⌝ }
+    ensures { λ r. ⌜ r ≡ isMeant to place ⌝ }
 {
     match to {
         Address::Individual(i) => i.0 == place.address.0,
@@ -25,7 +25,7 @@ fn is_meant(place: Place, to: Address) -> bool
 
 // The address is the node's individual one, or that of a group that it leads.
 fn is_answering(place: Place, to: Address) -> bool
-    ensures { λ r. ⌜ r ≡ answers to place ⌝ }
+    ensures { λ r. ⌜ r ≡ isAnswering to place ⌝ }
 {
     match to {
         Address::Individual(i) => i.0 == place.address.0,
@@ -34,8 +34,8 @@ fn is_answering(place: Place, to: Address) -> bool
 }
 
 // The record's addresses are of their ranges.
-pub(crate) fn is_sound(place: Place) -> bool
-    ensures { λ r. ⌜ r ≡ sound place ⌝ }
+pub(crate) fn is_ranged(place: Place) -> bool
+    ensures { λ r. ⌜ r ≡ isRanged place ⌝ }
 {
     let address = place.address;
     let group = place.group;
@@ -44,14 +44,14 @@ pub(crate) fn is_sound(place: Place) -> bool
 
 // Whether the node acts on a packet.
 pub(crate) fn does_act(n: Node, near: bool, to: Address) -> bool
-    ensures { λ r. ⌜ r ≡ acts to near n ⌝ }
+    ensures { λ r. ⌜ r ≡ doesAct to near n ⌝ }
 {
     does_hear(n.addressed, near) & is_meant(n.settings.place, to)
 }
 
 // Whether the node replies to a packet that is answered.
 pub(crate) fn does_reply(n: Node, near: bool, to: Address) -> bool
-    ensures { λ r. ⌜ r ≡ replies to near n ⌝ }
+    ensures { λ r. ⌜ r ≡ doesReply to near n ⌝ }
 {
     does_hear(n.addressed, near) & is_answering(n.settings.place, to)
 }

@@ -1,33 +1,33 @@
 // A packet and a look at each node: who acts, who replies, and whether the table can be used at all.
 use crate::one::does_act;
 use crate::one::does_reply;
-use crate::one::is_sound;
+use crate::one::is_ranged;
 use crate::sets::Replier;
 use crate::sets::join;
 use crate::sets::search;
 use command::Place;
-use heard::Heard;
+use message::Message;
 use node::Node;
 use packet::Framed;
 use wire::Address;
 use wire::Refusal;
 ghost use mathlib.Core.Path.{_≡_};
-ghost use Rattle.survey.specs.Survey.{incomingOf, soundWith, glanceFor, glancePast, glanceOf, replierTo, planFor, planOf, speakerIn, speakerOf};
+ghost use Rattle.survey.specs.Survey.{receiveOf, isStillRanged, glanceFor, glancePast, glanceOf, replierTo, planFor, planOf, speakerIn, speakerOf};
 
 // A packet as it comes in: whom it is for and what it says, or why it can't be read.
 pub enum Incoming {
-    Whole { to: Address, heard: Heard },
+    Whole { to: Address, message: Message },
     Unread(Refusal),
 }
 
 // What a walk along the chain has seen so far: whether the next node is first or stands behind an addressed one, its bit,
-// who acts, who replies, and whether every record is sound.
+// who acts, who replies, and whether every record is in range.
 pub struct Seen {
     pub near: bool,
     pub weight: u32,
     pub acting: u32,
     pub replying: u32,
-    pub sound: bool,
+    pub ranged: bool,
 }
 
 // What is to be done with a packet, before any node acts.
@@ -36,7 +36,7 @@ pub enum Plan {
     Deliver {
         replier: Replier,
         acting: u32,
-        heard: Heard,
+        message: Message,
     },
 }
 
@@ -47,8 +47,8 @@ pub struct Survey {
 }
 
 // A packet as it comes in.
-pub fn hear(p: &[u8]) -> Incoming
-    ensures { λ r. ⌜ r ≡ incomingOf (now (p .entry)) ⌝ }
+pub fn receive(p: &[u8]) -> Incoming
+    ensures { λ r. ⌜ r ≡ receiveOf (now (p .entry)) ⌝ }
 {
     match packet::frame(p) {
         Framed::Whole {
@@ -57,18 +57,21 @@ pub fn hear(p: &[u8]) -> Incoming
             end: _,
         } => {
             let reading = command::read(command, packet::data_part(p));
-            let heard = Heard::of(reading, packet::is_intact(p));
-            Incoming::Whole { to: address, heard }
+            let message = Message::of(reading, packet::is_intact(p));
+            Incoming::Whole {
+                to: address,
+                message,
+            }
         }
         Framed::Refused(why) => Incoming::Unread(why),
     }
 }
 
-// Whether every record so far is sound, with this one.
-fn is_still_sound(sound: bool, place: Place) -> bool
-    ensures { λ r. ⌜ r ≡ soundWith sound place ⌝ }
+// Whether every record so far is in range, with this one.
+fn is_still_ranged(ranged: bool, place: Place) -> bool
+    ensures { λ r. ⌜ r ≡ isStillRanged ranged place ⌝ }
 {
-    sound & is_sound(place)
+    ranged & is_ranged(place)
 }
 
 // One node more, of a packet for `to`.
@@ -82,7 +85,7 @@ fn glance_for(seen: Seen, n: Node, to: Address) -> Seen
         weight: std::num::wrapping_add_u32(seen.weight, seen.weight),
         acting: join(seen.acting, seen.weight, acts),
         replying: join(seen.replying, seen.weight, replies),
-        sound: is_still_sound(seen.sound, n.settings.place),
+        ranged: is_still_ranged(seen.ranged, n.settings.place),
     }
 }
 
@@ -91,7 +94,7 @@ fn glance_past(seen: Seen, n: Node) -> Seen
     ensures { λ r. ⌜ r ≡ glancePast seen n ⌝ }
 {
     let mut next = seen;
-    next.sound = is_still_sound(seen.sound, n.settings.place);
+    next.ranged = is_still_ranged(seen.ranged, n.settings.place);
     next
 }
 
@@ -100,29 +103,29 @@ pub fn glance(seen: Seen, n: Node, incoming: Incoming) -> Seen
     ensures { λ r. ⌜ r ≡ glanceOf incoming seen n ⌝ }
 {
     match incoming {
-        Incoming::Whole { to, heard: _ } => glance_for(seen, n, to),
+        Incoming::Whole { to, message: _ } => glance_for(seen, n, to),
         Incoming::Unread(_) => glance_past(seen, n),
     }
 }
 
 // Who replies to a packet, of n nodes and those of them that it calls.
-fn replier_to(heard: Heard, replying: u32, n: usize) -> Replier
-    ensures { λ r. ⌜ r ≡ replierTo heard replying n ⌝ }
+fn replier_to(message: Message, replying: u32, n: usize) -> Replier
+    ensures { λ r. ⌜ r ≡ replierTo message replying n ⌝ }
 {
-    if heard.is_answered() {
+    if message.is_answered() {
         return search(replying, n);
     }
     Replier::None
 }
 
-// A packet that says `heard`, to a table of n nodes that can be used.
-pub fn plan_for(heard: Heard, seen: Seen, n: usize) -> Plan
-    ensures { λ r. ⌜ r ≡ planFor heard seen n ⌝ }
+// A packet that says `message`, to a table of n nodes that can be used.
+pub fn plan_for(message: Message, seen: Seen, n: usize) -> Plan
+    ensures { λ r. ⌜ r ≡ planFor message seen n ⌝ }
 {
     Plan::Deliver {
-        replier: replier_to(heard, seen.replying, n),
+        replier: replier_to(message, seen.replying, n),
         acting: seen.acting,
-        heard,
+        message,
     }
 }
 
@@ -136,9 +139,9 @@ pub fn plan_of(incoming: Incoming, seen: Seen, n: usize) -> Plan
     if wire::MOST_NODES < n {
         return Plan::Refuse(Refusal::Range);
     }
-    if seen.sound {
+    if seen.ranged {
         return match incoming {
-            Incoming::Whole { to: _, heard } => plan_for(heard, seen, n),
+            Incoming::Whole { to: _, message } => plan_for(message, seen, n),
             Incoming::Unread(why) => Plan::Refuse(why),
         };
     }
@@ -155,7 +158,7 @@ pub fn speaker(p: Plan) -> usize
         Plan::Deliver {
             replier,
             acting: _,
-            heard: _,
+            message: _,
         } => speaker_in(replier),
     }
 }

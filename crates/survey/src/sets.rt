@@ -1,7 +1,7 @@
 // Sets of nodes: bit i stands for node i, in the order of the cable.
 ghost use mathlib.Core.Path.{_≡_};
-ghost use Rattle.survey.specs.Sets.{joined, firstOf, withoutFirst, members};
-ghost use Rattle.survey.specs.Chain.{replierOf};
+ghost use Rattle.survey.specs.Sets.{joinOf, firstOf, withoutFirst, members};
+ghost use Rattle.survey.specs.Chain.{searchOf};
 
 // Who replies: nobody, the node of an index, or several.
 pub enum Replier {
@@ -12,7 +12,7 @@ pub enum Replier {
 
 // The set with the node whose bit is `weight`, if it is to join.
 pub(crate) fn join(set: u32, weight: u32, joins: bool) -> u32
-    ensures { λ r. ⌜ r ≡ joined set weight joins ⌝ }
+    ensures { λ r. ⌜ r ≡ joinOf set weight joins ⌝ }
 {
     if joins {
         return std::num::wrapping_add_u32(set, weight);
@@ -41,7 +41,7 @@ pub fn without_first(set: u32) -> u32
 // The chain is searched in order, node 0 to n - 1, and left at the second replier; at the first, where nobody behind it replies.
 // Whether node i replies was seen before: it is bit i of `replying`.
 pub(crate) fn search(replying: u32, n: usize) -> Replier
-    ensures { λ r. ⌜ r ≡ replierOf (members n replying) ⌝ }
+    ensures { λ r. ⌜ r ≡ searchOf (members n replying) ⌝ }
 {
     let mut rest = replying;
     let mut found = Replier::None;

@@ -1,4 +1,4 @@
-pub mod Prefix
-pub mod Owner
+mod Prefix
+mod Owner
 pub mod Refusals
 pub mod Unique

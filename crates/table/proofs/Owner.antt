@@ -12,22 +12,23 @@ use Rattle.wire.specs.Promise.{Outcome, Lending, lent}
 use Rattle.node.specs.declared.state.Node.{Node}
 use Rattle.node.proofs.state.Node.{the-field}
 use Rattle.survey.specs.declared.decision.Delivery.{Delivery}
-use Rattle.survey.specs.Delivery.{deliveredOn, deliveryNumber}
+use Rattle.survey.specs.Delivery.{deliverOf, deliveryNumber}
 use Rattle.table.specs.declared.Table.{Table}
 use Rattle.table.specs.declared.Delivered.{Delivered}
-use Rattle.table.specs.Table.{leastOf, deliveredWith, keptBy, deliveredNumber, deliveredOf}
+use Rattle.table.specs.Table.{keptBy, deliveredNumber, tableDeliver}
+use Rattle.table.specs.Lending.{tableLeast, deliveredWith}
 
 -- the records that were lent, and those behind them
 pub together : (xs : List Node) (n : ℕ) (p out : List ℕ) (r : Delivery) (zs : List Node) (ws : List ℕ) (d : Delivered)
-    → Lending deliveryNumber r (record { nodes = zs; reply = ws }) (deliveredOn (take n xs) p out) → d ≡ deliveredWith (zs ++ drop n xs) n r
-    → Lending deliveredNumber d ws (deliveredOf (record { nodes = xs; count = n }) p out)
-unfolding deliveredOf
+    → Lending deliveryNumber r (record { nodes = zs; reply = ws }) (deliverOf (take n xs) p out) → d ≡ deliveredWith (zs ++ drop n xs) n r
+    → Lending deliveredNumber d ws (tableDeliver (record { nodes = xs; count = n }) p out)
+unfolding tableDeliver
 together xs n p out r zs ws d e is =
     lent ((λ i. record { answer = is i; left = ws })
     ∙ (λ i. keptBy (record { nodes = xs; count = n }) (record { answer = e .answer i; left = e .leaves i })))
 
 -- by the test that `least` makes
-by-least : {A : Type 0} (n count : ℕ) → n ≡ leastOf count → (n ≡ 33 → 33 < count → A) → (n ≡ count → count ≤ 33 → A) → A
+by-least : {A : Type 0} (n count : ℕ) → n ≡ tableLeast count → (n ≡ 33 → 33 < count → A) → (n ≡ count → count ≤ 33 → A) → A
 by-least {A} n count e over within = at (ltb 33 count) refl
   where
     at : (b : Bool) → ltb 33 count ≡ b → A
@@ -35,15 +36,15 @@ by-least {A} n count e over within = at (ltb 33 count) refl
     at false h = within (e ∙ ap (λ (b : Bool). cond b 33 count) h) (ltb-false 33 count h)
 
 -- at most 33 records are lent
-pub least-small : (n count : ℕ) → n ≡ leastOf count → n < 34
+pub least-small : (n count : ℕ) → n ≡ tableLeast count → n < 34
 least-small n count e = by-least n count e (λ is more. omega arith) (λ is few. omega arith)
 
 -- and a count over 33 counts no more of them than 33 does
-same-taken : (l : List Node) (n count : ℕ) → length l ≡ 33 → n ≡ leastOf count → take n l ≡ take count l
+same-taken : (l : List Node) (n count : ℕ) → length l ≡ 33 → n ≡ tableLeast count → take n l ≡ take count l
 same-taken l n count long e =
     by-least n count e (λ is more. take-all n l (omega arith) ∙ sym (take-all count l (omega arith))) (λ is few. ap (λ (k : ℕ). take k l) is)
 
-same-left : (l : List Node) (n count : ℕ) → length l ≡ 33 → n ≡ leastOf count → drop n l ≡ drop count l
+same-left : (l : List Node) (n count : ℕ) → length l ≡ 33 → n ≡ tableLeast count → drop n l ≡ drop count l
 same-left l n count long e =
     by-least n count e (λ is more. drop-of-length-le l {i = n} (omega arith) ∙ sym (drop-of-length-le l {i = count} (omega arith))) (λ is few. ap (λ (k : ℕ). drop k l) is)
 
@@ -52,10 +53,10 @@ pub long : (t : Table) → length (map (the-field .into) (t .nodes)) ≡ 33 → 
 long t e = sym (length-map (t .nodes) (the-field .into)) ∙ e
 
 -- the count that was handed in is handed back
-pub recounted : (t : Table) (p out : List ℕ) (n : ℕ) (d r : Delivered) (ws : List ℕ) → length (t .nodes) ≡ 33 → n ≡ leastOf (t .count)
-    → Lending deliveredNumber d ws (deliveredOf (record { nodes = t .nodes; count = n }) p out) → r ≡ deliveredWith (d .table .nodes) (t .count) (d .answer)
-    → Lending deliveredNumber r ws (deliveredOf t p out)
-unfolding deliveredOf
+pub recounted : (t : Table) (p out : List ℕ) (n : ℕ) (d r : Delivered) (ws : List ℕ) → length (t .nodes) ≡ 33 → n ≡ tableLeast (t .count)
+    → Lending deliveredNumber d ws (tableDeliver (record { nodes = t .nodes; count = n }) p out) → r ≡ deliveredWith (d .table .nodes) (t .count) (d .answer)
+    → Lending deliveredNumber r ws (tableDeliver t p out)
+unfolding tableDeliver
 recounted t p out n d r ws long e given is =
     lent ((λ i. record { answer = is i; left = ws })
     ∙ (λ i. record { answer = deliveredWith (given .answer i .table .nodes) (t .count) (given .answer i .answer); left = given .leaves i })
@@ -63,4 +64,4 @@ recounted t p out n d r ws long e given is =
   where
     glued : List Node → List Node → Outcome Delivered (List ℕ)
     glued fs rs =
-        record { answer = deliveredWith (deliveredOn fs p out .left .nodes ++ rs) (t .count) (deliveredOn fs p out .answer); left = deliveredOn fs p out .left .reply }
+        record { answer = deliveredWith (deliverOf fs p out .left .nodes ++ rs) (t .count) (deliverOf fs p out .answer); left = deliverOf fs p out .left .reply }

@@ -7,12 +7,12 @@ use Rattle.wire.specs.Numbers.{done, collision}
 use Rattle.node.specs.declared.state.Node.{Node}
 use Rattle.survey.proofs.Refusals as survey
 use Rattle.table.specs.declared.Table.{Table}
-use Rattle.table.specs.Table.{nodesOf, withNodes, deliveredNumber, deliveredOf}
+use Rattle.table.specs.Table.{nodesOf, withNodes, deliveredNumber, tableDeliver}
 
 pub deliver-spares : (t : Table) (p out : List ℕ)
-    → (deliveredNumber (deliveredOf t p out .answer) ≡ done → ⊥) → (deliveredNumber (deliveredOf t p out .answer) ≡ collision → ⊥)
-    → (deliveredOf t p out .answer .table ≡ t) × (deliveredOf t p out .left ≡ out)
-unfolding deliveredOf
+    → (deliveredNumber (tableDeliver t p out .answer) ≡ done → ⊥) → (deliveredNumber (tableDeliver t p out .answer) ≡ collision → ⊥)
+    → (tableDeliver t p out .answer .table ≡ t) × (tableDeliver t p out .left ≡ out)
+unfolding tableDeliver
 deliver-spares t p out d k =
     let s = survey.deliver-spares (nodesOf t) p out d k in
     let whole = take-append-drop (t .count) (t .nodes) in

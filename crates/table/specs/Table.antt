@@ -1,13 +1,11 @@
 -- The chain's table as its owner keeps it: "an array with a count", of which the first `count` nodes are the chain.
 use Prim.Native.Nat.{ℕ}
-use mathlib.Core.Bool.{cond}
 use mathlib.Core.List.{List, _++_}
-use lib.Dec.{ltb}
 use lib.ListN.{take, drop}
 use Rattle.wire.specs.Promise.{Outcome}
 use Rattle.node.specs.declared.state.Node.{Node}
 use Rattle.survey.specs.declared.decision.Delivery.{Delivery}
-use Rattle.survey.specs.Delivery.{Lent, deliveredOn, deliveryNumber}
+use Rattle.survey.specs.Delivery.{Lent, deliverOf, deliveryNumber}
 use Rattle.table.specs.declared.Table.{Table}
 use Rattle.table.specs.declared.Delivered.{Delivered}
 
@@ -24,17 +22,9 @@ abbrev pub keptBy : Table → Outcome Delivery Lent → Outcome Delivered (List 
 keptBy t o = record { answer = record { answer = o .answer; table = withNodes t (o .left .nodes) }; left = o .left .reply }
 
 -- a packet to the chain that the table holds
-unfoldable pub deliveredOf : Table → List ℕ → List ℕ → Outcome Delivered (List ℕ)
-deliveredOf t p out = keptBy t (deliveredOn (nodesOf t) p out)
+unfoldable pub tableDeliver : Table → List ℕ → List ℕ → Outcome Delivered (List ℕ)
+tableDeliver t p out = keptBy t (deliverOf (nodesOf t) p out)
 
 -- the number of a delivery
 abbrev pub deliveredNumber : Delivered → ℕ
 deliveredNumber d = deliveryNumber (d .answer)
-
--- how many of the 33 records n counts
-abbrev pub leastOf : ℕ → ℕ
-leastOf n = cond (ltb 33 n) 33 n
-
--- the parts of what is handed back, as one
-abbrev pub deliveredWith : List Node → ℕ → Delivery → Delivered
-deliveredWith ns count answer = record { answer = answer; table = record { nodes = ns; count = count } }

@@ -6,7 +6,8 @@ use node::Node;
 ghost use mathlib.Core.Path.{_≡_};
 ghost use Prim.Native.Nat.{_<_};
 ghost use Rattle.wire.specs.Promise.{Lending};
-ghost use Rattle.table.specs.Table.{leastOf, deliveredWith, deliveredNumber, deliveredOf};
+ghost use Rattle.table.specs.Table.{deliveredNumber, tableDeliver};
+ghost use Rattle.table.specs.Lending.{tableLeast, deliveredWith};
 
 // The first `count` nodes, in the order of the cable, are the chain. There is room for two more than a chain may have,
 // so that a table that is too long can be lent as well, and is refused.
@@ -23,7 +24,7 @@ pub struct Delivered {
 // n, or 33 where n is more: how many records n counts.
 // So the part that is lent lies within the array, for every count.
 fn least(n: usize) -> usize
-    ensures { λ r. ⌜ r ≡ leastOf n ⌝ }
+    ensures { λ r. ⌜ r ≡ tableLeast n ⌝ }
 {
     if 33 < n {
         return 33;
@@ -33,7 +34,7 @@ fn least(n: usize) -> usize
 
 // The nodes, their count and the answer, as one.
 // A function of its own, since `lend` is walked by hand, and a literal of a large struct is the costly part of a check.
-fn delivered_of(nodes: [Node; 33], count: usize, answer: Delivery) -> Delivered
+fn delivered_with(nodes: [Node; 33], count: usize, answer: Delivery) -> Delivered
     ensures { λ r. ⌜ r ≡ deliveredWith nodes count answer ⌝ }
 {
     let table = Table { nodes, count };
@@ -43,16 +44,16 @@ fn delivered_of(nodes: [Node; 33], count: usize, answer: Delivery) -> Delivered
 // The first n records are lent to the chain, and come back.
 fn lend(nodes: [Node; 33], n: usize, packet: &[u8], reply: &mut [u8]) -> Delivered
     requires { ⌜ n < 34 ⌝ }
-    ensures { λ r. ⌜ Lending deliveredNumber r (now (reply .exit)) (deliveredOf (record { nodes = nodes; count = n }) (now (packet .entry)) (now (reply .entry))) ⌝ }
+    ensures { λ r. ⌜ Lending deliveredNumber r (now (reply .exit)) (tableDeliver (record { nodes = nodes; count = n }) (now (packet .entry)) (now (reply .entry))) ⌝ }
 {
     let mut held = nodes;
     let answer = chain::deliver(&mut held[..n], packet, reply);
-    delivered_of(held, n, answer)
+    delivered_with(held, n, answer)
 }
 
 // A packet to the chain that the table holds. A count over 33 is lent as 33 records, and refused; the count stays.
 pub fn deliver(t: Table, packet: &[u8], reply: &mut [u8]) -> Delivered
-    ensures { λ r. ⌜ Lending deliveredNumber r (now (reply .exit)) (deliveredOf t (now (packet .entry)) (now (reply .entry))) ⌝ }
+    ensures { λ r. ⌜ Lending deliveredNumber r (now (reply .exit)) (tableDeliver t (now (packet .entry)) (now (reply .entry))) ⌝ }
 {
     let nodes = t.nodes;
     let count = t.count;
@@ -60,5 +61,5 @@ pub fn deliver(t: Table, packet: &[u8], reply: &mut [u8]) -> Delivered
     let answer = lent.answer;
     let table = lent.table;
     let left = table.nodes;
-    delivered_of(left, count, answer)
+    delivered_with(left, count, answer)
 }

@@ -1,4 +1,4 @@
 pub mod Parts
-pub mod Numerals
+mod Numerals
 pub mod Meaning
 pub mod Unique

@@ -9,7 +9,7 @@ use lib.ListN.{length}
 use borrow.Author.Tests.{lt-ltb, le-ltb, ne-eqb, ltb-true, ltb-false}
 use Rattle.wire.proofs.Impossible.{impossible}
 use Rattle.text.specs.Lines.{newline, linesOf}
-use Rattle.text.specs.Digits.{valueOf, decimalOf, oneDigit, twoDigits, decimalIn}
+use Rattle.text.specs.Digits.{valueOf, decimalOf, oneDigit, twoDigits, readDecimal}
 use Rattle.text.specs.declared.digits.Decimal.the-variants as decimal
 
 -- ---- decimal numbers: of their form exactly if they are a number below 100, written in decimal
@@ -18,11 +18,11 @@ value-back : (v : ℕ) → v < 10 → valueOf (48 + v) ≡ v
 unfolding valueOf
 value-back v k = rw (le-ltb (48 + v) 48 (omega arith), lt-ltb (48 + v) 58 (omega arith)) (omega arith)
 
-pub decimal-reads : (n : ℕ) → n < 100 → decimalIn (decimalOf n) ≡ decimal.Value n
-unfolding decimalIn decimalOf oneDigit twoDigits
+pub decimal-reads : (n : ℕ) → n < 100 → readDecimal (decimalOf n) ≡ decimal.Value n
+unfolding readDecimal decimalOf oneDigit twoDigits
 decimal-reads n h = go (ltb n 10) refl
   where
-    go : (t : Bool) → ltb n 10 ≡ t → decimalIn (cond t ((48 + n) ∷ []) ((48 + n / 10) ∷ (48 + n % 10) ∷ [])) ≡ decimal.Value n
+    go : (t : Bool) → ltb n 10 ≡ t → readDecimal (cond t ((48 + n) ∷ []) ((48 + n / 10) ∷ (48 + n % 10) ∷ [])) ≡ decimal.Value n
     go true e =
         let x : n < 10 = ltb-true n 10 e in
         rw (value-back n x, le-ltb 9 n (omega arith))
@@ -32,7 +32,7 @@ decimal-reads n h = go (ltb n 10) refl
         rw (value-back (n / 10) (omega arith), value-back (n % 10) (omega arith), le-ltb (n / 10) 1 (omega arith), le-ltb 9 (n / 10) (omega arith), le-ltb 9 (n % 10) (omega arith), y)
 
 -- what a decimal number of its form is
-pub record Counted (l : List ℕ) (n : ℕ) : Type 0 where
+pub record Numeral (l : List ℕ) (n : ℕ) : Type 0 where
   pub same : l ≡ decimalOf n
   pub small : n < 100
 
@@ -46,23 +46,23 @@ char-of a h = go (ltb a 48) (ltb a 58) refl h
     go false true e k = let x : 48 ≤ a = ltb-false a 48 e in omega arith
     go false false e k = absurd (let y : ⊥ = omega arith in y)
 
-one-read : (a n : ℕ) → oneDigit (valueOf a) ≡ decimal.Value n → Counted (a ∷ []) n
+one-read : (a n : ℕ) → oneDigit (valueOf a) ≡ decimal.Value n → Numeral (a ∷ []) n
 unfolding oneDigit decimalOf
 one-read a n e = go (ltb 9 (valueOf a)) refl e
   where
-    go : (t : Bool) → ltb 9 (valueOf a) ≡ t → cond t decimal.Malformed (decimal.Value (valueOf a)) ≡ decimal.Value n → Counted (a ∷ []) n
+    go : (t : Bool) → ltb 9 (valueOf a) ≡ t → cond t decimal.Malformed (decimal.Value (valueOf a)) ≡ decimal.Value n → Numeral (a ∷ []) n
     go true x e = impossible cc
     go false x e =
         let p = ltb-false 9 (valueOf a) x in
         let z : n ≡ valueOf a = cc in
         rw z (record { same = rw (lt-ltb (valueOf a) 10 (omega arith), char-of a p); small = omega arith })
 
-two-read : (a b n : ℕ) → twoDigits (valueOf a) (valueOf b) ≡ decimal.Value n → Counted (a ∷ b ∷ []) n
+two-read : (a b n : ℕ) → twoDigits (valueOf a) (valueOf b) ≡ decimal.Value n → Numeral (a ∷ b ∷ []) n
 unfolding twoDigits decimalOf
 two-read a b n e = go (ltb (valueOf a) 1) (ltb 9 (valueOf a)) (ltb 9 (valueOf b)) refl refl refl e
   where
     go : (t u v : Bool) → ltb (valueOf a) 1 ≡ t → ltb 9 (valueOf a) ≡ u → ltb 9 (valueOf b) ≡ v
-        → cond t decimal.Malformed (cond u decimal.Malformed (cond v decimal.Malformed (decimal.Value (valueOf a * 10 + valueOf b)))) ≡ decimal.Value n → Counted (a ∷ b ∷ []) n
+        → cond t decimal.Malformed (cond u decimal.Malformed (cond v decimal.Malformed (decimal.Value (valueOf a * 10 + valueOf b)))) ≡ decimal.Value n → Numeral (a ∷ b ∷ []) n
     go true u v x y w e = impossible cc
     go false true v x y w e = impossible cc
     go false false true x y w e = impossible cc
@@ -75,13 +75,13 @@ two-read a b n e = go (ltb (valueOf a) 1) (ltb 9 (valueOf a)) (ltb 9 (valueOf b)
         let j : (valueOf a * 10 + valueOf b) % 10 ≡ valueOf b = omega arith in
         rw z (record { same = rw (le-ltb (valueOf a * 10 + valueOf b) 10 (omega arith), i, j, char-of a q, char-of b r); small = omega arith })
 
-pub decimal-written : (l : List ℕ) (n : ℕ) → decimalIn l ≡ decimal.Value n → Counted l n
-unfolding decimalIn
+pub decimal-written : (l : List ℕ) (n : ℕ) → readDecimal l ≡ decimal.Value n → Numeral l n
+unfolding readDecimal
 decimal-written [] n e = impossible cc
 decimal-written (a ∷ []) n e = one-read a n e
 decimal-written (a ∷ b ∷ []) n e = two-read a b n e
 decimal-written (a ∷ b ∷ c ∷ s) n e =
-    let x : decimalIn (a ∷ b ∷ c ∷ s) ≡ decimal.Malformed =
+    let x : readDecimal (a ∷ b ∷ c ∷ s) ≡ decimal.Malformed =
     rw (ne-eqb (length (a ∷ b ∷ c ∷ s)) 1 (λ e. omega arith), ne-eqb (length (a ∷ b ∷ c ∷ s)) 2 (λ e. omega arith)) in
     impossible cc
 

@@ -10,9 +10,9 @@ use lib.Dec.{eqb}
 use lib.ListN.{length, take, drop, getD, drop-of-length-le, length-drop}
 use lib.Seq.{drop-cons, take-all}
 use borrow.Author.Tests.{eq-eqb, ne-eqb}
-use Rattle.text.specs.Lines.{newline, lineOf, linesOf, grown}
+use Rattle.text.specs.Lines.{newline, firstLine, linesOf, grown}
 
--- ---- the first bytes, and what is left from a place on
+-- ---- the first bytes, and what is left from a position on
 
 pub first-all : (s : List ℕ) (n : ℕ) → length s < n → s ≡ take n s
 first-all s n h = sym (take-all n s (omega arith))
@@ -25,54 +25,54 @@ rest-past s at h = sym (drop-of-length-le s {i = at} (omega arith))
 
 -- ---- the search for a newline: i bytes have none, and m is how many the line has
 
-module _ (s : List ℕ) (i m : ℕ) (e : i + length (lineOf (drop i s)) ≡ m) where
-  pub line-on : i < length s → (getD s i 0 ≡ newline → ⊥) → (i + 1) + length (lineOf (drop (i + 1) s)) ≡ m
+module _ (s : List ℕ) (i m : ℕ) (e : i + length (firstLine (drop i s)) ≡ m) where
+  pub line-on : i < length s → (getD s i 0 ≡ newline → ⊥) → (i + 1) + length (firstLine (drop (i + 1) s)) ≡ m
   line-on h n =
-      let k : length (lineOf (drop i s)) ≡ suc (length (lineOf (drop (suc i) s))) = rw (drop-cons s i 0 h, ne-eqb (getD s i 0) newline n) in
+      let k : length (firstLine (drop i s)) ≡ suc (length (firstLine (drop (suc i) s))) = rw (drop-cons s i 0 h, ne-eqb (getD s i 0) newline n) in
       rw (add-one i) (omega arith)
 
   pub line-found : i < length s → getD s i 0 ≡ newline → i ≡ m
   line-found h n =
-      let k : length (lineOf (drop i s)) ≡ 0 = rw (drop-cons s i 0 h, eq-eqb (getD s i 0) newline n) in
+      let k : length (firstLine (drop i s)) ≡ 0 = rw (drop-cons s i 0 h, eq-eqb (getD s i 0) newline n) in
       omega arith
 
   pub line-end : length s ≤ i → i ≡ m
   line-end h =
-      let k : length (lineOf (drop i s)) ≡ 0 = rw (drop-of-length-le s h) in
+      let k : length (firstLine (drop i s)) ≡ 0 = rw (drop-of-length-le s h) in
       omega arith
 
 -- ---- a text is its first line and the lines behind it
 
-take-line : (s : List ℕ) → take (length (lineOf s)) s ≡ lineOf s
+take-line : (s : List ℕ) → take (length (firstLine s)) s ≡ firstLine s
 take-line [] = refl
 take-line (b ∷ s) = by-test (eqb b newline) refl (take-line s)
   where
-    by-test : (t : Bool) → eqb b newline ≡ t → take (length (lineOf s)) s ≡ lineOf s → take (length (lineOf (b ∷ s))) (b ∷ s) ≡ lineOf (b ∷ s)
+    by-test : (t : Bool) → eqb b newline ≡ t → take (length (firstLine s)) s ≡ firstLine s → take (length (firstLine (b ∷ s))) (b ∷ s) ≡ firstLine (b ∷ s)
     by-test true e h = rw e
     by-test false e h = rw e (ap (λ (l : List ℕ). b ∷ l) h)
 
-pub line-taken : (s l : List ℕ) (n : ℕ) → n ≡ length (lineOf s) → l ≡ take n s → l ≡ lineOf s
+pub line-taken : (s l : List ℕ) (n : ℕ) → n ≡ length (firstLine s) → l ≡ take n s → l ≡ firstLine s
 line-taken s l n e f = f ∙ ap (λ (i : ℕ). take i s) e ∙ take-line s
 
-pub line-short : (s : List ℕ) → length (lineOf s) ≤ length s
+pub line-short : (s : List ℕ) → length (firstLine s) ≤ length s
 line-short [] = omega arith
 line-short (b ∷ s) = by-test (eqb b newline) (line-short s)
   where
-    by-test : (t : Bool) → length (lineOf s) ≤ length s → length (cond t [] (b ∷ lineOf s)) ≤ length (b ∷ s)
+    by-test : (t : Bool) → length (firstLine s) ≤ length s → length (cond t [] (b ∷ firstLine s)) ≤ length (b ∷ s)
     by-test true h = omega arith
     by-test false h = omega arith
 
 -- s isn't empty
-pub lines-step : (s : List ℕ) → 0 < length s → linesOf s ≡ lineOf s ∷ linesOf (drop (suc (length (lineOf s))) s)
+pub lines-step : (s : List ℕ) → 0 < length s → linesOf s ≡ firstLine s ∷ linesOf (drop (suc (length (firstLine s))) s)
 lines-step [] h = absurd (not-suc-le-zero h)
 lines-step (b ∷ []) h = by-test (eqb b newline) refl
   where
-    by-test : (t : Bool) → eqb b newline ≡ t → linesOf (b ∷ []) ≡ lineOf (b ∷ []) ∷ linesOf (drop (suc (length (lineOf (b ∷ [])))) (b ∷ []))
+    by-test : (t : Bool) → eqb b newline ≡ t → linesOf (b ∷ []) ≡ firstLine (b ∷ []) ∷ linesOf (drop (suc (length (firstLine (b ∷ [])))) (b ∷ []))
     by-test true e = rw e
     by-test false e = rw e
 lines-step (b ∷ a ∷ s) h = by-test (eqb b newline) refl (lines-step (a ∷ s) (omega arith))
   where
-    by-test : (t : Bool) → eqb b newline ≡ t → linesOf (a ∷ s) ≡ lineOf (a ∷ s) ∷ linesOf (drop (suc (length (lineOf (a ∷ s)))) (a ∷ s))
-        → linesOf (b ∷ a ∷ s) ≡ lineOf (b ∷ a ∷ s) ∷ linesOf (drop (suc (length (lineOf (b ∷ a ∷ s)))) (b ∷ a ∷ s))
+    by-test : (t : Bool) → eqb b newline ≡ t → linesOf (a ∷ s) ≡ firstLine (a ∷ s) ∷ linesOf (drop (suc (length (firstLine (a ∷ s)))) (a ∷ s))
+        → linesOf (b ∷ a ∷ s) ≡ firstLine (b ∷ a ∷ s) ∷ linesOf (drop (suc (length (firstLine (b ∷ a ∷ s)))) (b ∷ a ∷ s))
     by-test true e k = rw e
     by-test false e k = rw e (ap (grown b) k)

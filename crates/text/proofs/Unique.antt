@@ -10,7 +10,7 @@ use Rattle.text.proofs.digits.read_decimal.Reads as read-decimal
 pub read-decimal-unique : OneResult read-decimal.Post
 read-decimal-unique κs a r r′ s s′ p q = p .answer ∙ sym (q .answer)
 
--- the part that is handed back: its place and its bytes
+-- the part that is handed back: its position and its bytes
 pub first-unique : OnePart first.Post
 first-unique κs a r r′ s s′ p q = one-part p q
 

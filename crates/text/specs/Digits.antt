@@ -26,8 +26,8 @@ unfoldable pub twoDigits : ℕ → ℕ → Decimal
 twoDigits a b = cond (ltb a 1) Malformed (cond (ltb 9 a) Malformed (cond (ltb 9 b) Malformed (Value (a * 10 + b))))
 
 -- the decimal number that some text is
-unfoldable pub decimalIn : List ℕ → Decimal
-decimalIn s =
+unfoldable pub readDecimal : List ℕ → Decimal
+readDecimal s =
     cond (eqb (length s) 1) (oneDigit (valueOf (getD s 0 0)))
     (cond (eqb (length s) 2) (twoDigits (valueOf (getD s 0 0)) (valueOf (getD s 1 0))) Malformed)
 

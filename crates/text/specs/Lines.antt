@@ -8,9 +8,9 @@ abbrev pub newline : ℕ
 newline = 10
 
 -- the first line, without its newline
-abbrev pub lineOf : List ℕ → List ℕ
-lineOf [] = []
-lineOf (b ∷ s) = cond (eqb b newline) [] (b ∷ lineOf s)
+abbrev pub firstLine : List ℕ → List ℕ
+firstLine [] = []
+firstLine (b ∷ s) = cond (eqb b newline) [] (b ∷ firstLine s)
 
 -- b in front of the first line
 abbrev pub grown : ℕ → List (List ℕ) → List (List ℕ)

@@ -1,7 +1,7 @@
 // Decimal numbers of one or two digits.
 ghost use mathlib.Core.Path.{_≡_};
 ghost use Rattle.wire.specs.Promise.{Promise};
-ghost use Rattle.text.specs.Digits.{valueOf, oneDigit, twoDigits, decimalIn, decimalNumber};
+ghost use Rattle.text.specs.Digits.{valueOf, oneDigit, twoDigits, readDecimal, decimalNumber};
 
 // What reading a decimal number finds.
 pub enum Decimal {
@@ -50,7 +50,7 @@ fn two_digits(a: u8, b: u8) -> Decimal
 
 // A decimal number of one or two digits, without a leading zero.
 pub fn read_decimal(s: &[u8]) -> Decimal
-    ensures { λ r. ⌜ Promise decimalNumber r (decimalIn (now (s .entry))) ⌝ }
+    ensures { λ r. ⌜ Promise decimalNumber r (readDecimal (now (s .entry))) ⌝ }
 {
     if s.len() == 1 {
         return one_digit(value(s[0]));

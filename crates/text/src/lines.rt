@@ -2,7 +2,7 @@
 ghost use mathlib.Core.Path.{_≡_};
 ghost use lib.ListN.{length, take, drop};
 ghost use Rattle.wire.specs.Part.{Part};
-ghost use Rattle.text.specs.Lines.{lineOf};
+ghost use Rattle.text.specs.Lines.{firstLine};
 
 // A newline ends each line; the last may lack it.
 pub const NEWLINE: u8 = 10;
@@ -30,7 +30,7 @@ pub fn rest(s: &[u8], at: usize) -> &[u8]
 
 // How many bytes the first line of s has, without its newline.
 fn line_length(s: &[u8]) -> usize
-    ensures { λ r. ⌜ r ≡ length (lineOf (now (s .entry))) ⌝ }
+    ensures { λ r. ⌜ r ≡ length (firstLine (now (s .entry))) ⌝ }
 {
     let mut i = 0;
     while i < s.len() {
@@ -44,7 +44,7 @@ fn line_length(s: &[u8]) -> usize
 
 // The first line of s, without its newline. The next one starts one byte behind its end.
 pub fn first_line(s: &[u8]) -> &[u8]
-    ensures { λ r. ⌜ Part (s .entry) 0 (lineOf (now (s .entry))) r ⌝ }
+    ensures { λ r. ⌜ Part (s .entry) 0 (firstLine (now (s .entry))) r ⌝ }
 {
     let n = line_length(s);
     first(s, n)

@@ -1,6 +1,6 @@
-pub mod Walking
-pub mod Clear
+mod Walking
+pub mod Passing
 pub mod Sent
 pub mod Stands
-pub mod Soundness
+pub mod Validity
 pub mod Unique

@@ -1,4 +1,4 @@
--- What the walk sends: where the check is clear, its packet stands at the start of the buffer, or 5 leaves all as it stood.
+-- What the walk sends: where the check is passed, its packet stands at the start of the buffer, or 5 leaves all as it stood.
 use Prim.Native.Nat.{ℕ, _+_}
 use mathlib.Core.List.{List}
 use mathlib.Core.Path.{_≡_, refl}
@@ -7,27 +7,27 @@ use Rattle.wire.specs.Numbers.{done}
 use Rattle.command.specs.declared.Command.the-variants.{SetAddress, Nop}
 use Rattle.session.specs.declared.Session.{Session}
 use Rattle.session.specs.Session.{nodeAt, stepNumber, givenPlace}
-use Rattle.sending.specs.declared.Check.the-variants.{Clear}
+use Rattle.sending.specs.declared.Check.the-variants.{Passed}
 use Rattle.walk.specs.Walk.{nextCheck, askCheck, nextOf, askOf}
-use Rattle.sending.proofs.Sent.{Sends, transmitted-sends, by-clear, node-fits, Went, went}
-use Rattle.walk.proofs.Clear.{next-says, ask-says}
+use Rattle.sending.proofs.Sent.{Sends, transmitted-sends, by-passed, node-fits, Went, went}
+use Rattle.walk.proofs.Passing.{next-says, ask-says}
 
-pub next-sent : (s : Session) (out : List ℕ) → nextCheck s ≡ Clear
+pub next-sent : (s : Session) (out : List ℕ) → nextCheck s ≡ Passed
     → Sends s (nodeAt 0x00) (nodeAt (s .walk + 1)) (SetAddress (givenPlace (s .walk + 1))) out (nextOf s out)
 unfolding nextOf
 next-sent s out h =
     let t = next-says s h in
     let w = t .walking in
     let f = t .session .valid .few in
-    by-clear (nextCheck s) s _ _ _ out _ h (transmitted-sends s _ _ _ out refl (rw (node-fits (s .n) (s .walk + 1) f (omega arith))))
+    by-passed (nextCheck s) s _ _ _ out _ h (transmitted-sends s _ _ _ out refl (rw (node-fits (s .n) (s .walk + 1) f (omega arith))))
 
-pub ask-sent : (s : Session) (out : List ℕ) → askCheck s ≡ Clear → Sends s (nodeAt (s .walk + 1)) (nodeAt (s .walk + 1)) Nop out (askOf s out)
+pub ask-sent : (s : Session) (out : List ℕ) → askCheck s ≡ Passed → Sends s (nodeAt (s .walk + 1)) (nodeAt (s .walk + 1)) Nop out (askOf s out)
 unfolding askOf
 ask-sent s out h =
     let t = ask-says s h in
     let w = t .walking in
     let f = t .session .valid .few in
-    by-clear (askCheck s) s _ _ _ out _ h (transmitted-sends s _ _ _ out (node-fits (s .n) (s .walk + 1) f (omega arith)) refl)
+    by-passed (askCheck s) s _ _ _ out _ h (transmitted-sends s _ _ _ out (node-fits (s .n) (s .walk + 1) f (omega arith)) refl)
 
 module _ (s : Session) (out : List ℕ) where
   pub next-went : stepNumber (nextOf s out .answer) ≡ done

@@ -8,14 +8,14 @@ use Rattle.command.specs.declared.Command.the-variants.{SetAddress, Nop}
 use Rattle.command.specs.declared.Place.{Place}
 use Rattle.session.specs.declared.Session.{Session}
 use Rattle.session.specs.declared.Step.{Step}
-use Rattle.session.specs.Session.{stepNumber, refusedStep, nodeAt, givenPlace}
+use Rattle.session.specs.Session.{stepNumber, refuseOf, nodeAt, givenPlace}
 use Rattle.sending.specs.declared.Check.{Check}
-use Rattle.sending.specs.declared.Check.the-variants.{Clear, Refuse}
-use Rattle.sending.specs.Sending.{transmitted}
+use Rattle.sending.specs.declared.Check.the-variants.{Passed, Refuse}
+use Rattle.sending.specs.Sending.{transmitOf}
 use Rattle.walk.specs.Walk.{nextCheck, askCheck, nextOf, askOf}
 use Rattle.sending.proofs.Transmitting.{refused-by}
 
-module _ (k : Check) (s : Session) (out : List ℕ) (why : Refusal) (r : Step) (by : k ≡ Refuse why) (e : r ≡ refusedStep s why) where
+module _ (k : Check) (s : Session) (out : List ℕ) (why : Refusal) (r : Step) (by : k ≡ Refuse why) (e : r ≡ refuseOf s why) where
   pub next-refused : k ≡ nextCheck s → Lending stepNumber r out (nextOf s out)
   unfolding nextOf
   next-refused p = rw (← p) (refused-by k s out _ why r by e)
@@ -24,12 +24,12 @@ module _ (k : Check) (s : Session) (out : List ℕ) (why : Refusal) (r : Step) (
   unfolding askOf
   ask-refused p = rw (← p) (refused-by k s out _ why r by e)
 
-module _ (k : Check) (s : Session) (out o : List ℕ) (r : Step) (by : k ≡ Clear) where
+module _ (k : Check) (s : Session) (out o : List ℕ) (r : Step) (by : k ≡ Passed) where
   pub next-sends : (x : Place) → k ≡ nextCheck s → x ≡ givenPlace (s .walk + 1)
-      → Lending stepNumber r o (transmitted s (nodeAt 0x00) (nodeAt (s .walk + 1)) (SetAddress x) out) → Lending stepNumber r o (nextOf s out)
+      → Lending stepNumber r o (transmitOf s (nodeAt 0x00) (nodeAt (s .walk + 1)) (SetAddress x) out) → Lending stepNumber r o (nextOf s out)
   unfolding nextOf
   next-sends x p q l = rw (← p, by, ← q) l
 
-  pub ask-sends : k ≡ askCheck s → Lending stepNumber r o (transmitted s (nodeAt (s .walk + 1)) (nodeAt (s .walk + 1)) Nop out) → Lending stepNumber r o (askOf s out)
+  pub ask-sends : k ≡ askCheck s → Lending stepNumber r o (transmitOf s (nodeAt (s .walk + 1)) (nodeAt (s .walk + 1)) Nop out) → Lending stepNumber r o (askOf s out)
   unfolding askOf
   ask-sends p l = rw (← p, by) l

@@ -1,5 +1,5 @@
 // The walk: the host gives the nodes their addresses, one after another.
-// Promised: the refusals in the paper's order, else "next" sends Set Address to 0x00, or "ask" a Nop to the new address; any number but 0 changes nothing.
+// Promised: the refusals in the paper's sequence, else "next" sends Set Address to 0x00, or "ask" a Nop to the new address; any number but 0 changes nothing.
 // Left to others: how a walk starts (start), what an answer makes of it (reports), how long to wait for one (the caller).
 use command::Command;
 use node::Node;
@@ -44,7 +44,7 @@ pub fn next(s: Session, out: &mut [u8]) -> Step
 {
     match next_check(s) {
         Check::Refuse(why) => refuse(s, why),
-        Check::Clear => {
+        Check::Passed => {
             let k = s.walk + 1;
             let c = Command::SetAddress(given_place(k));
             transmit(
@@ -64,7 +64,7 @@ pub fn ask(s: Session, out: &mut [u8]) -> Step
 {
     match ask_check(s) {
         Check::Refuse(why) => refuse(s, why),
-        Check::Clear => {
+        Check::Passed => {
             let to = Address::Individual(Individual(s.walk + 1));
             transmit(s, to, to, Command::Nop, out)
         }

@@ -11,7 +11,7 @@ use Rattle.wire.specs.Part.{Part}
 pub none-left : (s : List ℕ) → take (length s - length s) (drop (length s) s) ≡ []
 none-left s = rw (drop-length s) (take-nil (length s - length s))
 
--- the same place, the same bytes, the same machine value
+-- the same position, the same bytes, the same machine value
 pub record SamePart (r r′ : RefT (List ℕ)) : Type 0 where
   pub block : r .ptr .0 ≡ r′ .ptr .0
   pub offset : r .ptr .1 ≡ r′ .ptr .1

@@ -1,4 +1,4 @@
--- Document 01, "Numbers returned": the only place where a refusal's number stands.
+-- Document 01, "Numbers returned": a refusal's number stands only here.
 use Prim.Native.Nat.{ℕ}
 use Rattle.wire.specs.declared.refusal.Refusal.{Refusal}
 use Rattle.wire.specs.declared.refusal.Refusal.the-variants as refusal

@@ -1,6 +1,6 @@
 // Individual and group addresses: two types, so that neither is ever taken for the other.
 ghost use mathlib.Core.Path.{_≡_};
-ghost use Rattle.wire.specs.Address.{addressOf, byteOf, inRange, isIndividual, isGroup};
+ghost use Rattle.wire.specs.Address.{addressOf, byteOf, inRange, individualInRange, groupInRange};
 
 // An individual address, 0x00 to 0x7F.
 pub struct Individual(pub u8);
@@ -17,7 +17,7 @@ pub enum Address {
 impl Individual {
     // A caller can make one of any byte: this is the test of its range.
     pub fn in_range(self) -> bool
-        ensures { λ r. ⌜ r ≡ isIndividual (self .0) ⌝ }
+        ensures { λ r. ⌜ r ≡ individualInRange (self .0) ⌝ }
     {
         self.0 < 0x80
     }
@@ -26,7 +26,7 @@ impl Individual {
 impl Group {
     // A caller can make one of any byte: this is the test of its range.
     pub fn in_range(self) -> bool
-        ensures { λ r. ⌜ r ≡ isGroup (self .0) ⌝ }
+        ensures { λ r. ⌜ r ≡ groupInRange (self .0) ⌝ }
     {
         0x80 <= self.0
     }

@@ -8,7 +8,7 @@ use native.Mathlib.Nat.{le-antisymm}
 use borrow.Author.Needs.{needs}
 use lib.ListN.{length, set, getD, length-set}
 use lib.Seq.{paste, paste-zero, paste-suc}
-use Rattle.buffer.specs.Buffer.{putAt}
+use Rattle.buffer.specs.Buffer.{putOf}
 use Rattle.buffer.proofs.Writing.{put-fits, put-not}
 use Rattle.buffer.proofs.put.Statement.{statement}
 use Rattle.buffer.proofs.put.Tie as tie
@@ -23,7 +23,7 @@ module _ (out src o : List ℕ) (at i : ℕ) (fits : at + length src ≤ length 
   more : i < length src → set o (at + i) (getD src i 0) ≡ paste out at src (i + 1)
   more h = rw (e, add-one) (paste-suc out at src i 0 (omega arith) (omega arith))
 
-  all : i ≤ length src → length src ≤ i → o ≡ putAt out at src
+  all : i ≤ length src → length src ≤ i → o ≡ putOf out at src
   all h k = e ∙ ap (paste out at src) (le-antisymm h k) ∙ sym (put-fits out at src fits)
 
 returns-3 : tie.Need-returns-3 Inv-loop μ-loop

@@ -26,20 +26,20 @@ use Rattle.chain.proofs.Walk.{Given, Item, ‵, raw, _⊛_, some, later
 use Rattle.chain.proofs.Walk.{owns, pureI, Is, shows, uint-makes, uint-lawful, usize, pointee, RefT, sliceVal, MutSlice, Room, heres, codedHoleys, at-slice, slice-vals, mut-slice-tells, row, place-is, elem-out, only, owned, facts, heard, nothing}
 use Rattle.chain.proofs.Walk.{plain, Contract, Triple, calls-at, onEntry, Meets, tripleOf, entered, cited, ensured, lasts, says, Stays, stay-none, walkOf, goes-none, Walks, ends-at, walked, walk-meets, yes}
 use Rattle.chain.proofs.Walk.{word, sliceIn, room, has, dies, tells}
-use Rattle.node.specs.Node.{taken}
+use Rattle.node.specs.Node.{takeOf}
 use Rattle.node.specs.declared.state.Node.{Node}
 use Rattle.chain.proofs.Record as T
 use Rattle.survey.specs.declared.decision.Decided.{Decided}
 use Rattle.survey.specs.Sets.{firstOf, withoutFirst}
 use Rattle.survey.specs.Survey.{nobody}
-use Rattle.survey.specs.Decision.{reachOf, visited}
+use Rattle.survey.specs.Decision.{spanOf, actAll}
 use Rattle.survey.proofs.decision.Decided as D
 use Rattle.survey.proofs.decision.Decided.Laws as D′
-use Rattle.survey.proofs.Visiting.{below-reach, visit-next, visit-end, fewer}
-use Rattle.chain.proofs.steps.reach as reach′
-use Rattle.chain.proofs.steps.reach.Symbol as reach-def
-use Rattle.chain.proofs.steps.reach.Symbol.{name as #chain·reach}
-use Rattle.chain.proofs.steps.reach.Met as reach-thm
+use Rattle.survey.proofs.Visiting.{below-span, visit-next, visit-end, fewer}
+use Rattle.chain.proofs.steps.span as span′
+use Rattle.chain.proofs.steps.span.Symbol as span-def
+use Rattle.chain.proofs.steps.span.Symbol.{name as #chain·span}
+use Rattle.chain.proofs.steps.span.Met as span-thm
 use Rattle.survey.proofs.first as first′
 use Rattle.survey.proofs.first.Symbol as first-def
 use Rattle.survey.proofs.first.Symbol.{name as #survey·first}
@@ -48,10 +48,10 @@ use Rattle.survey.proofs.without_first as without
 use Rattle.survey.proofs.without_first.Symbol as without-first-def
 use Rattle.survey.proofs.without_first.Symbol.{name as #survey·without-first}
 use Rattle.survey.proofs.without_first.Met as without-first-thm
-use Rattle.chain.proofs.steps.act as act′
-use Rattle.chain.proofs.steps.act.Symbol as act-def
-use Rattle.chain.proofs.steps.act.Symbol.{name as #chain·act}
-use Rattle.chain.proofs.steps.act.Met as act-thm
+use Rattle.chain.proofs.steps.take as take′
+use Rattle.chain.proofs.steps.take.Symbol as take-def
+use Rattle.chain.proofs.steps.take.Symbol.{name as #chain·take}
+use Rattle.chain.proofs.steps.take.Met as take-thm
 use Rattle.chain.proofs.act_all.Key.{name as #chain·act-all}
 use Rattle.chain.proofs.act_all as act-all
 use Rattle.chain.proofs.act_all.Statement as stated
@@ -81,7 +81,7 @@ low c = LL.tuple-val D.the-type D′.the-laws (D.the-type .to c)
 module _ {M : Type 1} (𝓤 : URA M) (H : Heap 𝓤) (A : Atoms 𝓤) (mem : Memory → SProp 𝓤) (run : Routine → Fun 𝓤) where
   -- the contracts that the proof cites
   abbrev Reach : Contract 𝓤
-  Reach = tripleOf 𝓤 H A reach′.signature (reach′.spec 𝓤 H A mem run)
+  Reach = tripleOf 𝓤 H A span′.signature (span′.spec 𝓤 H A mem run)
 
   abbrev First : Contract 𝓤
   First = tripleOf 𝓤 H A first′.signature (first′.spec 𝓤 H A mem run)
@@ -90,7 +90,7 @@ module _ {M : Type 1} (𝓤 : URA M) (H : Heap 𝓤) (A : Atoms 𝓤) (mem : Mem
   Without = tripleOf 𝓤 H A without.signature (without.spec 𝓤 H A mem run)
 
   abbrev Act : Contract 𝓤
-  Act = tripleOf 𝓤 H A act′.signature (act′.spec 𝓤 H A mem run)
+  Act = tripleOf 𝓤 H A take′.signature (take′.spec 𝓤 H A mem run)
 
 module _ {M : Type 1} (𝓤 : URA M) (H : Heap 𝓤) (A : Atoms 𝓤) (W : Given 𝓤 H A) (mem : Memory → SProp 𝓤) (run : Routine → Fun 𝓤) (κ : Lft) (q : Share) (b o : ℕ) (γ : GName) (ys : List Node) (c : Decided) (gc : Is D.the-row c (low c ∷ [])) (room₀ : Room T.the-row (length ys)) where
   abbrev n : ℕ
@@ -113,7 +113,7 @@ module _ {M : Type 1} (𝓤 : URA M) (H : Heap 𝓤) (A : Atoms 𝓤) (W : Given
 
   -- what the table is to be
   abbrev final : List Node
-  final = visited (c .heard) (c .acting) ys
+  final = actAll (c .message) (c .acting) ys
 
   exits : (zs : List Node) → length zs ≡ n → zs ≡ final → ent 𝓤 (⋆ 𝓤 H A (‵ (fobs γ (codedHoleys T.the-row .code (heres T.the-row zs))) ∷ ‵ (fbor κ (Held T.the-row (length zs) b o γ)) ∷ ‵ (flft κ q) ∷ [])) (Post vunit)
   exits zs e is =
@@ -131,8 +131,8 @@ module _ {M : Type 1} (𝓤 : URA M) (H : Heap 𝓤) (A : Atoms 𝓤) (W : Given
   goes-reach : ent 𝓤 (emp 𝓤) (Reach 𝓤 H A mem run .pre to-reach)
   goes-reach = qed W [] ∵ nothing ! $ owned ! usize (Is usize) (uint-makes 𝓤 H A W w64) n _ (refl, room₀ .0) $ fjoin ! $ nothing ! $ join ! $ frame ! $ done !
 
-  reach-of : (r : ℕ) → ent 𝓤 (ensured 𝓤 H A reach′.ended (reach′.clauses 𝓤 H A mem run) tt (n, tt) tt r) (fact 𝓤 (r ≡ reachOf n))
-  reach-of r = tells 𝓤 H A (lasts reach′.ended tt (n, tt)) (r ≡ reachOf n)
+  reach-of : (r : ℕ) → ent 𝓤 (ensured 𝓤 H A span′.ended (span′.clauses 𝓤 H A mem run) tt (n, tt) tt r) (fact 𝓤 (r ≡ spanOf n))
+  reach-of r = tells 𝓤 H A (lasts span′.ended tt (n, tt)) (r ≡ spanOf n)
 
   abbrev to-first : ℕ → First 𝓤 H A mem run .Ghost
   to-first s = ((tt, tt, tt, (s, tt), (vint w32 s ∷ [], tt)), tt)
@@ -159,10 +159,10 @@ module _ {M : Type 1} (𝓤 : URA M) (H : Heap 𝓤) (A : Atoms 𝓤) (W : Given
   goes-act d v gd =
       qed W [] ∵ nothing ! $ owned ! D.the-row (Is D.the-row) (LL.makes D.the-type D′.the-plain 𝓤 H A) c _ gc $ fjoin ! $ owned ! T.the-row (Is T.the-row) (T.makes 𝓤 H A) d _ gd $ fjoin ! $ nothing ! $ join ! $ frame ! $ done !
 
-  act-of : (d r : Node) → ent 𝓤 (ensured 𝓤 H A act′.ended (act′.clauses 𝓤 H A mem run) tt (d, (c, tt)) tt r) (fact 𝓤 (r ≡ taken (c .heard) d))
-  act-of d r = tells 𝓤 H A (lasts act′.ended tt (d, (c, tt))) (r ≡ taken (c .heard) d)
+  act-of : (d r : Node) → ent 𝓤 (ensured 𝓤 H A take′.ended (take′.clauses 𝓤 H A mem run) tt (d, (c, tt)) tt r) (fact 𝓤 (r ≡ takeOf (c .message) d))
+  act-of d r = tells 𝓤 H A (lasts take′.ended tt (d, (c, tt))) (r ≡ takeOf (c .message) d)
 
-  module _ (𝓣 : Tables 𝓤 H) (known-reach : Triple 𝓤 (𝓣 .C #chain·reach) (Reach 𝓤 H A mem run)) (known-first : Triple 𝓤 (𝓣 .C #survey·first) (First 𝓤 H A mem run)) (known-without-first : Triple 𝓤 (𝓣 .C #survey·without-first) (Without 𝓤 H A mem run)) (known-act : Triple 𝓤 (𝓣 .C #chain·act) (Act 𝓤 H A mem run)) (l₀ l₁ l₂ l₃ l₄ l₅ l₆ l₇ l₈ l₉ l₁₀ l₁₁ l₁₂ l₁₃ : ℕ) where
+  module _ (𝓣 : Tables 𝓤 H) (known-reach : Triple 𝓤 (𝓣 .C #chain·span) (Reach 𝓤 H A mem run)) (known-first : Triple 𝓤 (𝓣 .C #survey·first) (First 𝓤 H A mem run)) (known-without-first : Triple 𝓤 (𝓣 .C #survey·without-first) (Without 𝓤 H A mem run)) (known-act : Triple 𝓤 (𝓣 .C #chain·take) (Act 𝓤 H A mem run)) (l₀ l₁ l₂ l₃ l₄ l₅ l₆ l₇ l₈ l₉ l₁₀ l₁₁ l₁₂ l₁₃ : ℕ) where
     abbrev En : Env 𝓤 H
     En = (tyUnit, l₀) ∷ (slice, l₁) ∷ (Dc, l₂) ∷ (word, l₃) ∷ (set32, l₄) ∷ (word, l₅) ∷ (word, l₆) ∷ (tyBool, l₇) ∷ (Nd, l₈) ∷ (word, l₉) ∷ (tyPtr, l₁₀) ∷ (Nd, l₁₁) ∷ (word, l₁₂) ∷ (tyPtr, l₁₃) ∷ []
 
@@ -173,15 +173,15 @@ module _ {M : Type 1} (𝓤 : URA M) (H : Heap 𝓤) (A : Atoms 𝓤) (W : Given
     abbrev Left : Out → SProp 𝓤
     Left = afterBlock 𝓤 H (afterSeq 𝓤 H (Wp 𝓤 H (𝓣 .C) (𝓣 .Λ) En body.t-6 (atReturn 𝓤 H En Post)) (atReturn 𝓤 H En Post))
 
-    -- m is how far a set reaches along the table
-    module _ (m : ℕ) (reached : m ≡ reachOf n) where
+    -- m is how far a set spans along the table
+    module _ (m : ℕ) (reached : m ≡ spanOf n) where
       -- the nodes of s are to act yet, and the table is ws
       abbrev At : ℕ → List Node → List (Item 𝓤)
       At s ws = ‵ (row T.the-row fullShare ws b o) ∷ Locs (has word l₃ (vint w64 m)) (has set32 l₄ (vint w32 s)) (has word l₅ (vint w64 (firstOf s)))
           (‵ (fobor κ q (Held T.the-row n b o γ)) ∷ ‵ (fobs γ (codedHoleys T.the-row .code (heres T.the-row ys))) ∷ ‵ (fauth γ (codedHoleys T.the-row .code (heres T.the-row ys))) ∷ [])
 
       abbrev Facts : ℕ → List Node → Type 0
-      Facts s ws = (s < 2 ^ 32) × (length ws ≡ n) × (visited (c .heard) s ws ≡ final)
+      Facts s ws = (s < 2 ^ 32) × (length ws ≡ n) × (actAll (c .message) s ws ≡ final)
 
       abbrev Inv : ℕ → SProp 𝓤
       Inv s = ex 𝓤 (λ (ws : List Node). guard 𝓤 (Facts s ws) (⋆ 𝓤 H A (At s ws)))
@@ -190,7 +190,7 @@ module _ {M : Type 1} (𝓤 : URA M) (H : Heap 𝓤) (A : Atoms 𝓤) (W : Given
       Below s = ex 𝓤 (λ (t : ℕ). guard 𝓤 (t < s) (Inv t))
 
       -- a turn
-      more : (s : ℕ) (ws : List Node) (X : SProp 𝓤) → s < 2 ^ 32 → firstOf s < m → firstOf s < n → firstOf s < length ws → ((r : Node) → r ≡ taken (c .heard) (getD ws (firstOf s) nobody) → ent 𝓤 (⋆ 𝓤 H A (At (withoutFirst s) (set ws (firstOf s) r))) X) → ent 𝓤 (⋆ 𝓤 H A (At s ws)) (Wp 𝓤 H (𝓣 .C) (𝓣 .Λ) En body.turn-1 (afterTurn 𝓤 H X Left))
+      more : (s : ℕ) (ws : List Node) (X : SProp 𝓤) → s < 2 ^ 32 → firstOf s < m → firstOf s < n → firstOf s < length ws → ((r : Node) → r ≡ takeOf (c .message) (getD ws (firstOf s) nobody) → ent 𝓤 (⋆ 𝓤 H A (At (withoutFirst s) (set ws (firstOf s) r))) X) → ent 𝓤 (⋆ 𝓤 H A (At s ws)) (Wp 𝓤 H (𝓣 .C) (𝓣 .Λ) En body.turn-1 (afterTurn 𝓤 H X Left))
       unfolding afterTurn
       more s ws X s-fits small inside within k =
           qed W (At s ws) ∵ exec ! (𝓣 .C) (𝓣 .Λ) En body.turn-1 (anyQ (afterTurn 𝓤 H X Left)) $
@@ -205,8 +205,8 @@ module _ {M : Type 1} (𝓤 : URA M) (H : Heap 𝓤) (A : Atoms 𝓤) (W : Given
           assigns ! (of-opd ! (load ! (from ! (hop ! (look ! 9 refl) (stop !))) (look-raw ! 0 refl))) (from ! (stop !)) (init ! 7 refl (T.lawful 𝓤 H A W .typed (getD ws (firstOf s) nobody) _ g .0)) $
           use0 W (raw (Act 𝓤 H A mem run .pre (to-act (getD ws (firstOf s) nobody) (T.lowered (getD ws (firstOf s) nobody))))) (goes-act (getD ws (firstOf s) nobody) (T.lowered (getD ws (firstOf s) nobody)) g) $
           calls-at ! (fmOf 𝓤 H (W .laws) 𝓣) (Act 𝓤 H A mem run) known-act (to-act (getD ws (firstOf s) nobody) (T.lowered (getD ws (firstOf s) nobody))) (and-then ! (load ! (from ! (stop !)) (look ! 8 refl)) (and-then ! (load ! (from ! (stop !)) (look ! 26 refl)) (no-more !))) (λ v.
-          use1 W (later (some (λ (r : Node). (‵ ftrue ⊛ ‵ (T.the-row .own r (v ∷ []))) ⊛ raw (ensured 𝓤 H A act′.ended (act′.clauses 𝓤 H A mem run) tt (getD ws (firstOf s) nobody, (c, tt)) tt r)))) (id⊢ 𝓤 _) $ await ! tt $ pick ! (λ r.
-          split ! $ move ! (1 ∷ []) $ use1 W (raw (fact 𝓤 (r ≡ taken (c .heard) (getD ws (firstOf s) nobody)))) (act-of (getD ws (firstOf s) nobody) r) $ heard ! (r ≡ taken (c .heard) (getD ws (firstOf s) nobody)) (λ e. split ! $ let-go ! $
+          use1 W (later (some (λ (r : Node). (‵ ftrue ⊛ ‵ (T.the-row .own r (v ∷ []))) ⊛ raw (ensured 𝓤 H A take′.ended (take′.clauses 𝓤 H A mem run) tt (getD ws (firstOf s) nobody, (c, tt)) tt r)))) (id⊢ 𝓤 _) $ await ! tt $ pick ! (λ r.
+          split ! $ move ! (1 ∷ []) $ use1 W (raw (fact 𝓤 (r ≡ takeOf (c .message) (getD ws (firstOf s) nobody)))) (act-of (getD ws (firstOf s) nobody) r) $ heard ! (r ≡ takeOf (c .message) (getD ws (firstOf s) nobody)) (λ e. split ! $ let-go ! $
           peeks ! T.the-row (Is T.the-row) (shows 𝓤 H A T.the-row) r (v ∷ []) (λ is.
           -- [what r owns; table[i]; what it owns; the others; _13; …]
           land ! (from ! (stop !)) (init ! 14 refl (T.lawful 𝓤 H A W .typed r _ is .0)) $
@@ -256,7 +256,7 @@ module _ {M : Type 1} (𝓤 : URA M) (H : Heap 𝓤) (A : Atoms 𝓤) (W : Given
 
       turn-by : (s : ℕ) (ws : List Node) (t : Bool) → ltb (firstOf s) m ≡ t → Facts s ws → ent 𝓤 (⋆ 𝓤 H A (At s ws)) (Wp 𝓤 H (𝓣 .C) (𝓣 .Λ) En body.turn-1 (afterTurn 𝓤 H (Below s) Left))
       turn-by s ws false by-test e =
-          ends s ws (Below s) past (e .1) (sym (visit-end (c .heard) s ws (subst (λ (z : ℕ). z ≤ firstOf s) (reached ∙ ap reachOf (sym (e .1))) past) (e .0)) ∙ e .2)
+          ends s ws (Below s) past (e .1) (sym (visit-end (c .message) s ws (subst (λ (z : ℕ). z ≤ firstOf s) (reached ∙ ap spanOf (sym (e .1))) past) (e .0)) ∙ e .2)
         where
           past : m ≤ firstOf s
           past = ltb-false (firstOf s) m by-test
@@ -269,10 +269,10 @@ module _ {M : Type 1} (𝓤 : URA M) (H : Heap 𝓤) (A : Atoms 𝓤) (W : Given
           small = ltb-true (firstOf s) m by-test
 
           both : (firstOf s < 32) × (firstOf s < length ws)
-          both = below-reach (firstOf s) (length ws) (subst (λ (z : ℕ). firstOf s < z) (reached ∙ ap reachOf (sym (e .1))) small)
+          both = below-span (firstOf s) (length ws) (subst (λ (z : ℕ). firstOf s < z) (reached ∙ ap spanOf (sym (e .1))) small)
 
-          kept : (r : Node) → r ≡ taken (c .heard) (getD ws (firstOf s) nobody) → visited (c .heard) (withoutFirst s) (set ws (firstOf s) r) ≡ final
-          kept r is = ap (λ (z : Node). visited (c .heard) (withoutFirst s) (set ws (firstOf s) z)) is ∙ visit-next (c .heard) s ws nobody (both .0) (both .1) ∙ e .2
+          kept : (r : Node) → r ≡ takeOf (c .message) (getD ws (firstOf s) nobody) → actAll (c .message) (withoutFirst s) (set ws (firstOf s) r) ≡ final
+          kept r is = ap (λ (z : Node). actAll (c .message) (withoutFirst s) (set ws (firstOf s) z)) is ∙ visit-next (c .message) s ws nobody (both .0) (both .1) ∙ e .2
 
           smaller : (t u : ℕ) → t < u → u < 2 ^ 32 → t < 2 ^ 32
           smaller t u l h = omega arith
@@ -290,7 +290,7 @@ module _ {M : Type 1} (𝓤 : URA M) (H : Heap 𝓤) (A : Atoms 𝓤) (W : Given
     abbrev Passed : Item 𝓤 → Item 𝓤 → List (Item 𝓤)
     Passed i₃ i₄ = Locs i₃ i₄ (room word l₅) ((‵ (flft κ q) ⊛ ‵ ftrue) ∷ ‵ (owns (MutSlice (named 0) κ T.the-row ∷ D.the-row ∷ []) a vals) ∷ [])
 
-    second : (m : ℕ) → m ≡ reachOf n → ent 𝓤 (⋆ 𝓤 H A (Passed (has word l₃ (vint w64 m)) (has set32 l₄ (vint w32 (c .acting))))) (Wp 𝓤 H (𝓣 .C) (𝓣 .Λ) En body.t-4 (atReturn 𝓤 H En Post))
+    second : (m : ℕ) → m ≡ spanOf n → ent 𝓤 (⋆ 𝓤 H A (Passed (has word l₃ (vint w64 m)) (has set32 l₄ (vint w32 (c .acting))))) (Wp 𝓤 H (𝓣 .C) (𝓣 .Λ) En body.t-4 (atReturn 𝓤 H En Post))
     second m e =
         qed W (Passed (has word l₃ (vint w64 m)) (has set32 l₄ (vint w32 (c .acting)))) ∵ exec ! (𝓣 .C) (𝓣 .Λ) En body.t-4 (atRet En Post) $
         use0 W (raw (First 𝓤 H A mem run .pre (to-first (c .acting)))) (goes-first (c .acting) acting-fits) $
@@ -311,15 +311,15 @@ module _ {M : Type 1} (𝓤 : URA M) (H : Heap 𝓤) (A : Atoms 𝓤) (W : Given
         assigns ! (of-opd ! (load ! (from ! (fld ! refl (stop !))) (look-in ! 24 (sub ! 1 refl (whole !))))) (from ! (stop !)) (init ! 14 refl (tt, record { fits = room₀ .0 })) $
         use0 W (raw (Reach 𝓤 H A mem run .pre to-reach)) goes-reach $
         calls-at ! (fmOf 𝓤 H (W .laws) 𝓣) (Reach 𝓤 H A mem run) known-reach to-reach (and-then ! (load ! (from ! (stop !)) (look ! 15 refl)) (no-more !)) (λ v.
-        use1 W (later (some (λ (m : ℕ). (‵ ftrue ⊛ ‵ (usize .own m (v ∷ []))) ⊛ raw (ensured 𝓤 H A reach′.ended (reach′.clauses 𝓤 H A mem run) tt (n, tt) tt m)))) (id⊢ 𝓤 _) $ await ! tt $ pick ! (λ m.
-        split ! $ move ! (1 ∷ []) $ use1 W (raw (fact 𝓤 (m ≡ reachOf n))) (reach-of m) $ heard ! (m ≡ reachOf n) (λ e. split ! $ let-go ! $
+        use1 W (later (some (λ (m : ℕ). (‵ ftrue ⊛ ‵ (usize .own m (v ∷ []))) ⊛ raw (ensured 𝓤 H A span′.ended (span′.clauses 𝓤 H A mem run) tt (n, tt) tt m)))) (id⊢ 𝓤 _) $ await ! tt $ pick ! (λ m.
+        split ! $ move ! (1 ∷ []) $ use1 W (raw (fact 𝓤 (m ≡ spanOf n))) (reach-of m) $ heard ! (m ≡ spanOf n) (λ e. split ! $ let-go ! $
         facts ! usize (Is usize) (shows 𝓤 H A usize) m (v ∷ []) (λ is.
         land ! (from ! (stop !)) (init ! 20 refl (uint-lawful 𝓤 H A W w64 .typed m _ is .0)) $
         rewrite ! 20 (λ (z : Val). has word l₃ z) (ap only (is .0)) refl $
         assigns ! (of-opd ! (load ! (from ! (fld ! {τ = set32} {d = 16} refl (stop !))) (look-in ! 22 (sub ! 1 {τ = set32} {d = 16} refl (whole !))))) (from ! (stop !)) (init ! 18 refl (tt, record { fits = acting-fits })) $
         forget ! 14 refl $ by ! (second m e)))))
 
-  walk : (𝓣 : Tables 𝓤 H) → Triple 𝓤 (𝓣 .C #chain·reach) (Reach 𝓤 H A mem run) → Triple 𝓤 (𝓣 .C #survey·first) (First 𝓤 H A mem run) → Triple 𝓤 (𝓣 .C #survey·without-first) (Without 𝓤 H A mem run) → Triple 𝓤 (𝓣 .C #chain·act) (Act 𝓤 H A mem run)
+  walk : (𝓣 : Tables 𝓤 H) → Triple 𝓤 (𝓣 .C #chain·span) (Reach 𝓤 H A mem run) → Triple 𝓤 (𝓣 .C #survey·first) (First 𝓤 H A mem run) → Triple 𝓤 (𝓣 .C #survey·without-first) (Without 𝓤 H A mem run) → Triple 𝓤 (𝓣 .C #chain·take) (Act 𝓤 H A mem run)
       → ent 𝓤 (onEntry 𝓤 H A act-all.signature (κ, tt) (q, tt) a vals) (WpFn 𝓤 H (𝓣 .C) (𝓣 .Λ) code.function (v₁ ∷ low c ∷ []) Post)
   walk 𝓣 known-reach known-first known-without-first known-act =
       qed W ((‵ (flft κ q) ⊛ ‵ ftrue) ∷ ‵ (owns (MutSlice (named 0) κ T.the-row ∷ D.the-row ∷ []) a vals) ∷ []) ∵ enter ! (𝓣 .C) (𝓣 .Λ) code.function (v₁ ∷ low c ∷ []) _ $
@@ -327,7 +327,7 @@ module _ {M : Type 1} (𝓤 : URA M) (H : Heap 𝓤) (A : Atoms 𝓤) (W : Given
       pass1 ! (init ! 24 refl (tt, (tt, (record { fits = room₀ .0 }, tt)))) $ pass1 ! (init ! 22 refl (LL.lawful D.the-type D′.the-laws 𝓤 H A W .typed c _ gc .0)) $ pass0 ! $
       by ! (starts 𝓣 known-reach known-first known-without-first known-act l₀ l₁ l₂ l₃ l₄ l₅ l₆ l₇ l₈ l₉ l₁₀ l₁₁ l₁₂ l₁₃)))))))))))))))
 
-module _ {M : Type 1} (𝓤 : URA M) (H : Heap 𝓤) (A : Atoms 𝓤) (W : Given 𝓤 H A) (mem : Memory → SProp 𝓤) (run : Routine → Fun 𝓤) (𝓣 : Tables 𝓤 H) (known-reach : Triple 𝓤 (𝓣 .C #chain·reach) (Reach 𝓤 H A mem run)) (known-first : Triple 𝓤 (𝓣 .C #survey·first) (First 𝓤 H A mem run)) (known-without-first : Triple 𝓤 (𝓣 .C #survey·without-first) (Without 𝓤 H A mem run)) (known-act : Triple 𝓤 (𝓣 .C #chain·act) (Act 𝓤 H A mem run)) where
+module _ {M : Type 1} (𝓤 : URA M) (H : Heap 𝓤) (A : Atoms 𝓤) (W : Given 𝓤 H A) (mem : Memory → SProp 𝓤) (run : Routine → Fun 𝓤) (𝓣 : Tables 𝓤 H) (known-reach : Triple 𝓤 (𝓣 .C #chain·span) (Reach 𝓤 H A mem run)) (known-first : Triple 𝓤 (𝓣 .C #survey·first) (First 𝓤 H A mem run)) (known-without-first : Triple 𝓤 (𝓣 .C #survey·without-first) (Without 𝓤 H A mem run)) (known-act : Triple 𝓤 (𝓣 .C #chain·take) (Act 𝓤 H A mem run)) where
   act-all-walks : Walks 𝓤 H A act-all.ended stayed (WpFn 𝓤 H (𝓣 .C) (𝓣 .Λ) code.function) (act-all.clauses 𝓤 H A mem run)
   act-all-walks = walked 𝓤 H A act-all.ended stayed (act-all.clauses 𝓤 H A mem run) (WpFn 𝓤 H (𝓣 .C) (𝓣 .Λ) code.function)
       (λ κs. (slice-vals, (LL.vals D.the-type D′.the-laws, tt))) (λ κs. (mut-slice-tells (named 0) (κs .0) T.the-row, (LL.tells D.the-type D′.the-laws, tt)))
@@ -345,7 +345,7 @@ act-all-spec 𝓤 H 𝓜 𝓖 𝓡 =
     entered 𝓤 H (tripleOf 𝓤 H (𝓖 .A) act-all.signature (act-all.spec 𝓤 H (𝓖 .A) (𝓜 .mem) (𝓡 .run)))
     (tables 𝓤 H 𝓜 𝓡 code.env .C) (tables 𝓤 H 𝓜 𝓡 code.env .Λ) #chain·act-all code.function (code.unfolded 𝓤 H 𝓜 𝓡)
     (act-all-meets 𝓤 H (𝓖 .A) (givenOf 𝓤 H 𝓜 𝓖) (𝓜 .mem) (𝓡 .run) (tablesOf 𝓤 H 𝓜 (tables 𝓤 H 𝓜 𝓡 code.env))
-    (cited 𝓤 H (Reach 𝓤 H (𝓖 .A) (𝓜 .mem) (𝓡 .run)) 𝓜 𝓡 code.env #chain·reach reach-def.routine code.calls-chain·steps·reach (reach-thm.met 𝓤 H 𝓜 𝓖 𝓡))
+    (cited 𝓤 H (Reach 𝓤 H (𝓖 .A) (𝓜 .mem) (𝓡 .run)) 𝓜 𝓡 code.env #chain·span span-def.routine code.calls-chain·steps·span (span-thm.met 𝓤 H 𝓜 𝓖 𝓡))
     (cited 𝓤 H (First 𝓤 H (𝓖 .A) (𝓜 .mem) (𝓡 .run)) 𝓜 𝓡 code.env #survey·first first-def.routine code.calls-survey·first (first-thm.met 𝓤 H 𝓜 𝓖 𝓡))
     (cited 𝓤 H (Without 𝓤 H (𝓖 .A) (𝓜 .mem) (𝓡 .run)) 𝓜 𝓡 code.env #survey·without-first without-first-def.routine code.calls-survey·without-first (without-first-thm.met 𝓤 H 𝓜 𝓖 𝓡))
-    (cited 𝓤 H (Act 𝓤 H (𝓖 .A) (𝓜 .mem) (𝓡 .run)) 𝓜 𝓡 code.env #chain·act act-def.routine code.calls-chain·steps·act (act-thm.met 𝓤 H 𝓜 𝓖 𝓡)))
+    (cited 𝓤 H (Act 𝓤 H (𝓖 .A) (𝓜 .mem) (𝓡 .run)) 𝓜 𝓡 code.env #chain·take take-def.routine code.calls-chain·steps·take (take-thm.met 𝓤 H 𝓜 𝓖 𝓡)))

@@ -1,4 +1,4 @@
--- `chain::deliver` meets its contract: a walk of its MIR, by hand. The packet is copied to `hear`; the table is lent as a `&[Node]` to `survey_all`, and goes to `act_all` for good; the reply goes to `decide` for good.
+-- `chain::deliver` meets its contract: a walk of its MIR, by hand. The packet is copied to `receive`; the table is lent as a `&[Node]` to `survey_all`, and goes to `act_all` for good; the reply goes to `decide` for good.
 -- Assumes nothing.
 use mathlib.Core.Path.{_≡_, refl, sym, subst}
 use Prim.Native.Nat.{ℕ}
@@ -21,9 +21,9 @@ use Rattle.survey.specs.declared.plan.Incoming.{Incoming}
 use Rattle.survey.specs.declared.plan.Survey.{Survey}
 use Rattle.survey.specs.declared.decision.Decided.{Decided}
 use Rattle.survey.specs.declared.decision.Delivery.{Delivery}
-use Rattle.survey.specs.Survey.{incomingOf, surveyOf}
-use Rattle.survey.specs.Decision.{decidedOf, visited}
-use Rattle.survey.specs.Delivery.{deliveredOn, deliveryNumber}
+use Rattle.survey.specs.Survey.{receiveOf, surveyAll}
+use Rattle.survey.specs.Decision.{decideOf, actAll}
+use Rattle.survey.specs.Delivery.{deliverOf, deliveryNumber}
 use Rattle.survey.proofs.plan.Incoming as I
 use Rattle.survey.proofs.plan.Incoming.Laws as I′
 use Rattle.survey.proofs.plan.Survey as S
@@ -34,10 +34,10 @@ use Rattle.survey.proofs.decision.Delivery as Y
 use Rattle.survey.proofs.decision.Delivery.Laws as Y′
 use Rattle.survey.proofs.Joining.{joined}
 use Rattle.chain.proofs.Shared.{LentShared, lends-shared, comes-back}
-use Rattle.survey.proofs.hear as hear′
-use Rattle.survey.proofs.hear.Symbol as hear-def
-use Rattle.survey.proofs.hear.Symbol.{name as #survey·hear}
-use Rattle.survey.proofs.hear.Met as hear-thm
+use Rattle.survey.proofs.receive as receive′
+use Rattle.survey.proofs.receive.Symbol as receive-def
+use Rattle.survey.proofs.receive.Symbol.{name as #survey·receive}
+use Rattle.survey.proofs.receive.Met as receive-thm
 use Rattle.chain.proofs.survey_all as survey-all′
 use Rattle.chain.proofs.survey_all.Symbol as survey-all-def
 use Rattle.chain.proofs.survey_all.Symbol.{name as #chain·survey-all}
@@ -82,7 +82,7 @@ Dy = spell body.table (pointee (Y.the-row .written))
 module _ {M : Type 1} (𝓤 : URA M) (H : Heap 𝓤) (A : Atoms 𝓤) (mem : Memory → SProp 𝓤) (run : Routine → Fun 𝓤) where
   -- the contracts that the proof cites
   abbrev Hear : Contract 𝓤
-  Hear = tripleOf 𝓤 H A hear′.signature (hear′.spec 𝓤 H A mem run)
+  Hear = tripleOf 𝓤 H A receive′.signature (receive′.spec 𝓤 H A mem run)
 
   abbrev SurveyAll : Contract 𝓤
   SurveyAll = tripleOf 𝓤 H A survey-all′.signature (survey-all′.spec 𝓤 H A mem run)
@@ -135,7 +135,7 @@ module _ {M : Type 1} (𝓤 : URA M) (H : Heap 𝓤) (A : Atoms 𝓤) (W : Given
 
   -- what `deliver` says of its answer and of what it leaves in the table and in the reply
   abbrev Delivers : Delivery → List Node → List ℕ → Type 0
-  Delivers r zs ws = Lending deliveryNumber r (record { nodes = zs; reply = ws }) (deliveredOn ys (pk .now) (rp .now))
+  Delivers r zs ws = Lending deliveryNumber r (record { nodes = zs; reply = ws }) (deliverOf ys (pk .now) (rp .now))
 
   exits : (r : Delivery) (mr : Val) (zs : List Node) (ws : List ℕ) → Is Y.the-row r (mr ∷ []) → length zs ≡ length ys → length ws ≡ length (rp .now) → Delivers r zs ws
       → ent 𝓤 (⋆ 𝓤 H A ((‵ (flft κ₀ q₀) ⊛ ‵ ftrue) ∷ Toks ∷ ‵ (finally T.the-row γ zs) ∷ Packet ∷ ‵ (finally u8 (rp .name) ws) ∷ [])) (Post mr)
@@ -153,8 +153,8 @@ module _ {M : Type 1} (𝓤 : URA M) (H : Heap 𝓤) (A : Atoms 𝓤) (W : Given
   goes-hear =
       qed W (‵ (flft κ₁ q₁) ∷ Packet ∷ []) ∵ nothing ! $ move ! (2 ∷ 0 ∷ []) $ fjoin ! $ nothing ! $ move ! (2 ∷ 0 ∷ []) $ join ! $ join ! $ frame ! $ done !
 
-  hear-of : (c : Incoming) → ent 𝓤 (ensured 𝓤 H A hear′.ended (hear′.clauses 𝓤 H A mem run) (κ₁, tt) (pk, tt) tt c) (fact 𝓤 (c ≡ incomingOf (pk .now)))
-  hear-of c = tells 𝓤 H A (lasts hear′.ended (κ₁, tt) (pk, tt)) (c ≡ incomingOf (pk .now))
+  hear-of : (c : Incoming) → ent 𝓤 (ensured 𝓤 H A receive′.ended (receive′.clauses 𝓤 H A mem run) (κ₁, tt) (pk, tt) tt c) (fact 𝓤 (c ≡ receiveOf (pk .now)))
+  hear-of c = tells 𝓤 H A (lasts receive′.ended (κ₁, tt) (pk, tt)) (c ≡ receiveOf (pk .now))
 
   abbrev to-survey : ℕ → GName → Incoming → Val → SurveyAll 𝓤 H A mem run .Ghost
   to-survey ν δ c mc = (((ν ∷ [], tt), (fullShare, tt), tt, (x δ, (c, tt)), (v₁ ∷ [], (mc ∷ [], tt))), tt)
@@ -163,8 +163,8 @@ module _ {M : Type 1} (𝓤 : URA M) (H : Heap 𝓤) (A : Atoms 𝓤) (W : Given
   goes-survey ν δ c mc gc =
       qed W (‵ (flft (ν ∷ []) fullShare) ∷ ‵ (ShrSlice (named 0) (ν ∷ []) T.the-row .own (x δ) (v₁ ∷ [])) ∷ []) ∵ nothing ! $ owned ! I.the-row (Is I.the-row) (EL.makes I.the-type I′.the-plain 𝓤 H A) c _ gc $ fjoin ! $ move ! (2 ∷ 0 ∷ []) $ fjoin ! $ nothing ! $ move ! (2 ∷ 0 ∷ []) $ join ! $ join ! $ frame ! $ done !
 
-  survey-of : (ν : ℕ) (δ : GName) (c : Incoming) (s : Survey) → ent 𝓤 (ensured 𝓤 H A survey-all′.ended (survey-all′.clauses 𝓤 H A mem run) (ν ∷ [], tt) (x δ, (c, tt)) tt s) (fact 𝓤 (s ≡ surveyOf c ys))
-  survey-of ν δ c s = tells 𝓤 H A (lasts survey-all′.ended (ν ∷ [], tt) (x δ, (c, tt))) (s ≡ surveyOf c ys)
+  survey-of : (ν : ℕ) (δ : GName) (c : Incoming) (s : Survey) → ent 𝓤 (ensured 𝓤 H A survey-all′.ended (survey-all′.clauses 𝓤 H A mem run) (ν ∷ [], tt) (x δ, (c, tt)) tt s) (fact 𝓤 (s ≡ surveyAll c ys))
+  survey-of ν δ c s = tells 𝓤 H A (lasts survey-all′.ended (ν ∷ [], tt) (x δ, (c, tt))) (s ≡ surveyAll c ys)
 
   abbrev to-decide : Survey → Val → Decide 𝓤 H A mem run .Ghost
   to-decide s ms = (((κ₂, tt), (q₂, tt), tt, (s, (rp, tt)), (ms ∷ [], (v₃ ∷ [], tt))), tt)
@@ -175,7 +175,7 @@ module _ {M : Type 1} (𝓤 : URA M) (H : Heap 𝓤) (A : Atoms 𝓤) (W : Given
 
   -- what `decide` says of its answer and of what it leaves in the reply
   abbrev Decides : Survey → Decided → List ℕ → Type 0
-  Decides s d ws = record { answer = d; left = ws } ≡ decidedOf s (rp .now)
+  Decides s d ws = record { answer = d; left = ws } ≡ decideOf s (rp .now)
 
   abbrev to-act : Decided → Val → ActAll 𝓤 H A mem run .Ghost
   to-act d md = (((κ₀, tt), (q₀, tt), tt, (x γ, (d, tt)), (v₁ ∷ [], (md ∷ [], tt))), tt)
@@ -194,7 +194,7 @@ module _ {M : Type 1} (𝓤 : URA M) (H : Heap 𝓤) (A : Atoms 𝓤) (W : Given
   answer-of-of : (d : Decided) (r : Delivery) → ent 𝓤 (ensured 𝓤 H A answer-of′.ended (answer-of′.clauses 𝓤 H A mem run) tt (d, tt) tt r) (fact 𝓤 (r ≡ d .answer))
   answer-of-of d r = tells 𝓤 H A (lasts answer-of′.ended tt (d, tt)) (r ≡ d .answer)
 
-  module _ (𝓣 : Tables 𝓤 H) (known-hear : Triple 𝓤 (𝓣 .C #survey·hear) (Hear 𝓤 H A mem run)) (known-survey : Triple 𝓤 (𝓣 .C #chain·survey-all) (SurveyAll 𝓤 H A mem run)) (known-decide : Triple 𝓤 (𝓣 .C #survey·decide) (Decide 𝓤 H A mem run)) (known-act : Triple 𝓤 (𝓣 .C #chain·act-all) (ActAll 𝓤 H A mem run)) (known-answer : Triple 𝓤 (𝓣 .C #chain·answer-of) (AnswerOf 𝓤 H A mem run)) (l₀ l₁ l₂ l₃ l₄ l₅ l₆ l₇ l₈ l₉ l₁₀ l₁₁ l₁₂ l₁₃ : ℕ) where
+  module _ (𝓣 : Tables 𝓤 H) (known-hear : Triple 𝓤 (𝓣 .C #survey·receive) (Hear 𝓤 H A mem run)) (known-survey : Triple 𝓤 (𝓣 .C #chain·survey-all) (SurveyAll 𝓤 H A mem run)) (known-decide : Triple 𝓤 (𝓣 .C #survey·decide) (Decide 𝓤 H A mem run)) (known-act : Triple 𝓤 (𝓣 .C #chain·act-all) (ActAll 𝓤 H A mem run)) (known-answer : Triple 𝓤 (𝓣 .C #chain·answer-of) (AnswerOf 𝓤 H A mem run)) (l₀ l₁ l₂ l₃ l₄ l₅ l₆ l₇ l₈ l₉ l₁₀ l₁₁ l₁₂ l₁₃ : ℕ) where
     abbrev En : Env 𝓤 H
     En = (Dy, l₀) ∷ ((sliceIn 0 mut Nd), l₁) ∷ ((sliceIn 1 imm byte), l₂) ∷ ((sliceIn 2 mut byte), l₃) ∷ (In, l₄) ∷ (Su, l₅) ∷ (De, l₆) ∷ ((tyRef erased imm Nd), l₇) ∷ ((sliceHere imm Nd), l₈) ∷ ((tyRef erased mut byte), l₉) ∷ ((sliceHere mut byte), l₁₀) ∷ (tyUnit, l₁₁) ∷ ((tyRef erased mut Nd), l₁₂) ∷ ((sliceHere mut Nd), l₁₃) ∷ []
 
@@ -227,7 +227,7 @@ module _ {M : Type 1} (𝓤 : URA M) (H : Heap 𝓤) (A : Atoms 𝓤) (W : Given
         by ! (exits r v zs ws is l₀′ l₂′ (subst (λ (y : Delivery). Delivers y zs ws) (sym e) told))))))
 
     -- from the call of `act_all`
-    fourth : (c : Incoming) (mc : Val) (s : Survey) (ms : Val) (d : Decided) (md : Val) (ws : List ℕ) → Is D.the-row d (md ∷ []) → c ≡ incomingOf (pk .now) → s ≡ surveyOf c ys → Decides s d ws → length ws ≡ length (rp .now)
+    fourth : (c : Incoming) (mc : Val) (s : Survey) (ms : Val) (d : Decided) (md : Val) (ws : List ℕ) → Is D.the-row d (md ∷ []) → c ≡ receiveOf (pk .now) → s ≡ surveyAll c ys → Decides s d ws → length ws ≡ length (rp .now)
         → ent 𝓤 (⋆ 𝓤 H A (Locs (has In l₄ mc) (has Su l₅ ms) (has De l₆ md) (has (tyRef erased imm Nd) l₇ p₁) (has (sliceHere imm Nd) l₈ v₁) (has (tyRef erased mut byte) l₉ p₃) (has (sliceHere mut byte) l₁₀ v₃) (room tyUnit l₁₁) (room (tyRef erased mut Nd) l₁₂) (room (sliceHere mut Nd) l₁₃) (‵ (flft κ₀ q₀) ∷ Toks ∷ Table ∷ Packet ∷ ‵ (finally u8 (rp .name) ws) ∷ []))) (Wp 𝓤 H (𝓣 .C) (𝓣 .Λ) En body.t-8 (atReturn 𝓤 H En Post))
     fourth c mc s ms d md ws gd ec es ed l₂′ =
         qed W (Locs (has In l₄ mc) (has Su l₅ ms) (has De l₆ md) (has (tyRef erased imm Nd) l₇ p₁) (has (sliceHere imm Nd) l₈ v₁) (has (tyRef erased mut byte) l₉ p₃) (has (sliceHere mut byte) l₁₀ v₃) (room tyUnit l₁₁) (room (tyRef erased mut Nd) l₁₂) (room (sliceHere mut Nd) l₁₃) (‵ (flft κ₀ q₀) ∷ Toks ∷ Table ∷ Packet ∷ ‵ (finally u8 (rp .name) ws) ∷ [])) ∵
@@ -238,15 +238,15 @@ module _ {M : Type 1} (𝓤 : URA M) (H : Heap 𝓤) (A : Atoms 𝓤) (W : Given
         -- [what `act_all` asks; _13; …; Toks; Packet; the reply's last list]
         calls-at ! (fmOf 𝓤 H (W .laws) 𝓣) (ActAll 𝓤 H A mem run) known-act (to-act d md) (and-then ! (load ! (from ! (stop !)) (look ! 1 refl)) (and-then ! (load ! (from ! (stop !)) (look ! 15 refl)) (no-more !))) (λ v.
         use1 W (later (some (λ (u : Unit {0}). ((‵ (flft κ₀ q₀) ⊛ ‵ ftrue) ⊛ ‵ (unit .own u (v ∷ []))) ⊛ raw (ensured 𝓤 H A act-all′.ended (act-all′.clauses 𝓤 H A mem run) (κ₀, tt) (x γ, (d, tt)) tt u)))) (id⊢ 𝓤 _) $ await ! tt $ pick ! (λ u.
-        split ! $ move ! (1 ∷ []) $ use1 W (some (λ (zs : List Node × (Unit {0} × Unit {0})). ‵ (lasts act-all′.ended (κ₀, tt) (x γ, (d, tt)) zs) ⊛ raw (fact 𝓤 (zs .0 ≡ visited (d .heard) (d .acting) ys)))) (id⊢ 𝓤 _) $ pick ! (λ zs.
-        split ! $ move ! (1 ∷ []) $ heard ! (zs .0 ≡ visited (d .heard) (d .acting) ys) (λ e. fsplit ! $ fsplit ! $ move ! (1 ∷ []) $ feqL ! (λ l.
+        split ! $ move ! (1 ∷ []) $ use1 W (some (λ (zs : List Node × (Unit {0} × Unit {0})). ‵ (lasts act-all′.ended (κ₀, tt) (x γ, (d, tt)) zs) ⊛ raw (fact 𝓤 (zs .0 ≡ actAll (d .message) (d .acting) ys)))) (id⊢ 𝓤 _) $ pick ! (λ zs.
+        split ! $ move ! (1 ∷ []) $ heard ! (zs .0 ≡ actAll (d .message) (d .acting) ys) (λ e. fsplit ! $ fsplit ! $ move ! (1 ∷ []) $ feqL ! (λ l.
         -- [the table's last list; true; the token and the result; _13; …; Toks; Packet; the reply's last list]
         move ! (2 ∷ []) $ split ! $ move ! (1 ∷ []) $ facts ! unit (Is unit) (shows 𝓤 H A unit) u (v ∷ []) (λ is.
         land ! (from ! (stop !)) (init ! 7 refl (nothing-lawful 𝓤 H A W .typed u _ is .0)) $
         keep ! (3 ∷ 4 ∷ 5 ∷ 6 ∷ 7 ∷ 8 ∷ 9 ∷ 10 ∷ 11 ∷ 12 ∷ 13 ∷ 14 ∷ 15 ∷ 16 ∷ 17 ∷ 18 ∷ 19 ∷ 20 ∷ 21 ∷ 22 ∷ 23 ∷ 24 ∷ 25 ∷ 26 ∷ 27 ∷ 28 ∷ 29 ∷ 30 ∷ 0 ∷ 31 ∷ 1 ∷ 32 ∷ 33 ∷ []) $ by ! (fifth mc ms d md v (zs .0) ws gd l l₂′ (joined ys (pk .now) (rp .now) c s d ws (zs .0) ec es ed e))))))))
 
     -- from the call of `decide`
-    third : (c : Incoming) (mc : Val) (s : Survey) (ms : Val) → Is S.the-row s (ms ∷ []) → c ≡ incomingOf (pk .now) → s ≡ surveyOf c ys
+    third : (c : Incoming) (mc : Val) (s : Survey) (ms : Val) → Is S.the-row s (ms ∷ []) → c ≡ receiveOf (pk .now) → s ≡ surveyAll c ys
         → ent 𝓤 (⋆ 𝓤 H A (Locs (has In l₄ mc) (has Su l₅ ms) (room De l₆) (has (tyRef erased imm Nd) l₇ p₁) (has (sliceHere imm Nd) l₈ v₁) (room (tyRef erased mut byte) l₉) (room (sliceHere mut byte) l₁₀) (room tyUnit l₁₁) (room (tyRef erased mut Nd) l₁₂) (room (sliceHere mut Nd) l₁₃) (‵ (flft κ₀ q₀) ∷ ‵ (flft κ₁ q₁) ∷ ‵ (flft κ₂ q₂) ∷ Table ∷ Packet ∷ Reply ∷ []))) (Wp 𝓤 H (𝓣 .C) (𝓣 .Λ) En body.t-5 (atReturn 𝓤 H En Post))
     third c mc s ms gs ec es =
         qed W (Locs (has In l₄ mc) (has Su l₅ ms) (room De l₆) (has (tyRef erased imm Nd) l₇ p₁) (has (sliceHere imm Nd) l₈ v₁) (room (tyRef erased mut byte) l₉) (room (sliceHere mut byte) l₁₀) (room tyUnit l₁₁) (room (tyRef erased mut Nd) l₁₂) (room (sliceHere mut Nd) l₁₃) (‵ (flft κ₀ q₀) ∷ ‵ (flft κ₁ q₁) ∷ ‵ (flft κ₂ q₂) ∷ Table ∷ Packet ∷ Reply ∷ [])) ∵
@@ -267,7 +267,7 @@ module _ {M : Type 1} (𝓤 : URA M) (H : Heap 𝓤) (A : Atoms 𝓤) (W : Given
         keep ! (4 ∷ 5 ∷ 6 ∷ 7 ∷ 8 ∷ 9 ∷ 10 ∷ 11 ∷ 12 ∷ 13 ∷ 14 ∷ 15 ∷ 16 ∷ 17 ∷ 18 ∷ 19 ∷ 20 ∷ 21 ∷ 22 ∷ 23 ∷ 24 ∷ 25 ∷ 26 ∷ 27 ∷ 28 ∷ 29 ∷ 30 ∷ 31 ∷ 32 ∷ 0 ∷ 33 ∷ 34 ∷ 1 ∷ []) $ by ! (fourth c mc s ms d v (ws .1 .0) is ec es e l)))))))
 
     -- from the call of `survey_all`
-    second : (c : Incoming) (mc : Val) → Is I.the-row c (mc ∷ []) → c ≡ incomingOf (pk .now)
+    second : (c : Incoming) (mc : Val) → Is I.the-row c (mc ∷ []) → c ≡ receiveOf (pk .now)
         → ent 𝓤 (⋆ 𝓤 H A (Locs (has In l₄ mc) (room Su l₅) (room De l₆) (room (tyRef erased imm Nd) l₇) (room (sliceHere imm Nd) l₈) (room (tyRef erased mut byte) l₉) (room (sliceHere mut byte) l₁₀) (room tyUnit l₁₁) (room (tyRef erased mut Nd) l₁₂) (room (sliceHere mut Nd) l₁₃) (‵ (flft κ₀ q₀) ∷ ‵ (flft κ₁ q₁) ∷ ‵ (flft κ₂ q₂) ∷ Table ∷ Packet ∷ Reply ∷ []))) (Wp 𝓤 H (𝓣 .C) (𝓣 .Λ) En body.t-2 (atReturn 𝓤 H En Post))
     second c mc gc ec =
         qed W (Locs (has In l₄ mc) (room Su l₅) (room De l₆) (room (tyRef erased imm Nd) l₇) (room (sliceHere imm Nd) l₈) (room (tyRef erased mut byte) l₉) (room (sliceHere mut byte) l₁₀) (room tyUnit l₁₁) (room (tyRef erased mut Nd) l₁₂) (room (sliceHere mut Nd) l₁₃) (‵ (flft κ₀ q₀) ∷ ‵ (flft κ₁ q₁) ∷ ‵ (flft κ₂ q₂) ∷ Table ∷ Packet ∷ Reply ∷ [])) ∵
@@ -281,7 +281,7 @@ module _ {M : Type 1} (𝓤 : URA M) (H : Heap 𝓤) (A : Atoms 𝓤) (W : Given
         -- [what `survey_all` asks; what is kept; _13; …; the packet's token; the reply's; Packet; Reply]
         calls-at ! (fmOf 𝓤 H (W .laws) 𝓣) (SurveyAll 𝓤 H A mem run) known-survey (to-survey ν δ c mc) (and-then ! (load ! (from ! (stop !)) (look ! 12 refl)) (and-then ! (load ! (from ! (stop !)) (look ! 20 refl)) (no-more !))) (λ v.
         use1 W (later (some (λ (s : Survey). ((‵ (flft (ν ∷ []) fullShare) ⊛ ‵ ftrue) ⊛ ‵ (S.the-row .own s (v ∷ []))) ⊛ raw (ensured 𝓤 H A survey-all′.ended (survey-all′.clauses 𝓤 H A mem run) (ν ∷ [], tt) (x δ, (c, tt)) tt s)))) (id⊢ 𝓤 _) $ await ! tt $ pick ! (λ s.
-        split ! $ move ! (1 ∷ []) $ use1 W (raw (fact 𝓤 (s ≡ surveyOf c ys))) (survey-of ν δ c s) $ heard ! (s ≡ surveyOf c ys) (λ e. split ! $ move ! (1 ∷ []) $
+        split ! $ move ! (1 ∷ []) $ use1 W (raw (fact 𝓤 (s ≡ surveyAll c ys))) (survey-of ν δ c s) $ heard ! (s ≡ surveyAll c ys) (λ e. split ! $ move ! (1 ∷ []) $
         facts ! S.the-row (Is S.the-row) (shows 𝓤 H A S.the-row) s (v ∷ []) (λ is.
         land ! (from ! (stop !)) (init ! 18 refl (LL.lawful S.the-type S′.the-laws 𝓤 H A W .typed s _ is .0)) $
         split ! $ lft-end ! tt $ move ! (0 ∷ 2 ∷ []) $
@@ -289,7 +289,7 @@ module _ {M : Type 1} (𝓤 : URA M) (H : Heap 𝓤) (A : Atoms 𝓤) (W : Given
         -- [Table; its token; true; _13; …; the packet's token; the reply's; Packet; Reply]
         keep ! (3 ∷ 4 ∷ 5 ∷ 6 ∷ 7 ∷ 8 ∷ 9 ∷ 10 ∷ 11 ∷ 12 ∷ 13 ∷ 14 ∷ 15 ∷ 16 ∷ 17 ∷ 18 ∷ 19 ∷ 20 ∷ 21 ∷ 22 ∷ 23 ∷ 24 ∷ 25 ∷ 26 ∷ 27 ∷ 28 ∷ 29 ∷ 30 ∷ 1 ∷ 31 ∷ 32 ∷ 0 ∷ 33 ∷ 34 ∷ []) $ by ! (third c mc s v is ec e)))))))
 
-    -- from the call of `hear`
+    -- from the call of `receive`
     first : ent 𝓤 (⋆ 𝓤 H A (Locs (room In l₄) (room Su l₅) (room De l₆) (room (tyRef erased imm Nd) l₇) (room (sliceHere imm Nd) l₈) (room (tyRef erased mut byte) l₉) (room (sliceHere mut byte) l₁₀) (room tyUnit l₁₁) (room (tyRef erased mut Nd) l₁₂) (room (sliceHere mut Nd) l₁₃) ((‵ (flft κ₀ q₀) ⊛ Toks) ∷ ‵ (owns (MutSlice (named 0) κ₀ T.the-row ∷ ShrSlice (named 1) κ₁ u8 ∷ MutSlice (named 2) κ₂ u8 ∷ []) a vals) ∷ []))) (Wp 𝓤 H (𝓣 .C) (𝓣 .Λ) En body.t-1 (atReturn 𝓤 H En Post))
     first =
         qed W (Locs (room In l₄) (room Su l₅) (room De l₆) (room (tyRef erased imm Nd) l₇) (room (sliceHere imm Nd) l₈) (room (tyRef erased mut byte) l₉) (room (sliceHere mut byte) l₁₀) (room tyUnit l₁₁) (room (tyRef erased mut Nd) l₁₂) (room (sliceHere mut Nd) l₁₃) ((‵ (flft κ₀ q₀) ⊛ Toks) ∷ ‵ (owns (MutSlice (named 0) κ₀ T.the-row ∷ ShrSlice (named 1) κ₁ u8 ∷ MutSlice (named 2) κ₂ u8 ∷ []) a vals) ∷ [])) ∵
@@ -298,16 +298,16 @@ module _ {M : Type 1} (𝓤 : URA M) (H : Heap 𝓤) (A : Atoms 𝓤) (W : Given
         -- [the reply's token; true; the packet's; the table's; Reply; true; Packet; Table; _13; …]: the packet is Copy
         move ! (6 ∷ []) $ use1 W (Packet ⊛ Packet) (shr-slice-copy 𝓤 H A W (named 1) κ₁ u8 .twice pk (v₂ ∷ [])) $ split ! $
         move ! (4 ∷ 0 ∷ []) $ use2 W (raw (Hear 𝓤 H A mem run .pre to-hear)) goes-hear $
-        -- [what `hear` asks; Packet; the reply's token; true; the table's; Reply; true; Table; _13; …]
+        -- [what `receive` asks; Packet; the reply's token; true; the table's; Reply; true; Table; _13; …]
         calls-at ! (fmOf 𝓤 H (W .laws) 𝓣) (Hear 𝓤 H A mem run) known-hear to-hear (and-then ! (load ! (from ! (stop !)) (look ! 30 refl)) (no-more !)) (λ v.
-        use1 W (later (some (λ (c : Incoming). ((‵ (flft κ₁ q₁) ⊛ ‵ ftrue) ⊛ ‵ (I.the-row .own c (v ∷ []))) ⊛ raw (ensured 𝓤 H A hear′.ended (hear′.clauses 𝓤 H A mem run) (κ₁, tt) (pk, tt) tt c)))) (id⊢ 𝓤 _) $ await ! tt $ pick ! (λ c.
-        split ! $ move ! (1 ∷ []) $ use1 W (raw (fact 𝓤 (c ≡ incomingOf (pk .now)))) (hear-of c) $ heard ! (c ≡ incomingOf (pk .now)) (λ e. split ! $ move ! (1 ∷ []) $
+        use1 W (later (some (λ (c : Incoming). ((‵ (flft κ₁ q₁) ⊛ ‵ ftrue) ⊛ ‵ (I.the-row .own c (v ∷ []))) ⊛ raw (ensured 𝓤 H A receive′.ended (receive′.clauses 𝓤 H A mem run) (κ₁, tt) (pk, tt) tt c)))) (id⊢ 𝓤 _) $ await ! tt $ pick ! (λ c.
+        split ! $ move ! (1 ∷ []) $ use1 W (raw (fact 𝓤 (c ≡ receiveOf (pk .now)))) (hear-of c) $ heard ! (c ≡ receiveOf (pk .now)) (λ e. split ! $ move ! (1 ∷ []) $
         facts ! I.the-row (Is I.the-row) (shows 𝓤 H A I.the-row) c (v ∷ []) (λ is.
         land ! (from ! (stop !)) (init ! 26 refl (EL.lawful I.the-type I′.the-laws 𝓤 H A W tt .typed c _ is .0)) $ split ! $
         -- [the packet's token; true; Packet; the reply's; true; the table's; Reply; true; Table; _13; …]
         keep ! (9 ∷ 10 ∷ 11 ∷ 12 ∷ 13 ∷ 14 ∷ 15 ∷ 16 ∷ 17 ∷ 18 ∷ 19 ∷ 20 ∷ 21 ∷ 22 ∷ 23 ∷ 24 ∷ 25 ∷ 26 ∷ 27 ∷ 28 ∷ 29 ∷ 30 ∷ 31 ∷ 32 ∷ 33 ∷ 34 ∷ 35 ∷ 36 ∷ 5 ∷ 0 ∷ 3 ∷ 8 ∷ 2 ∷ 6 ∷ []) $ by ! (second c v is e)))))
 
-  walk : (𝓣 : Tables 𝓤 H) → Triple 𝓤 (𝓣 .C #survey·hear) (Hear 𝓤 H A mem run) → Triple 𝓤 (𝓣 .C #chain·survey-all) (SurveyAll 𝓤 H A mem run) → Triple 𝓤 (𝓣 .C #survey·decide) (Decide 𝓤 H A mem run) → Triple 𝓤 (𝓣 .C #chain·act-all) (ActAll 𝓤 H A mem run) → Triple 𝓤 (𝓣 .C #chain·answer-of) (AnswerOf 𝓤 H A mem run)
+  walk : (𝓣 : Tables 𝓤 H) → Triple 𝓤 (𝓣 .C #survey·receive) (Hear 𝓤 H A mem run) → Triple 𝓤 (𝓣 .C #chain·survey-all) (SurveyAll 𝓤 H A mem run) → Triple 𝓤 (𝓣 .C #survey·decide) (Decide 𝓤 H A mem run) → Triple 𝓤 (𝓣 .C #chain·act-all) (ActAll 𝓤 H A mem run) → Triple 𝓤 (𝓣 .C #chain·answer-of) (AnswerOf 𝓤 H A mem run)
       → ent 𝓤 (onEntry 𝓤 H A deliver.signature (κ₀, (κ₁, (κ₂, tt))) (q₀, (q₁, (q₂, tt))) a vals) (WpFn 𝓤 H (𝓣 .C) (𝓣 .Λ) code.function (v₁ ∷ v₂ ∷ v₃ ∷ []) Post)
   walk 𝓣 known-hear known-survey known-decide known-act known-answer =
       qed W ((‵ (flft κ₀ q₀) ⊛ Toks) ∷ ‵ (owns (MutSlice (named 0) κ₀ T.the-row ∷ ShrSlice (named 1) κ₁ u8 ∷ MutSlice (named 2) κ₂ u8 ∷ []) a vals) ∷ []) ∵ enter ! (𝓣 .C) (𝓣 .Λ) code.function (v₁ ∷ v₂ ∷ v₃ ∷ []) _ $
@@ -315,7 +315,7 @@ module _ {M : Type 1} (𝓤 : URA M) (H : Heap 𝓤) (A : Atoms 𝓤) (W : Given
       pass1 ! (init ! 24 refl (tt, (tt, (record { fits = room₀ .0 }, tt)))) $ pass1 ! (init ! 22 refl (tt, (tt, (record { fits = room₁ .0 }, tt)))) $ pass1 ! (init ! 20 refl (tt, (tt, (record { fits = room₂ .0 }, tt)))) $ pass0 ! $
       by ! (first 𝓣 known-hear known-survey known-decide known-act known-answer l₀ l₁ l₂ l₃ l₄ l₅ l₆ l₇ l₈ l₉ l₁₀ l₁₁ l₁₂ l₁₃)))))))))))))))
 
-module _ {M : Type 1} (𝓤 : URA M) (H : Heap 𝓤) (A : Atoms 𝓤) (W : Given 𝓤 H A) (mem : Memory → SProp 𝓤) (run : Routine → Fun 𝓤) (𝓣 : Tables 𝓤 H) (known-hear : Triple 𝓤 (𝓣 .C #survey·hear) (Hear 𝓤 H A mem run)) (known-survey : Triple 𝓤 (𝓣 .C #chain·survey-all) (SurveyAll 𝓤 H A mem run)) (known-decide : Triple 𝓤 (𝓣 .C #survey·decide) (Decide 𝓤 H A mem run)) (known-act : Triple 𝓤 (𝓣 .C #chain·act-all) (ActAll 𝓤 H A mem run)) (known-answer : Triple 𝓤 (𝓣 .C #chain·answer-of) (AnswerOf 𝓤 H A mem run)) where
+module _ {M : Type 1} (𝓤 : URA M) (H : Heap 𝓤) (A : Atoms 𝓤) (W : Given 𝓤 H A) (mem : Memory → SProp 𝓤) (run : Routine → Fun 𝓤) (𝓣 : Tables 𝓤 H) (known-hear : Triple 𝓤 (𝓣 .C #survey·receive) (Hear 𝓤 H A mem run)) (known-survey : Triple 𝓤 (𝓣 .C #chain·survey-all) (SurveyAll 𝓤 H A mem run)) (known-decide : Triple 𝓤 (𝓣 .C #survey·decide) (Decide 𝓤 H A mem run)) (known-act : Triple 𝓤 (𝓣 .C #chain·act-all) (ActAll 𝓤 H A mem run)) (known-answer : Triple 𝓤 (𝓣 .C #chain·answer-of) (AnswerOf 𝓤 H A mem run)) where
   deliver-walks : Walks 𝓤 H A deliver.ended stayed (WpFn 𝓤 H (𝓣 .C) (𝓣 .Λ) code.function) (deliver.clauses 𝓤 H A mem run)
   deliver-walks = walked 𝓤 H A deliver.ended stayed (deliver.clauses 𝓤 H A mem run) (WpFn 𝓤 H (𝓣 .C) (𝓣 .Λ) code.function)
       (λ κs. (slice-vals, (slice-vals, (slice-vals, tt)))) (λ κs. (mut-slice-tells (named 0) (κs .0) T.the-row, (shr-slice-tells (named 1) (κs .1 .0) u8, (mut-slice-tells (named 2) (κs .1 .1 .0) u8, tt))))
@@ -333,7 +333,7 @@ deliver-spec 𝓤 H 𝓜 𝓖 𝓡 =
     entered 𝓤 H (tripleOf 𝓤 H (𝓖 .A) deliver.signature (deliver.spec 𝓤 H (𝓖 .A) (𝓜 .mem) (𝓡 .run)))
     (tables 𝓤 H 𝓜 𝓡 code.env .C) (tables 𝓤 H 𝓜 𝓡 code.env .Λ) #chain·deliver code.function (code.unfolded 𝓤 H 𝓜 𝓡)
     (deliver-meets 𝓤 H (𝓖 .A) (givenOf 𝓤 H 𝓜 𝓖) (𝓜 .mem) (𝓡 .run) (tablesOf 𝓤 H 𝓜 (tables 𝓤 H 𝓜 𝓡 code.env))
-    (cited 𝓤 H (Hear 𝓤 H (𝓖 .A) (𝓜 .mem) (𝓡 .run)) 𝓜 𝓡 code.env #survey·hear hear-def.routine code.calls-survey·hear (hear-thm.met 𝓤 H 𝓜 𝓖 𝓡))
+    (cited 𝓤 H (Hear 𝓤 H (𝓖 .A) (𝓜 .mem) (𝓡 .run)) 𝓜 𝓡 code.env #survey·receive receive-def.routine code.calls-survey·receive (receive-thm.met 𝓤 H 𝓜 𝓖 𝓡))
     (cited 𝓤 H (SurveyAll 𝓤 H (𝓖 .A) (𝓜 .mem) (𝓡 .run)) 𝓜 𝓡 code.env #chain·survey-all survey-all-def.routine code.calls-chain·survey-all (survey-all-thm.met 𝓤 H 𝓜 𝓖 𝓡))
     (cited 𝓤 H (Decide 𝓤 H (𝓖 .A) (𝓜 .mem) (𝓡 .run)) 𝓜 𝓡 code.env #survey·decide decide-def.routine code.calls-survey·decide (decide-thm.met 𝓤 H 𝓜 𝓖 𝓡))
     (cited 𝓤 H (ActAll 𝓤 H (𝓖 .A) (𝓜 .mem) (𝓡 .run)) 𝓜 𝓡 code.env #chain·act-all act-all-def.routine code.calls-chain·act-all (act-all-thm.met 𝓤 H 𝓜 𝓖 𝓡))

@@ -135,7 +135,7 @@ module _ {M : Type 1} (𝓤 : URA M) (H : Heap 𝓤) (A : Atoms 𝓤) (W : Given
   abbrev Shr : Item 𝓤
   Shr = ‵ (fshr-bor κ (λ s. arr-parts (shares T.the-row) n .part s ys b o))
 
-  exits : (r : Survey) (mr : Val) → Is S.the-row r (mr ∷ []) → r ≡ spec.surveyOf c ys → ent 𝓤 (⋆ 𝓤 H A (Res ∷ Shr ∷ ‵ (flft κ q) ∷ [])) (Post mr)
+  exits : (r : Survey) (mr : Val) → Is S.the-row r (mr ∷ []) → r ≡ spec.surveyAll c ys → ent 𝓤 (⋆ 𝓤 H A (Res ∷ Shr ∷ ‵ (flft κ q) ∷ [])) (Post mr)
   exits r mr gr is =
       qed W (Res ∷ Shr ∷ ‵ (flft κ q) ∷ []) ∵ fjoin ! $ pureI ! (at-slice T.the-row x (vals .0)) (tt, (tt, tt)) (refl, room₀) $ fjoin ! $ move ! (1 ∷ 0 ∷ []) $
       suffices ! _ (ends-at 𝓤 H A survey-all.ended stayed (survey-all.clauses 𝓤 H A mem run) W (((κ, tt), (q, tt), tt, a, vals), tt) mr r (tt, (tt, tt)) (tt, (tt, tt))) $ says ! is $
@@ -149,8 +149,8 @@ module _ {M : Type 1} (𝓤 : URA M) (H : Heap 𝓤) (A : Atoms 𝓤) (W : Given
   goes-start : ent 𝓤 (emp 𝓤) (Start 𝓤 H A mem run .pre to-start)
   goes-start = qed W [] ∵ nothing ! $ nothing ! $ join ! $ frame ! $ done !
 
-  start-of : (r : Seen) → ent 𝓤 (ensured 𝓤 H A start′.ended (start′.clauses 𝓤 H A mem run) tt tt tt r) (fact 𝓤 (r ≡ spec.start))
-  start-of r = tells 𝓤 H A (lasts start′.ended tt tt) (r ≡ spec.start)
+  start-of : (r : Seen) → ent 𝓤 (ensured 𝓤 H A start′.ended (start′.clauses 𝓤 H A mem run) tt tt tt r) (fact 𝓤 (r ≡ spec.chainStart))
+  start-of r = tells 𝓤 H A (lasts start′.ended tt tt) (r ≡ spec.chainStart)
 
   abbrev to-glance : Seen → Val → Node → Val → Glance 𝓤 H A mem run .Ghost
   to-glance s ms d v = ((tt, tt, tt, (s, (d, (c, tt))), (ms ∷ [], (v ∷ [], (mc ∷ [], tt)))), tt)
@@ -216,7 +216,7 @@ module _ {M : Type 1} (𝓤 : URA M) (H : Heap 𝓤) (A : Atoms 𝓤) (W : Given
       Open i₄ i₅ i₆ i₇ = ‵ (row T.the-row q′ ys b o) ∷ Locs (has word l₃ (vint w64 n)) i₄ i₅ i₆ i₇ (‵ (fobor κ q (arr-parts (shares T.the-row) n .part q′ ys b o)) ∷ Shr ∷ Res ∷ [])
 
       -- the branch: the one that replies is read, or nobody is
-      third : (s : Seen) (p : Plan) (mp : Val) (k : ℕ) → Is P.the-row p (mp ∷ []) → s ≡ spec.glancesOf c spec.start ys → p ≡ spec.planOf c s n → k ≡ spec.speakerOf p
+      third : (s : Seen) (p : Plan) (mp : Val) (k : ℕ) → Is P.the-row p (mp ∷ []) → s ≡ spec.glancesOf c spec.chainStart ys → p ≡ spec.planOf c s n → k ≡ spec.speakerOf p
           → ent 𝓤 (⋆ 𝓤 H A (Open (room Sn l₄) (room word l₅) (has Pl l₆ mp) (has word l₇ (vint w64 k)))) (Wp 𝓤 H (𝓣 .C) (𝓣 .Λ) En body.t-7 (atReturn 𝓤 H En Post))
       third s p mp k gp es ep ek =
           qed W (Open (room Sn l₄) (room word l₅) (has Pl l₆ mp) (has word l₇ (vint w64 k))) ∵ exec ! (𝓣 .C) (𝓣 .Λ) En body.t-7 (atRet En Post) $
@@ -253,7 +253,7 @@ module _ {M : Type 1} (𝓤 : URA M) (H : Heap 𝓤) (A : Atoms 𝓤) (W : Given
           keep ! (2 ∷ 1 ∷ 0 ∷ []) $ by ! (exits r v is (survey-past c ys s p k es ep ek r (nltb→le k n big) e)))))))
 
       -- all are seen: the plan, and the index of the one that replies
-      second : (s : Seen) (ms : Val) → Is E.the-row s (ms ∷ []) → s ≡ spec.glancesOf c spec.start ys → ent 𝓤 (⋆ 𝓤 H A (Open (has Sn l₄ ms) (room word l₅) (room Pl l₆) (room word l₇))) (Wp 𝓤 H (𝓣 .C) (𝓣 .Λ) En body.t-5 (atReturn 𝓤 H En Post))
+      second : (s : Seen) (ms : Val) → Is E.the-row s (ms ∷ []) → s ≡ spec.glancesOf c spec.chainStart ys → ent 𝓤 (⋆ 𝓤 H A (Open (has Sn l₄ ms) (room word l₅) (room Pl l₆) (room word l₇))) (Wp 𝓤 H (𝓣 .C) (𝓣 .Λ) En body.t-5 (atReturn 𝓤 H En Post))
       second s ms gs es =
           qed W (Open (has Sn l₄ ms) (room word l₅) (room Pl l₆) (room word l₇)) ∵ exec ! (𝓣 .C) (𝓣 .Λ) En body.t-5 (atRet En Post) $
           use0 W (raw (Plans 𝓤 H A mem run .pre (to-plan s ms))) (goes-plan s ms gs) $
@@ -276,7 +276,7 @@ module _ {M : Type 1} (𝓤 : URA M) (H : Heap 𝓤) (A : Atoms 𝓤) (W : Given
 
       -- where i turns are done, t are left, and s is seen
       abbrev Facts : ℕ → ℕ → Seen → Val → Type 0
-      Facts t i s ms = (t + i ≡ n) × Is E.the-row s (ms ∷ []) × (rest c s i ys ≡ spec.glancesOf c spec.start ys)
+      Facts t i s ms = (t + i ≡ n) × Is E.the-row s (ms ∷ []) × (rest c s i ys ≡ spec.glancesOf c spec.chainStart ys)
 
       abbrev Inv : ℕ → SProp 𝓤
       Inv t = ex 𝓤 (λ (i : ℕ). ex 𝓤 (λ (s : Seen). ex 𝓤 (λ (ms : Val). guard 𝓤 (Facts t i s ms) (⋆ 𝓤 H A (At i ms)))))
@@ -322,7 +322,7 @@ module _ {M : Type 1} (𝓤 : URA M) (H : Heap 𝓤) (A : Atoms 𝓤) (W : Given
           one-more j = omega arith
 
       -- the turn that leaves the loop, and the rest of the body
-      ends : (i : ℕ) (s : Seen) (ms : Val) (X : SProp 𝓤) → n ≤ i → Is E.the-row s (ms ∷ []) → s ≡ spec.glancesOf c spec.start ys → ent 𝓤 (⋆ 𝓤 H A (At i ms)) (Wp 𝓤 H (𝓣 .C) (𝓣 .Λ) En body.turn-1 (afterTurn 𝓤 H X Left))
+      ends : (i : ℕ) (s : Seen) (ms : Val) (X : SProp 𝓤) → n ≤ i → Is E.the-row s (ms ∷ []) → s ≡ spec.glancesOf c spec.chainStart ys → ent 𝓤 (⋆ 𝓤 H A (At i ms)) (Wp 𝓤 H (𝓣 .C) (𝓣 .Λ) En body.turn-1 (afterTurn 𝓤 H X Left))
       unfolding afterTurn
       ends i s ms X past gs is =
           qed W (At i ms) ∵ exec ! (𝓣 .C) (𝓣 .Λ) En body.turn-1 (anyQ (afterTurn 𝓤 H X Left)) $
@@ -341,13 +341,13 @@ module _ {M : Type 1} (𝓤 : URA M) (H : Heap 𝓤) (A : Atoms 𝓤) (W : Given
       turn-at zero i s ms e = ends i s ms (Below zero) (omega (arith, e .0)) (e .1) (sym (rest-end c s i ys (omega (arith, e .0))) ∙ e .2)
       turn-at (suc t) i s ms e =
           more i s ms (Below (suc t)) small (e .1) (λ r mr is gr.
-          via 𝓤 (Inv t) (into t (suc i) r mr (omega (arith, e .0), gr, subst (λ (d : Seen). rest c d (suc i) ys ≡ spec.glancesOf c spec.start ys) (sym is) (rest-turn c s i ys spec.nobody small ∙ e .2)))
+          via 𝓤 (Inv t) (into t (suc i) r mr (omega (arith, e .0), gr, subst (λ (d : Seen). rest c d (suc i) ys ≡ spec.glancesOf c spec.chainStart ys) (sym is) (rest-turn c s i ys spec.nobody small ∙ e .2)))
           (via 𝓤 (guard 𝓤 (t < suc t) (Inv t)) (guardI 𝓤 (t < suc t) (Inv t) (omega arith)) (exI 𝓤 (λ (u : ℕ). guard 𝓤 (u < suc t) (Inv u)) t)))
         where
           small : i < n
           small = omega (arith, e .0)
 
-      loops : (s : Seen) (ms : Val) → Is E.the-row s (ms ∷ []) → s ≡ spec.start → ent 𝓤 (⋆ 𝓤 H A (At 0 ms)) (Wp 𝓤 H (𝓣 .C) (𝓣 .Λ) En (loop body.turn-1) Left)
+      loops : (s : Seen) (ms : Val) → Is E.the-row s (ms ∷ []) → s ≡ spec.chainStart → ent 𝓤 (⋆ 𝓤 H A (At 0 ms)) (Wp 𝓤 H (𝓣 .C) (𝓣 .Λ) En (loop body.turn-1) Left)
       loops s ms gs is =
           via 𝓤 (Inv n) (into n 0 s ms (omega arith, gs, ap (λ (r : Seen). rest c r 0 ys) is))
           (loop-rule 𝓤 H (W .laws) 𝓣 _<_ (Nat·lt-wfRel .wf) En body.turn-1 Left Inv (λ t. exE 𝓤 (λ (i : ℕ). ex 𝓤 (λ (r : Seen). ex 𝓤 (λ (m : Val). guard 𝓤 (Facts t i r m) (⋆ 𝓤 H A (At i m))))) (λ i.
@@ -364,7 +364,7 @@ module _ {M : Type 1} (𝓤 : URA M) (H : Heap 𝓤) (A : Atoms 𝓤) (W : Given
         use0 W (raw (Start 𝓤 H A mem run .pre to-start)) goes-start $
         calls-at ! (fmOf 𝓤 H (W .laws) 𝓣) (Start 𝓤 H A mem run) known-start to-start (no-more !) (λ v.
         use1 W (later (some (λ (s : Seen). (‵ ftrue ⊛ ‵ (E.the-row .own s (v ∷ []))) ⊛ raw (ensured 𝓤 H A start′.ended (start′.clauses 𝓤 H A mem run) tt tt tt s)))) (id⊢ 𝓤 _) $ await ! tt $ pick ! (λ s.
-        split ! $ move ! (1 ∷ []) $ use1 W (raw (fact 𝓤 (s ≡ spec.start))) (start-of s) $ heard ! (s ≡ spec.start) (λ e. split ! $ let-go ! $
+        split ! $ move ! (1 ∷ []) $ use1 W (raw (fact 𝓤 (s ≡ spec.chainStart))) (start-of s) $ heard ! (s ≡ spec.chainStart) (λ e. split ! $ let-go ! $
         facts ! E.the-row (Is E.the-row) (shows 𝓤 H A E.the-row) s (v ∷ []) (λ is.
         land ! (from ! (stop !)) (init ! 22 refl (LL.lawful E.the-type E′.the-laws 𝓤 H A W .typed s _ is .0)) $
         assigns ! (of-opd ! (lit ! tt)) (from ! (stop !)) (init ! 20 refl (tt, record { fits = lit< tt })) $

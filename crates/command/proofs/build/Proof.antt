@@ -6,12 +6,12 @@ use mathlib.Core.List.{List}
 use mathlib.Core.Path.{_≡_, sym, ap, _∙_}
 use Rattle.wire.specs.Promise.{Lending, lent}
 use Rattle.wire.specs.Address.{inRange, byteOf}
-use Rattle.buffer.specs.Buffer.{builtNumber, place}
+use Rattle.buffer.specs.Buffer.{builtNumber, written}
 use Rattle.wire.specs.declared.address.Address.{Address}
 use Rattle.wire.specs.declared.refusal.Refusal.the-variants.{Range}
 use Rattle.buffer.specs.declared.Built.{Built}
 use Rattle.buffer.specs.declared.Built.the-variants.{Refused}
-use Rattle.command.specs.Build.{fitsBy, fitsOf, packetTo, buildFor, commandBuilt}
+use Rattle.command.specs.Build.{fitsBy, fitsOf, packetTo, buildFor, commandBuild}
 use Rattle.command.specs.Role.{roleOf}
 use Rattle.command.specs.declared.Command.{Command}
 use Rattle.command.specs.declared.Role.{Role}
@@ -19,21 +19,21 @@ use Rattle.command.proofs.build.Statement.{statement}
 use Rattle.command.proofs.build.Tie as tie
 
 module _ (to : Address) (k : Command) (out : List ℕ) (ok : Bool) (e : ok ≡ inRange to) where
-  no-address : ok ≡ false → Lending builtNumber (Refused Range) out (commandBuilt to k out)
-  unfolding commandBuilt
+  no-address : ok ≡ false → Lending builtNumber (Refused Range) out (commandBuild to k out)
+  unfolding commandBuild
   no-address h = lent (rw (sym e ∙ h))
 
   module _ (yes : ok ≡ true) (role : Role) (p : role ≡ roleOf k) (fit : Bool) (q : fit ≡ fitsBy role) where
     f : fit ≡ fitsOf k
     f = q ∙ ap (λ (x : Role). fitsBy x) p
 
-    unfit : fit ≡ false → Lending builtNumber (Refused Range) out (commandBuilt to k out)
-    unfolding commandBuilt buildFor
+    unfit : fit ≡ false → Lending builtNumber (Refused Range) out (commandBuild to k out)
+    unfolding commandBuild buildFor
     unfit h = lent (rw (sym e ∙ yes, sym f ∙ h))
 
-    sent : (a : ℕ) (r : Built) (o : List ℕ) → fit ≡ true → a ≡ byteOf to → Lending builtNumber r o (place (packetTo a k) out)
-        → Lending builtNumber r o (commandBuilt to k out)
-    unfolding commandBuilt buildFor
+    sent : (a : ℕ) (r : Built) (o : List ℕ) → fit ≡ true → a ≡ byteOf to → Lending builtNumber r o (written (packetTo a k) out)
+        → Lending builtNumber r o (commandBuild to k out)
+    unfolding commandBuild buildFor
     sent a r o h b l = rw (sym e ∙ yes, sym f ∙ h) (rw b at l)
 
 pub build-spec : {M : Type 1} → statement M

@@ -5,15 +5,15 @@ use mathlib.Core.Path.{_≡_, sym, ap, _∙_}
 use Rattle.command.specs.declared.Command.{Command}
 use Rattle.command.specs.declared.Command.the-variants.{SynchOutput}
 use Rattle.entry.specs.declared.Known.{Known}
-use Rattle.entry.specs.Entry.{marked}
+use Rattle.entry.specs.Entry.{markOf}
 use Rattle.entry.proofs.mark.Statement.{statement}
 use Rattle.entry.proofs.mark.Tie as tie
 
-told : (c d : Command) (b : Bool) (k r : Known) → c ≡ d → r ≡ marked d b k → r ≡ marked c b k
-told c d b k r e h = h ∙ sym (ap (λ (x : Command). marked x b k) e)
+told : (c d : Command) (b : Bool) (k r : Known) → c ≡ d → r ≡ markOf d b k → r ≡ markOf c b k
+told c d b k r e h = h ∙ sym (ap (λ (x : Command). markOf x b k) e)
 
 copied : (c : Command) (b x : Bool) (k : Known) → c ≡ SynchOutput → x ≡ (b && k .held)
-    → record { place = k .place; mask = k .mask; outputs = x; pwm = x; held = k .held; timer = k .timer } ≡ marked c b k
+    → record { place = k .place; mask = k .mask; outputs = x; pwm = x; held = k .held; timer = k .timer } ≡ markOf c b k
 copied c b x k e h = rw (e, h)
 
 pub mark-spec : {M : Type 1} → statement M

@@ -1,4 +1,4 @@
--- The tests in their order.
+-- The tests in their sequence.
 use borrow.Author.Needs.{needs}
 use Rattle.wire.specs.Promise.{promised}
 use Rattle.host.specs.Calls.{regroupCheck}
@@ -7,7 +7,7 @@ use Rattle.host.proofs.regroup_check.Tie as tie
 
 in-order : tie.Need-returns
 unfolding regroupCheck
-in-order c = promised (rw (c .refuse-if4 .ensures .answer, c .before .does-clash .ensures, c .before .before .refuse-if3 .ensures .answer, c .before .before .before .before .refuse-if2 .ensures .answer, c .before .before .before .before .before .off-chain .ensures, c .before .before .before .before .before .before .refuse-if .ensures .answer, c .before .before .before .before .before .before .before .in-range .ensures, c .before .before .before .before .before .before .before .before .ready-check .ensures .answer))
+in-order c = promised (rw (c .refuse-if4 .ensures .answer, c .before .has-rival .ensures, c .before .before .refuse-if3 .ensures .answer, c .before .before .before .before .refuse-if2 .ensures .answer, c .before .before .before .before .before .off-chain .ensures, c .before .before .before .before .before .before .refuse-if .ensures .answer, c .before .before .before .before .before .before .before .in-range .ensures, c .before .before .before .before .before .before .before .before .ready-check .ensures .answer))
 
 pub regroup-check-spec : {M : Type 1} → statement M
 regroup-check-spec =

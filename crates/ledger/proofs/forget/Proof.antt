@@ -4,7 +4,7 @@ use mathlib.Core.Path.{_≡_, refl}
 use native.Mathlib.Omega.{arith}
 use lib.ListN.{length}
 use borrow.Author.Needs.{needs}
-use Rattle.ledger.specs.Ledger.{blank, eachFrom, forgetting}
+use Rattle.ledger.specs.Ledger.{blankEntry, eachFrom, forgetting}
 use Rattle.ledger.proofs.Turns.{forget-turn, forget-end}
 use Rattle.ledger.proofs.forget.Statement.{statement}
 use Rattle.ledger.proofs.forget.Tie as tie
@@ -22,7 +22,7 @@ start c = (omega arith, search needs, refl)
 again : tie.Need-loop-again Inv-loop μ-loop
 again c =
     let w : _ = c .before .before .before .loop .inv in
-    (omega arith, w .1, forget-turn _ _ _ _ blank (w .2) (c .doubt .ensures) (omega arith))
+    (omega arith, w .1, forget-turn _ _ _ _ blankEntry (w .2) (c .doubt .ensures) (omega arith))
 
 done : tie.Need-returns Inv-loop μ-loop
 done c = let w : _ = c .before .loop .inv in forget-end _ _ _ (omega arith) (w .2)

@@ -1,11 +1,11 @@
 -- 31 entries as power-up has them.
 use borrow.Author.Needs.{needs}
-use Rattle.ledger.specs.Ledger.{ledgerUp}
+use Rattle.ledger.specs.Ledger.{ledgerPowerUp}
 use Rattle.ledger.proofs.power_up.Statement.{statement}
 use Rattle.ledger.proofs.power_up.Tie as tie
 
 all-up : tie.Need-returns
-unfolding ledgerUp
+unfolding ledgerPowerUp
 all-up c = rw (c .power-up .ensures)
 
 pub power-up-spec : {M : Type 1} → statement M

@@ -4,7 +4,7 @@ use mathlib.Core.Path.{_≡_, refl}
 use native.Mathlib.Omega.{arith}
 use lib.ListN.{length}
 use borrow.Author.Needs.{needs}
-use Rattle.ledger.specs.Ledger.{blank, eachFrom, settling}
+use Rattle.ledger.specs.Ledger.{blankEntry, eachFrom, settling}
 use Rattle.ledger.proofs.Turns.{settle-turn, settle-end, least-31}
 use Rattle.ledger.proofs.settle.Statement.{statement}
 use Rattle.ledger.proofs.settle.Tie as tie
@@ -23,7 +23,7 @@ again : tie.Need-loop-again Inv-loop μ-loop
 again c =
     let w : _ = c .before .before .before .before .before .loop .inv in
     let a : _ = c .before .before .before .before .before .before .before .args in
-    (omega arith, w .1, w .2, settle-turn (a .answer) (a .to) (a .c) _ (a .entries) _ _ _ blank (w .3) (c .before .reach-by .ensures) (c .note .ensures) (omega arith))
+    (omega arith, w .1, w .2, settle-turn (a .answer) (a .to) (a .c) _ (a .entries) _ _ _ blankEntry (w .3) (c .before .reach-by .ensures) (c .note .ensures) (omega arith))
 
 done : tie.Need-returns Inv-loop μ-loop
 done c =

@@ -5,9 +5,9 @@ use Prim.Native.Nat.{ℕ, _-_, _≤_}
 use mathlib.Core.List.{List}
 use mathlib.Core.Path.{_≡_}
 use Rattle.wire.specs.Promise.{Promise}
-use Rattle.status.specs.Status.{counts, statusOf, statusNumber}
+use Rattle.status.specs.Status.{counts, statusRead, statusNumber}
 use Rattle.status.specs.declared.Status.{Status}
-use Rattle.mask.specs.Mask.{countFrom, sizeOf, readUnder}
+use Rattle.mask.specs.Mask.{countFrom, sizeOf, maskRead}
 use Rattle.mask.proofs.read.Statement.{statement}
 use Rattle.mask.proofs.read.Tie as tie
 
@@ -15,8 +15,8 @@ two : (m k : ℕ) → k ≡ sizeOf m → 2 ≤ k
 unfolding sizeOf
 two m k e = omega arith
 
-under : (m k : ℕ) (s : List ℕ) (r : Status) → k ≡ sizeOf m → Promise statusNumber r (statusOf s (k - 2)) → Promise statusNumber r (readUnder m s)
-unfolding sizeOf readUnder
+under : (m k : ℕ) (s : List ℕ) (r : Status) → k ≡ sizeOf m → Promise statusNumber r (statusRead s (k - 2)) → Promise statusNumber r (maskRead m s)
+unfolding sizeOf maskRead
 under m k s r e p =
     let n : k - 2 ≡ countFrom 0 m counts = omega arith in
     rw n at p

@@ -8,17 +8,17 @@ use mathlib.Core.List.{List, [], _∷_}
 use lib.ListN.{length, drop, take, length-drop}
 use lib.Seq.{take-all}
 use Rattle.buffer.specs.Sum.{endsInSum}
-use Rattle.packet.specs.Packet.{intactOf}
+use Rattle.packet.specs.Packet.{isIntact}
 use Rattle.packet.proofs.is_intact.Statement.{statement}
 use Rattle.packet.proofs.is_intact.Tie as tie
 
-none : (s : List ℕ) → length s < 1 → false ≡ intactOf s
-unfolding intactOf endsInSum
+none : (s : List ℕ) → length s < 1 → false ≡ isIntact s
+unfolding isIntact endsInSum
 none [] h = refl
 none (x ∷ s) h = absurd (omega arith)
 
-behind : (s : List ℕ) (r : Bool) → r ≡ endsInSum (take (length s - 1) (drop 1 s)) → r ≡ intactOf s
-unfolding intactOf
+behind : (s : List ℕ) (r : Bool) → r ≡ endsInSum (take (length s - 1) (drop 1 s)) → r ≡ isIntact s
+unfolding isIntact
 behind s r e = e ∙ ap endsInSum (take-all (length s - 1) (drop 1 s) (omega (arith, length-drop 1 s)))
 
 pub is-intact-spec : {M : Type 1} → statement M

@@ -5,7 +5,7 @@ use mathlib.Core.Path.{_≡_, sym, _∙_}
 use mathlib.Core.Bool.{Bool, true, false}
 use mathlib.Core.List.{List}
 use Rattle.wire.specs.Promise.{Promise, promised}
-use Rattle.packet.specs.Packet.{frameOf, intactOf, readOf, framedNumber}
+use Rattle.packet.specs.Packet.{frameOf, isIntact, readOf, framedNumber}
 use Rattle.wire.specs.declared.address.Address.{Address}
 use Rattle.wire.specs.declared.refusal.Refusal.{Refusal}
 use Rattle.wire.specs.declared.refusal.Refusal.the-variants.{Sum}
@@ -19,7 +19,7 @@ module _ (s : List ℕ) (r : Framed) (f : Promise framedNumber r (frameOf s)) wh
   unfolding readOf
   refused why e = promised (rw (sym (f .answer) ∙ e))
 
-  module _ (ok : Bool) (i : ok ≡ intactOf s) (a : Address) (k n : ℕ) (e : r ≡ Whole a k n) where
+  module _ (ok : Bool) (i : ok ≡ isIntact s) (a : Address) (k n : ℕ) (e : r ≡ Whole a k n) where
     intact : ok ≡ true → Promise framedNumber (Whole a k n) (readOf s)
     unfolding readOf
     intact t = promised (rw (sym (f .answer) ∙ e, sym i ∙ t))

@@ -7,14 +7,14 @@ use mathlib.Core.Path.{_≡_, refl, sym}
 use lib.ListN.{length, take}
 use lib.Seq.{length-take-le}
 use Rattle.wire.specs.Promise.{Lending}
-use Rattle.buffer.specs.Buffer.{builtNumber, place}
+use Rattle.buffer.specs.Buffer.{builtNumber, written}
 use Rattle.buffer.specs.declared.Built.{Built}
-use Rattle.status.specs.Status.{statusBuilt, T}
+use Rattle.status.specs.Status.{statusBuild, T}
 use Rattle.node.specs.declared.state.Node.{Node}
-use Rattle.heard.specs.declared.Heard.{Heard}
-use Rattle.node.specs.Node.{taken}
+use Rattle.message.specs.declared.Message.{Message}
+use Rattle.node.specs.Node.{takeOf}
 use Rattle.buffer.specs.Wrote.{Wrote}
-use Rattle.reply.specs.Items.{itemBytes}
+use Rattle.reply.specs.Items.{replyItems}
 use Rattle.reply.specs.Reply.{maskOf, statusByte, replyOf}
 use Rattle.reply.proofs.Counts.{items-fit}
 use Rattle.reply.proofs.Writes.{wrote-start}
@@ -22,15 +22,15 @@ use Rattle.reply.proofs.reply.Statement.{statement}
 use Rattle.reply.proofs.reply.Tie as tie
 
 -- the items fit the scratch space
-within : (m : ℕ) (n : Node) (o s : List ℕ) (k : ℕ) → length s ≡ T → Wrote (itemBytes m n) 0 o k s → k ≤ length s
+within : (m : ℕ) (n : Node) (o s : List ℕ) (k : ℕ) → length s ≡ T → Wrote (replyItems m n) 0 o k s → k ≤ length s
 within m n o s k e w = omega (arith, items-fit m n, w .behind)
 
-module _ (h : Heard) (n after : Node) (m b : ℕ) (ta : after ≡ taken h n) (tm : m ≡ maskOf h (after .settings .mask)) (tb : b ≡ statusByte h) where
-  sent : (o s out left : List ℕ) (k : ℕ) (r : Built) → length o ≡ T → Wrote (itemBytes m after) 0 o k s
-      → Lending builtNumber r left (statusBuilt b (take k s) out) → Lending builtNumber r left (place (replyOf h n) out)
-  unfolding statusBuilt replyOf
+module _ (h : Message) (n after : Node) (m b : ℕ) (ta : after ≡ takeOf h n) (tm : m ≡ maskOf h (after .settings .mask)) (tb : b ≡ statusByte h) where
+  sent : (o s out left : List ℕ) (k : ℕ) (r : Built) → length o ≡ T → Wrote (replyItems m after) 0 o k s
+      → Lending builtNumber r left (statusBuild b (take k s) out) → Lending builtNumber r left (written (replyOf h n) out)
+  unfolding statusBuild replyOf
   sent o s out left k r e w p =
-      let d : take k s ≡ itemBytes m after = wrote-start (itemBytes m after) o s k w (omega (arith, items-fit m after, w .behind)) in
+      let d : take k s ≡ replyItems m after = wrote-start (replyItems m after) o s k w (omega (arith, items-fit m after, w .behind)) in
       rw (d, tb, tm, ta) at p
 
 array-share-prefix-scratch : tie.Need-array-share-prefix-scratch

@@ -1,4 +1,4 @@
--- The tests in their order.
+-- The tests in their sequence.
 use borrow.Author.Needs.{needs}
 use Rattle.wire.specs.Promise.{promised}
 use Rattle.sending.specs.Sending.{readyCheck}

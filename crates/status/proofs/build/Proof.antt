@@ -8,7 +8,7 @@ use lib.ListN.{length, length-set}
 use Rattle.wire.specs.Promise.{Lending}
 use Rattle.buffer.specs.Sum.{total, sumOf}
 use Rattle.buffer.specs.Buffer.{builtNumber}
-use Rattle.status.specs.Status.{statusPacket, statusBuilt}
+use Rattle.status.specs.Status.{statusPacket, statusBuild}
 use Rattle.wire.specs.declared.refusal.Refusal.the-variants.{Room}
 use Rattle.buffer.specs.declared.Built.the-variants.{Refused}
 use Rattle.status.proofs.Replies.{status-length}
@@ -17,7 +17,7 @@ use Rattle.status.proofs.build.Statement.{statement}
 use Rattle.status.proofs.build.Tie as tie
 
 returns-3 : tie.Need-returns-3
-unfolding total statusBuilt
+unfolding total statusBuild
 returns-3 c =
     let p = c .before .before .put in
     let q = c .before .before .before .before in
@@ -27,8 +27,8 @@ returns-3 c =
     (status-length (a .status) (a .items .now)) (omega arith)
     (rw m (laid (a .status ∷ []) (a .items .now) (a .out .now) _ _ (2 + length (a .items .now)) (p .ensures) (omega arith) (omega arith)))
 
-short : (b : ℕ) (d out : List ℕ) → length out < 2 + length d → Lending builtNumber (Refused Room) out (statusBuilt b d out)
-unfolding statusBuilt
+short : (b : ℕ) (d out : List ℕ) → length out < 2 + length d → Lending builtNumber (Refused Room) out (statusBuild b d out)
+unfolding statusBuild
 short b d out h = no-room (statusPacket b d) out (omega (arith, status-length b d))
 
 pub build-spec : {M : Type 1} → statement M

@@ -1,13 +1,13 @@
--- At each `return` the tests that led there pick the case of `judged`.
+-- At each `return` the tests that led there pick the case of `judgeOf`.
 use borrow.Author.Needs.{needs}
 use mathlib.Core.Path.{sym, _∙_}
-use Rattle.status.specs.Status.{judged}
+use Rattle.status.specs.Status.{judgeOf}
 use Rattle.wire.proofs.Tests.{tests}
 use Rattle.status.proofs.judge.Statement.{statement}
 use Rattle.status.proofs.judge.Tie as tie
 
 pub judge-spec : {M : Type 1} → statement M
-unfolding judged
+unfolding judgeOf
 judge-spec =
     tie.close
     (tie.spec

@@ -9,25 +9,25 @@ use mathlib.Core.List.{List}
 use lib.ListN.{length, getD}
 use Rattle.wire.specs.Promise.{Promise, promised}
 use Rattle.buffer.specs.Sum.{endsInSum}
-use Rattle.status.specs.Status.{statusOf, statusNumber}
+use Rattle.status.specs.Status.{statusRead, statusNumber}
 use Rattle.wire.specs.declared.refusal.Refusal.the-variants.{Short, Long, Sum}
 use Rattle.status.specs.declared.Status.the-variants.{Whole, Refused}
 use Rattle.status.proofs.Replies.{whole}
 use Rattle.status.proofs.read.Statement.{statement}
 use Rattle.status.proofs.read.Tie as tie
 
-short : (s : List ℕ) (k : ℕ) → length s < 2 + k → Promise statusNumber (Refused Short) (statusOf s k)
-unfolding statusOf
+short : (s : List ℕ) (k : ℕ) → length s < 2 + k → Promise statusNumber (Refused Short) (statusRead s k)
+unfolding statusRead
 short s k h = promised (rw (lt-ltb (length s) (2 + k) h))
 
-long : (s : List ℕ) (k : ℕ) → 2 + k < length s → Promise statusNumber (Refused Long) (statusOf s k)
-unfolding statusOf
+long : (s : List ℕ) (k : ℕ) → 2 + k < length s → Promise statusNumber (Refused Long) (statusRead s k)
+unfolding statusRead
 long s k h = promised (rw (le-ltb (length s) (2 + k) (omega arith), lt-ltb (2 + k) (length s) h))
 
-good : (s : List ℕ) (k : ℕ) (ok : Bool) → ok ≡ endsInSum s → ok ≡ true → length s ≡ 2 + k → Promise statusNumber (Whole (getD s 0 0)) (statusOf s k)
+good : (s : List ℕ) (k : ℕ) (ok : Bool) → ok ≡ endsInSum s → ok ≡ true → length s ≡ 2 + k → Promise statusNumber (Whole (getD s 0 0)) (statusRead s k)
 good s k ok i t n = promised (sym (whole s k true n (sym i ∙ t)))
 
-wrong : (s : List ℕ) (k : ℕ) (ok : Bool) → ok ≡ endsInSum s → ok ≡ false → length s ≡ 2 + k → Promise statusNumber (Refused Sum) (statusOf s k)
+wrong : (s : List ℕ) (k : ℕ) (ok : Bool) → ok ≡ endsInSum s → ok ≡ false → length s ≡ 2 + k → Promise statusNumber (Refused Sum) (statusRead s k)
 wrong s k ok i t n = promised (sym (whole s k false n (sym i ∙ t)))
 
 pub read-spec : {M : Type 1} → statement M

@@ -24,7 +24,7 @@ use Rattle.wire.specs.Promise.{Lending}
 use Rattle.node.specs.declared.state.Node.{Node}
 use Rattle.chain.proofs.Record as T
 use Rattle.survey.specs.declared.decision.Delivery.{Delivery}
-use Rattle.survey.specs.Delivery.{deliveredOn, deliveryNumber}
+use Rattle.survey.specs.Delivery.{deliverOf, deliveryNumber}
 use Rattle.survey.proofs.decision.Delivery as Y
 use Rattle.survey.proofs.decision.Delivery.Laws as Y′
 use Rattle.chain.proofs.deliver as deliver′
@@ -32,15 +32,16 @@ use Rattle.chain.proofs.deliver.Symbol as deliver-def
 use Rattle.chain.proofs.deliver.Symbol.{name as #chain·deliver}
 use Rattle.chain.proofs.deliver.Met as deliver-thm
 use Rattle.table.specs.declared.Delivered.{Delivered}
-use Rattle.table.specs.Table.{deliveredWith, deliveredNumber, deliveredOf}
+use Rattle.table.specs.Table.{deliveredNumber, tableDeliver}
+use Rattle.table.specs.Lending.{deliveredWith}
 use Rattle.table.proofs.Delivered as D
 use Rattle.table.proofs.Delivered.Laws as D′
 use Rattle.table.proofs.Prefix.{front, LentFront, lends-front, front-back}
 use Rattle.table.proofs.Owner.{together}
-use Rattle.table.proofs.delivered_of as delivered-of′
-use Rattle.table.proofs.delivered_of.Symbol as delivered-of-def
-use Rattle.table.proofs.delivered_of.Symbol.{name as #table·delivered-of}
-use Rattle.table.proofs.delivered_of.Met as delivered-of-thm
+use Rattle.table.proofs.delivered_with as delivered-with′
+use Rattle.table.proofs.delivered_with.Symbol as delivered-with-def
+use Rattle.table.proofs.delivered_with.Symbol.{name as #table·delivered-with}
+use Rattle.table.proofs.delivered_with.Met as delivered-with-thm
 use Rattle.table.proofs.lend.Key.{name as #table·lend}
 use Rattle.table.proofs.lend as lend
 use Rattle.table.proofs.lend.Statement as stated
@@ -69,7 +70,7 @@ module _ {M : Type 1} (𝓤 : URA M) (H : Heap 𝓤) (A : Atoms 𝓤) (mem : Mem
   Deliver = tripleOf 𝓤 H A deliver′.signature (deliver′.spec 𝓤 H A mem run)
 
   abbrev DeliveredOf : Contract 𝓤
-  DeliveredOf = tripleOf 𝓤 H A delivered-of′.signature (delivered-of′.spec 𝓤 H A mem run)
+  DeliveredOf = tripleOf 𝓤 H A delivered-with′.signature (delivered-with′.spec 𝓤 H A mem run)
 
 module _ {M : Type 1} (𝓤 : URA M) (H : Heap 𝓤) (A : Atoms 𝓤) (W : Given 𝓤 H A) (mem : Memory → SProp 𝓤) (run : Routine → Fun 𝓤) (κ₁ κ₂ : Lft) (q₁ q₂ : Share)
     (xs : List Node) (av : Val) (n : ℕ) (pk rp : RefT (List ℕ)) (ga : Is (Array T.the-row 33) xs (av ∷ [])) (n-small : n < 34) (room₁ : Room u8 (length (pk .now))) (room₂ : Room u8 (length (rp .now))) where
@@ -108,7 +109,7 @@ module _ {M : Type 1} (𝓤 : URA M) (H : Heap 𝓤) (A : Atoms 𝓤) (W : Given
 
   -- what `lend` says of its answer and of what it leaves in the reply
   abbrev Lends : Delivered → List ℕ → Type 0
-  Lends s ws = Lending deliveredNumber s ws (deliveredOf (record { nodes = xs; count = n }) (pk .now) (rp .now))
+  Lends s ws = Lending deliveredNumber s ws (tableDeliver (record { nodes = xs; count = n }) (pk .now) (rp .now))
 
   exits : (r : Delivered) (mr : Val) (ws : List ℕ) → Is D.the-row r (mr ∷ []) → length ws ≡ length (rp .now) → Lends r ws
       → ent 𝓤 (⋆ 𝓤 H A (Toks ∷ Packet ∷ ‵ (finally u8 (rp .name) ws) ∷ [])) (Post mr)
@@ -118,7 +119,7 @@ module _ {M : Type 1} (𝓤 : URA M) (H : Heap 𝓤) (A : Atoms 𝓤) (W : Given
       nothing ! $ move ! (3 ∷ 0 ∷ []) $ fjoin ! $ move ! (2 ∷ 0 ∷ []) $ fjoin ! $ owned ! usize (Is usize) (uint-makes 𝓤 H A W w64) n _ (refl, n-fits) $ fjoin ! $ nothing ! $ fjoin ! $ move ! (1 ∷ 0 ∷ []) $
       frame ! $ frame ! $ owned ! D.the-row (Is D.the-row) (LL.makes D.the-type D′.the-plain 𝓤 H A) r _ gr $ done !
 
-  module _ (𝓣 : Tables 𝓤 H) (known-deliver : Triple 𝓤 (𝓣 .C #chain·deliver) (Deliver 𝓤 H A mem run)) (known-whole : Triple 𝓤 (𝓣 .C #table·delivered-of) (DeliveredOf 𝓤 H A mem run)) (l₀ l₁ l₂ l₃ l₄ l₅ l₆ l₇ l₈ l₉ l₁₀ l₁₁ : ℕ) where
+  module _ (𝓣 : Tables 𝓤 H) (known-deliver : Triple 𝓤 (𝓣 .C #chain·deliver) (Deliver 𝓤 H A mem run)) (known-whole : Triple 𝓤 (𝓣 .C #table·delivered-with) (DeliveredOf 𝓤 H A mem run)) (l₀ l₁ l₂ l₃ l₄ l₅ l₆ l₇ l₈ l₉ l₁₀ l₁₁ : ℕ) where
     abbrev En : Env 𝓤 H
     En = (De, l₀) ∷ (Ar, l₁) ∷ (word, l₂) ∷ ((sliceIn 0 imm byte), l₃) ∷ ((sliceIn 1 mut byte), l₄) ∷ (Ar, l₅) ∷ (Dy, l₆) ∷ ((tyRef erased mut (pointee (Array T.the-row 33 .written))), l₇) ∷ ((sliceHere mut Nd), l₈) ∷ ((tyRef erased mut byte), l₉) ∷ ((sliceHere mut byte), l₁₀) ∷ (Ar, l₁₁) ∷ []
 
@@ -151,8 +152,8 @@ module _ {M : Type 1} (𝓤 : URA M) (H : Heap 𝓤) (A : Atoms 𝓤) (W : Given
         qed W [] ∵ nothing ! $ owned ! Y.the-row (Is Y.the-row) (EL.makes Y.the-type Y′.the-plain 𝓤 H A) r _ gr $ fjoin ! $ owned ! usize (Is usize) (uint-makes 𝓤 H A W w64) n _ (refl, n-fits) $ fjoin ! $
         owned ! (Array T.the-row 33) (Is (Array T.the-row 33)) (array-makes 𝓤 H A W T.the-row (T.makes 𝓤 H A) 33) ys _ gy $ fjoin ! $ nothing ! $ join ! $ frame ! $ done !
 
-    delivered-of-of : (ys : List Node) (r : Delivery) (s : Delivered) → ent 𝓤 (ensured 𝓤 H A delivered-of′.ended (delivered-of′.clauses 𝓤 H A mem run) tt (ys, (n, (r, tt))) tt s) (fact 𝓤 (s ≡ deliveredWith ys n r))
-    delivered-of-of ys r s = tells 𝓤 H A (lasts delivered-of′.ended tt (ys, (n, (r, tt)))) (s ≡ deliveredWith ys n r)
+    delivered-of-of : (ys : List Node) (r : Delivery) (s : Delivered) → ent 𝓤 (ensured 𝓤 H A delivered-with′.ended (delivered-with′.clauses 𝓤 H A mem run) tt (ys, (n, (r, tt))) tt s) (fact 𝓤 (s ≡ deliveredWith ys n r))
+    delivered-of-of ys r s = tells 𝓤 H A (lasts delivered-with′.ended tt (ys, (n, (r, tt)))) (s ≡ deliveredWith ys n r)
 
     -- the array's machine value, with zs in front
     abbrev after : List Node → List Val
@@ -160,12 +161,12 @@ module _ {M : Type 1} (𝓤 : URA M) (H : Heap 𝓤) (A : Atoms 𝓤) (W : Given
 
     -- what `chain::deliver` says
     abbrev Told : Delivery → List Node → List ℕ → Type 0
-    Told r zs ws = Lending deliveryNumber r (record { nodes = zs; reply = ws }) (deliveredOn (take n xs) (pk .now) (rp .now))
+    Told r zs ws = Lending deliveryNumber r (record { nodes = zs; reply = ws }) (deliverOf (take n xs) (pk .now) (rp .now))
 
     typed : (ys : List Node) (ay : Val) → Is (Array T.the-row 33) ys (ay ∷ []) → Holds (hasTy Ar ay) × WT ay
     typed ys ay g = array-lawful 𝓤 H A W T.the-row (T.lawful 𝓤 H A W) 33 .typed ys (ay ∷ []) g .0
 
-    -- the call of `delivered_of`, and the rest
+    -- the call of `delivered_with`, and the rest
     second : (ys : List Node) (ay : Val) (r : Delivery) (mr : Val) (ws : List ℕ) → Is (Array T.the-row 33) ys (ay ∷ []) → Is Y.the-row r (mr ∷ []) → length ws ≡ length (rp .now)
         → ((s : Delivered) → s ≡ deliveredWith ys n r → Lends s ws)
         → ent 𝓤 (⋆ 𝓤 H A (Locs (has Ar l₅ ay) (has Dy l₆ mr) (has (tyRef erased mut (pointee (Array T.the-row 33 .written))) l₇ (vptr l₅ 0)) (has (sliceHere mut Nd) l₈ v₈) (has (tyRef erased mut byte) l₉ (vptr (rp .ptr .0) (rp .ptr .1))) (has (sliceHere mut byte) l₁₀ v₄) (room Ar l₁₁) (Toks ∷ ‵ (finally u8 (rp .name) ws) ∷ Packet ∷ []))) (Wp 𝓤 H (𝓣 .C) (𝓣 .Λ) En body.t-7 (atReturn 𝓤 H En Post))
@@ -174,7 +175,7 @@ module _ {M : Type 1} (𝓤 : URA M) (H : Heap 𝓤) (A : Atoms 𝓤) (W : Given
         assigns ! (of-opd ! (load ! (from ! (stop !)) (look ! 12 refl))) (from ! (stop !)) (init ! 0 refl (typed ys ay gy)) $
         use0 W (raw (DeliveredOf 𝓤 H A mem run .pre (to-whole ys ay r mr))) (goes-whole ys ay r mr gy gr) $
         calls-at ! (fmOf 𝓤 H (W .laws) 𝓣) (DeliveredOf 𝓤 H A mem run) known-whole (to-whole ys ay r mr) (and-then ! (load ! (from ! (stop !)) (look ! 1 refl)) (and-then ! (load ! (from ! (stop !)) (look ! 19 refl)) (and-then ! (load ! (from ! (stop !)) (look ! 11 refl)) (no-more !)))) (λ w.
-        use1 W (later (some (λ (s : Delivered). (‵ ftrue ⊛ ‵ (D.the-row .own s (w ∷ []))) ⊛ raw (ensured 𝓤 H A delivered-of′.ended (delivered-of′.clauses 𝓤 H A mem run) tt (ys, (n, (r, tt))) tt s)))) (id⊢ 𝓤 _) $ await ! tt $ pick ! (λ s.
+        use1 W (later (some (λ (s : Delivered). (‵ ftrue ⊛ ‵ (D.the-row .own s (w ∷ []))) ⊛ raw (ensured 𝓤 H A delivered-with′.ended (delivered-with′.clauses 𝓤 H A mem run) tt (ys, (n, (r, tt))) tt s)))) (id⊢ 𝓤 _) $ await ! tt $ pick ! (λ s.
         split ! $ move ! (1 ∷ []) $ use1 W (raw (fact 𝓤 (s ≡ deliveredWith ys n r))) (delivered-of-of ys r s) $ heard ! (s ≡ deliveredWith ys n r) (λ es. split ! $ let-go ! $
         facts ! D.the-row (Is D.the-row) (shows 𝓤 H A D.the-row) s (w ∷ []) (λ is.
         land ! (from ! (stop !)) (init ! 22 refl (LL.lawful D.the-type D′.the-laws 𝓤 H A W .typed s _ is .0)) $
@@ -216,7 +217,7 @@ module _ {M : Type 1} (𝓤 : URA M) (H : Heap 𝓤) (A : Atoms 𝓤) (W : Given
         all-long : (zs : List Node) → length zs ≡ length (take n xs) → length (zs ++ drop n xs) ≡ 33
         all-long zs e = omega (arith, length-append zs (drop n xs), e, taken, length-drop n xs, long, n-small)
 
-  walk : (𝓣 : Tables 𝓤 H) → Triple 𝓤 (𝓣 .C #chain·deliver) (Deliver 𝓤 H A mem run) → Triple 𝓤 (𝓣 .C #table·delivered-of) (DeliveredOf 𝓤 H A mem run)
+  walk : (𝓣 : Tables 𝓤 H) → Triple 𝓤 (𝓣 .C #chain·deliver) (Deliver 𝓤 H A mem run) → Triple 𝓤 (𝓣 .C #table·delivered-with) (DeliveredOf 𝓤 H A mem run)
       → ent 𝓤 (onEntry 𝓤 H A lend.signature (κ₁, (κ₂, tt)) (q₁, (q₂, tt)) a vals) (WpFn 𝓤 H (𝓣 .C) (𝓣 .Λ) code.function (av ∷ vint w64 n ∷ v₃ ∷ v₄ ∷ []) Post)
   walk 𝓣 known-deliver known-whole =
       qed W (Toks ∷ ‵ (owns (Array T.the-row 33 ∷ usize ∷ ShrSlice (named 0) κ₁ u8 ∷ MutSlice (named 1) κ₂ u8 ∷ []) a vals) ∷ []) ∵ enter ! (𝓣 .C) (𝓣 .Λ) code.function (av ∷ vint w64 n ∷ v₃ ∷ v₄ ∷ []) _ $
@@ -224,7 +225,7 @@ module _ {M : Type 1} (𝓤 : URA M) (H : Heap 𝓤) (A : Atoms 𝓤) (W : Given
       pass1 ! (init ! 20 refl (array-lawful 𝓤 H A W T.the-row (T.lawful 𝓤 H A W) 33 .typed xs (av ∷ []) ga .0)) $ pass1 ! (init ! 18 refl (tt, record { fits = n-fits })) $ pass1 ! (init ! 16 refl (tt, (tt, (record { fits = room₁ .0 }, tt)))) $ pass1 ! (init ! 14 refl (tt, (tt, (record { fits = room₂ .0 }, tt)))) $ pass0 ! $
       by ! (first 𝓣 known-deliver known-whole l₀ l₁ l₂ l₃ l₄ l₅ l₆ l₇ l₈ l₉ l₁₀ l₁₁)))))))))))))
 
-module _ {M : Type 1} (𝓤 : URA M) (H : Heap 𝓤) (A : Atoms 𝓤) (W : Given 𝓤 H A) (mem : Memory → SProp 𝓤) (run : Routine → Fun 𝓤) (𝓣 : Tables 𝓤 H) (known-deliver : Triple 𝓤 (𝓣 .C #chain·deliver) (Deliver 𝓤 H A mem run)) (known-whole : Triple 𝓤 (𝓣 .C #table·delivered-of) (DeliveredOf 𝓤 H A mem run)) where
+module _ {M : Type 1} (𝓤 : URA M) (H : Heap 𝓤) (A : Atoms 𝓤) (W : Given 𝓤 H A) (mem : Memory → SProp 𝓤) (run : Routine → Fun 𝓤) (𝓣 : Tables 𝓤 H) (known-deliver : Triple 𝓤 (𝓣 .C #chain·deliver) (Deliver 𝓤 H A mem run)) (known-whole : Triple 𝓤 (𝓣 .C #table·delivered-with) (DeliveredOf 𝓤 H A mem run)) where
   lend-walks : Walks 𝓤 H A lend.ended stayed (WpFn 𝓤 H (𝓣 .C) (𝓣 .Λ) code.function) (lend.clauses 𝓤 H A mem run)
   lend-walks = walked 𝓤 H A lend.ended stayed (lend.clauses 𝓤 H A mem run) (WpFn 𝓤 H (𝓣 .C) (𝓣 .Λ) code.function)
       (λ κs. (array-vals T.vals, (uint-vals w64, (slice-vals, (slice-vals, tt))))) (λ κs. (array-tells T.the-row T.vals T.tells 33, (uint-tells w64, (shr-slice-tells (named 0) (κs .0) u8, (mut-slice-tells (named 1) (κs .1 .0) u8, tt)))))
@@ -243,4 +244,4 @@ lend-spec 𝓤 H 𝓜 𝓖 𝓡 =
     (tables 𝓤 H 𝓜 𝓡 code.env .C) (tables 𝓤 H 𝓜 𝓡 code.env .Λ) #table·lend code.function (code.unfolded 𝓤 H 𝓜 𝓡)
     (lend-meets 𝓤 H (𝓖 .A) (givenOf 𝓤 H 𝓜 𝓖) (𝓜 .mem) (𝓡 .run) (tablesOf 𝓤 H 𝓜 (tables 𝓤 H 𝓜 𝓡 code.env))
     (cited 𝓤 H (Deliver 𝓤 H (𝓖 .A) (𝓜 .mem) (𝓡 .run)) 𝓜 𝓡 code.env #chain·deliver deliver-def.routine code.calls-chain·deliver (deliver-thm.met 𝓤 H 𝓜 𝓖 𝓡))
-    (cited 𝓤 H (DeliveredOf 𝓤 H (𝓖 .A) (𝓜 .mem) (𝓡 .run)) 𝓜 𝓡 code.env #table·delivered-of delivered-of-def.routine code.calls-table·delivered-of (delivered-of-thm.met 𝓤 H 𝓜 𝓖 𝓡)))
+    (cited 𝓤 H (DeliveredOf 𝓤 H (𝓖 .A) (𝓜 .mem) (𝓡 .run)) 𝓜 𝓡 code.env #table·delivered-with delivered-with-def.routine code.calls-table·delivered-with (delivered-with-thm.met 𝓤 H 𝓜 𝓖 𝓡)))

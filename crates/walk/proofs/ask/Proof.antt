@@ -2,7 +2,7 @@
 use borrow.Author.Needs.{needs}
 use native.Mathlib.Omega.{arith}
 use Rattle.walk.proofs.Walking.{ask-refused, ask-sends}
-use Rattle.walk.proofs.Clear.{ask-walks}
+use Rattle.walk.proofs.Passing.{ask-walks}
 use Rattle.walk.proofs.ask.Statement.{statement}
 use Rattle.walk.proofs.ask.Tie as tie
 

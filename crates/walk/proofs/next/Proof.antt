@@ -2,7 +2,7 @@
 use borrow.Author.Needs.{needs}
 use native.Mathlib.Omega.{arith}
 use Rattle.walk.proofs.Walking.{next-refused, next-sends}
-use Rattle.walk.proofs.Clear.{next-walks}
+use Rattle.walk.proofs.Passing.{next-walks}
 use Rattle.walk.proofs.next.Statement.{statement}
 use Rattle.walk.proofs.next.Tie as tie
 

@@ -1,16 +1,16 @@
 -- Each exit is the case that the tests on the way pick.
 use borrow.Author.Needs.{needs}
 use Rattle.wire.proofs.Tests.{tests}
-use Rattle.hex.specs.Digits.{charOf}
+use Rattle.hex.specs.Digits.{characterOf}
 use Rattle.hex.proofs.digits.character.Statement.{statement}
 use Rattle.hex.proofs.digits.character.Tie as tie
 
 decimal : tie.Need-returns
-unfolding charOf
+unfolding characterOf
 decimal c = search tests
 
 letter : tie.Need-returns-2
-unfolding charOf
+unfolding characterOf
 letter c = search tests
 
 pub character-spec : {M : Type 1} → statement M

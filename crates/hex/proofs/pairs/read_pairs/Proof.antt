@@ -4,14 +4,15 @@ use mathlib.Core.Path.{_≡_, refl}
 use borrow.Author.Needs.{needs}
 use native.Mathlib.Omega.{arith}
 use lib.ListN.{length, drop}
-use Rattle.hex.specs.Hex.{packetIn, laidFrom}
+use Rattle.hex.specs.Hex.{packetIn}
+use Rattle.hex.specs.Gathering.{readPairs}
 use Rattle.hex.proofs.Pairing.{pairs-bad, pairs-last, pairs-more, more-fits, store-long}
 use Rattle.hex.proofs.pairs.read_pairs.Statement.{statement}
 use Rattle.hex.proofs.pairs.read_pairs.Tie as tie
 
 abbrev Inv-loop : tie.InvT-loop
 Inv-loop line out₀ at₀ count₀ out at count =
-    (at ≤ length line) × ((count ≤ at) × ((length out ≡ length out₀) × (laidFrom (packetIn (drop at line)) count out ≡ laidFrom (packetIn line) 0 out₀)))
+    (at ≤ length line) × ((count ≤ at) × ((length out ≡ length out₀) × (readPairs (packetIn (drop at line)) count out ≡ readPairs (packetIn line) 0 out₀)))
 
 abbrev μ-loop : tie.MeasureT-loop
 μ-loop line out₀ at₀ count₀ out at count = (length line + 3) - at

@@ -5,7 +5,7 @@ use borrow.Author.Needs.{needs}
 use native.Mathlib.Omega.{arith}
 use lib.ListN.{length, drop}
 use Rattle.text.specs.Lines.{linesOf}
-use Rattle.script.specs.Bench.{played}
+use Rattle.script.specs.Bench.{runOf}
 use Rattle.buffer.proofs.Appends.{Going, going-start}
 use Rattle.script.proofs.Playing.{next-line, run-next, run-near, run-long, run-done}
 use Rattle.script.proofs.rehearsal.run.Statement.{statement}
@@ -14,7 +14,7 @@ use Rattle.script.proofs.rehearsal.run.Tie as tie
 abbrev Inv-loop : tie.InvT-loop
 Inv-loop packets out₀ t₀ at₀ p₀ out t at p =
     (at ≤ length packets + 1)
-    × ((p ≤ 64 * at) × ((length out ≡ length out₀) × Going (played t (linesOf (drop at packets))) p out (played t₀ (linesOf packets)) out₀))
+    × ((p ≤ 64 * at) × ((length out ≡ length out₀) × Going (runOf t (linesOf (drop at packets))) p out (runOf t₀ (linesOf packets)) out₀))
 
 abbrev μ-loop : tie.MeasureT-loop
 μ-loop packets out₀ t₀ at₀ p₀ out t at p = (length packets + 1) - at

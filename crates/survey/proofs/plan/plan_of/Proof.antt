@@ -1,6 +1,6 @@
 -- 6 first; then by whether the packet can be read.
 use borrow.Author.Needs.{needs}
-use Rattle.survey.proofs.Surveying.{plan-empty, plan-over, plan-sound, plan-unsound}
+use Rattle.survey.proofs.Surveying.{plan-empty, plan-over, plan-ranged, plan-unranged}
 use Rattle.survey.proofs.plan.plan_of.Statement.{statement}
 use Rattle.survey.proofs.plan.plan_of.Tie as tie
 
@@ -13,6 +13,6 @@ plan-of-spec =
     (λ c. search needs)
     (λ c κs. search needs)
     (λ c. search needs)
-    (λ c. search plan-sound)
-    (λ c. search plan-sound)
-    (λ c. search plan-unsound))
+    (λ c. search plan-ranged)
+    (λ c. search plan-ranged)
+    (λ c. search plan-unranged))

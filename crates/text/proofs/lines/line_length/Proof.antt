@@ -5,13 +5,13 @@ use borrow.Author.Needs.{needs}
 use native.Mathlib.Omega.{arith}
 use native.Mathlib.Nat.{zero-add}
 use lib.ListN.{length, drop}
-use Rattle.text.specs.Lines.{lineOf}
+use Rattle.text.specs.Lines.{firstLine}
 use Rattle.text.proofs.Parts.{line-on, line-found, line-end}
 use Rattle.text.proofs.lines.line_length.Statement.{statement}
 use Rattle.text.proofs.lines.line_length.Tie as tie
 
 abbrev Inv-loop : tie.InvT-loop
-Inv-loop s i₀ i = (i ≤ length s) × (i + length (lineOf (drop i s)) ≡ length (lineOf s))
+Inv-loop s i₀ i = (i ≤ length s) × (i + length (firstLine (drop i s)) ≡ length (firstLine s))
 
 abbrev μ-loop : tie.MeasureT-loop
 μ-loop s i₀ i = length s - i

@@ -2,13 +2,13 @@
 use borrow.Author.Needs.{needs}
 use mathlib.Core.Path.{_≡_, sym, ap, _∙_}
 use Rattle.node.specs.declared.state.Node.{Node}
-use Rattle.heard.specs.declared.Heard.{Heard}
-use Rattle.node.specs.Node.{taken}
+use Rattle.message.specs.declared.Message.{Message}
+use Rattle.node.specs.Node.{takeOf}
 use Rattle.node.proofs.state.Node.take.Statement.{statement}
 use Rattle.node.proofs.state.Node.take.Tie as tie
 
-told : (h k : Heard) (n r : Node) → h ≡ k → r ≡ taken k n → r ≡ taken h n
-told h k n r e p = p ∙ sym (ap (λ (x : Heard). taken x n) e)
+told : (h k : Message) (n r : Node) → h ≡ k → r ≡ takeOf k n → r ≡ takeOf h n
+told h k n r e p = p ∙ sym (ap (λ (x : Message). takeOf x n) e)
 
 pub take-spec : {M : Type 1} → statement M
 take-spec =

@@ -8,7 +8,8 @@ use Rattle.node.specs.Setting.{Setting, Value, make, get-make, make-same}
 use Rattle.node.specs.Effect.{Effect, keeps, stores, copies, effect, applied, settingsAfter}
 use Rattle.entry.specs.declared.Known.{Known}
 use Rattle.entry.specs.declared.Entry.{Entry}
-use Rattle.entry.specs.Entry.{flag, shows, newFlag, newValue, markOf, confirmOf, blendOf}
+use Rattle.entry.specs.Entry.{flag, shows, newFlag, newValue, markOf, confirmOf}
+use Rattle.entry.specs.Blending.{blendOf}
 
 picked : {s : Setting} (f : Effect s) (e : Entry) → cond (newFlag true f (e .known)) (applied f (e .settings)) (shows e s) ≡ newValue f e
 picked {s} keeps e = same (flag (e .known) s) (shows e s)

@@ -4,7 +4,6 @@ use mathlib.Core.Path.{_≡_}
 use Rattle.command.specs.declared.Command.{Command}
 use Rattle.status.specs.declared.Answer.{Answer}
 use Rattle.status.specs.declared.Answer.the-variants.{Clear, Marked, Silent}
-use Rattle.node.specs.declared.state.Settings.{Settings}
 use Rattle.node.specs.Setting.{GateSetting, outputs, pwm, held, timer, Setting, place, mask, gate, Value, get, make}
 use Rattle.node.specs.Effect.{Effect, keeps, stores, copies, effect, writes, settingsPowerUp}
 use Rattle.entry.specs.declared.Known.{Known}
@@ -96,10 +95,6 @@ noteValue Clear Misses {s} f e = shows e s
 noteValue Clear May {s} f e = shows e s
 noteValue Marked r {s} f e = shows e s
 noteValue Silent r {s} f e = shows e s
-
--- each value by its flag: the new one where it is known, else the old one
-abbrev pub blendOf : Known → Settings → Settings → Settings
-blendOf k new old = make (λ s. cond (flag k s) (get new s) (get old s))
 
 -- "Nop, Read Status and Synch Input write no setting": so of every command that writes none
 abbrev pub Quiet : Command → Type 0

@@ -9,7 +9,8 @@ use node::Settings;
 use status::Answer;
 ghost use mathlib.Core.Path.{_≡_};
 ghost use mathlib.Core.Bool.{cond, _&&_};
-ghost use Rattle.entry.specs.Entry.{entryPowerUp, markOf, blendOf, confirmOf, doubtOf, noteOf};
+ghost use Rattle.entry.specs.Entry.{entryPowerUp, markOf, confirmOf, doubtOf, noteOf};
+ghost use Rattle.entry.specs.Blending.{blendOf};
 
 // Which of the six settings are known; the others are in doubt.
 pub struct Known {

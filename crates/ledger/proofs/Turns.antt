@@ -18,7 +18,7 @@ use Rattle.status.specs.declared.Answer.{Answer}
 use Rattle.entry.specs.declared.Entry.{Entry}
 use Rattle.entry.specs.declared.Reach.{Reach}
 use Rattle.entry.specs.Entry.{noteOf, doubtOf}
-use Rattle.ledger.specs.Ledger.{ledgerLeast, reachOf, eachFrom, settling, settleOf, forgetting, forgetOf, isRival, ledFrom, isLed}
+use Rattle.ledger.specs.Ledger.{ledgerLeast, reachOf, eachFrom, settling, settleOf, forgetOf, isRival, ledFrom, isLed}
 
 capped : (t : Bool) (n : ℕ) → ltb 31 n ≡ t → cond t 31 n ≤ 31
 capped true n h = omega arith
@@ -75,7 +75,10 @@ pub settle-end : (a : Answer) (to : Address) (c : Command) (n i : ℕ) (es l : L
 unfolding settleOf
 settle-end a to c n i es l p q = q ∙ ap (λ (m : ℕ). eachFrom (settling a to c) 1 m es) p
 
--- a turn of `forget`, and its end
+-- a turn of `forget`, and its end: all that a node holds goes into doubt, whichever it is
+abbrev pub forgetting : ℕ → Entry → Entry
+forgetting k e = doubtOf HardReset e
+
 pub forget-turn : (i : ℕ) (es l : List Entry) (e d : Entry) → l ≡ eachFrom forgetting 1 i es → e ≡ doubtOf HardReset (getD l i d) → i < length es
     → set l i e ≡ eachFrom forgetting 1 (i + 1) es
 forget-turn i es l e d p f h = rw (f, p) (one-more forgetting i es d h)

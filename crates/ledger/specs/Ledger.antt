@@ -54,10 +54,6 @@ settling a to c k e = noteOf a (reachOf to k e) c e
 unfoldable pub settleOf : Answer → Address → Command → ℕ → List Entry → List Entry
 settleOf a to c n es = eachFrom (settling a to c) 1 (ledgerLeast n) es
 
--- the same for every node: all that it holds is in doubt
-abbrev pub forgetting : ℕ → Entry → Entry
-forgetting k e = doubtOf HardReset e
-
 -- "Hard Reset .. puts all settings in doubt"
 unfoldable pub forgetOf : List Entry → List Entry
 forgetOf es = map (doubtOf HardReset) es

@@ -57,16 +57,32 @@ gateRow a b c d pwm = b
 gateRow a b c d held = c
 gateRow a b c d timer = d
 
+-- a row that writes one or two of these
+abbrev pub onOutputs : Effect (gate outputs) → (s : Setting) → Effect s
+onOutputs e = onGate (gateRow e keeps keeps keeps)
+
+abbrev pub onPwm : Effect (gate pwm) → (s : Setting) → Effect s
+onPwm e = onGate (gateRow keeps e keeps keeps)
+
+abbrev pub onHeld : Effect (gate held) → (s : Setting) → Effect s
+onHeld e = onGate (gateRow keeps keeps e keeps)
+
+abbrev pub onTimer : Effect (gate timer) → (s : Setting) → Effect s
+onTimer e = onGate (gateRow keeps keeps keeps e)
+
+abbrev pub onOutputsAndPwm : Effect (gate outputs) → Effect (gate pwm) → (s : Setting) → Effect s
+onOutputsAndPwm e f = onGate (gateRow e f keeps keeps)
+
 -- "the other Set commands store their data, no more. Synch Output copies the held set to outputs and PWM pair"
 abbrev pub effect : Command → (s : Setting) → Effect s
 effect (SetAddress p) = onPlace (stores p)
 effect (DefineStatus m) = onMask (stores m)
 effect (ReadStatus m) = none
-effect (SetPwm w) = onGate (gateRow keeps (stores w) keeps keeps)
-effect SynchOutput = onGate (gateRow (copies (gate held) (λ h. h .outputs)) (copies (gate held) (λ h. h .pwm)) keeps keeps)
-effect (SetOutputs w) = onGate (gateRow (stores w) keeps keeps keeps)
-effect (SetSynchOutput h) = onGate (gateRow keeps keeps (stores h) keeps)
-effect (SetTimerMode m) = onGate (gateRow keeps keeps keeps (stores m))
+effect (SetPwm w) = onPwm (stores w)
+effect SynchOutput = onOutputsAndPwm (copies (gate held) (λ h. h .outputs)) (copies (gate held) (λ h. h .pwm))
+effect (SetOutputs w) = onOutputs (stores w)
+effect (SetSynchOutput h) = onHeld (stores h)
+effect (SetTimerMode m) = onTimer (stores m)
 effect SynchInput = none
 effect Nop = none
 effect HardReset = λ s. stores (get settingsPowerUp s)

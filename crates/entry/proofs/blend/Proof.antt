@@ -8,7 +8,7 @@ use Rattle.command.specs.declared.Pwm.{Pwm}
 use Rattle.command.specs.declared.Held.{Held}
 use Rattle.node.specs.declared.state.Settings.{Settings}
 use Rattle.entry.specs.declared.Known.{Known}
-use Rattle.entry.specs.Entry.{blendOf}
+use Rattle.entry.specs.Blending.{blendOf}
 use Rattle.entry.proofs.blend.Statement.{statement}
 use Rattle.entry.proofs.blend.Tie as tie
 

@@ -4,8 +4,8 @@ use mathlib.Core.Path.{_≡_, refl}
 use native.Mathlib.Omega.{arith}
 use lib.ListN.{length}
 use borrow.Author.Needs.{needs}
-use Rattle.ledger.specs.Ledger.{blankEntry, eachFrom, forgetting}
-use Rattle.ledger.proofs.Turns.{forget-turn, forget-end}
+use Rattle.ledger.specs.Ledger.{blankEntry, eachFrom}
+use Rattle.ledger.proofs.Turns.{forgetting, forget-turn, forget-end}
 use Rattle.ledger.proofs.forget.Statement.{statement}
 use Rattle.ledger.proofs.forget.Tie as tie
 

@@ -1,6 +1,7 @@
 -- Which command a role belongs to, and what holds of all commands of a role: whoever speaks of a role needs no list of commands.
 use mathlib.Core.Bool.{true, false, true≢false, false≢true}
 use mathlib.Core.Path.{_≡_, refl}
+use Rattle.command.specs.declared.Place.{Place}
 use Rattle.command.specs.declared.Command.{Command}
 use Rattle.command.specs.declared.Command.the-variants.{SetAddress, DefineStatus, ReadStatus, SetPwm, SynchOutput, SetOutputs, SetSynchOutput, SetTimerMode, SynchInput, Nop, HardReset}
 use Rattle.command.specs.declared.Role.{Role}
@@ -41,6 +42,23 @@ resets-belongs Resets c b h = b
 -- only Hard Reset resets
 pub only-reset : (c : Command) → isReset (roleOf c) ≡ true → c ≡ HardReset
 only-reset c = resets-belongs (roleOf c) c (belongs c)
+
+-- a command that gives a place is a Set Address
+pub record PlacedBy (c : Command) : Type 0 where
+  pub to : Place
+  pub by : c ≡ SetAddress to
+
+places-belongs : (r : Role) (c : Command) → Belongs r c → isPlacing r ≡ true → PlacedBy c
+places-belongs Plain c b h = absurd (false≢true h)
+places-belongs (Places p) c b h = record { to = p; by = b }
+places-belongs (Masks m) c b h = absurd (false≢true h)
+places-belongs Captures c b h = absurd (false≢true h)
+places-belongs Idles c b h = absurd (false≢true h)
+places-belongs Resets c b h = absurd (false≢true h)
+
+-- only Set Address gives a place
+pub only-places : (c : Command) → isPlacing (roleOf c) ≡ true → PlacedBy c
+only-places c = places-belongs (roleOf c) c (belongs c)
 
 unplaced-fits : (r : Role) → isPlacing r ≡ false → (fitsBy r ≡ true) × typedBy r
 unplaced-fits Plain h = (refl, tt)

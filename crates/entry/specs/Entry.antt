@@ -96,6 +96,6 @@ noteValue Clear May {s} f e = shows e s
 noteValue Marked r {s} f e = shows e s
 noteValue Silent r {s} f e = shows e s
 
--- "Nop, Read Status and Synch Input write no setting": so of every command that writes none
+-- a command that writes no setting, as Nop, Read Status and Synch Input do
 abbrev pub Quiet : Command → Type 0
 Quiet c = (s : Setting) → writes (effect c s) ≡ false

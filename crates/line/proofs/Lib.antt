@@ -2,7 +2,7 @@ pub mod Words
 mod Exact
 mod Due
 mod Closing
-mod Returning
+pub mod Returning
 pub mod Exactly
 mod Sound
 mod Invariant

@@ -1,8 +1,13 @@
--- A refused builder leaves the buffer as it stood.
+-- T by its number, and a refused builder leaves the buffer as it stood.
 use Prim.Native.Nat.{ℕ}
 use mathlib.Core.List.{List}
-use Rattle.status.specs.Status.{statusPacket, statusBuild}
+use mathlib.Core.Path.{_≡_, refl}
+use Rattle.status.specs.Status.{statusPacket, statusBuild, T}
 use Rattle.buffer.proofs.Refusals.{Spares, written-spares}
+
+-- the list decides: 17, where the paper's "0 to 16" would be one less
+pub total : _≡_ {A = ℕ} T 17
+total = refl
 
 pub build-spares : (b : ℕ) (d out : List ℕ) → Spares out (statusBuild b d out)
 unfolding statusBuild

@@ -1,12 +1,12 @@
 mod Ones
-mod Members
+pub mod Members
 mod Searching
 pub mod Visiting
 mod Surveying
 mod Deciding
 pub mod Meaning
 pub mod Collisions
-mod Flags
+pub mod Flags
 pub mod Joining
 pub mod Refusals
 pub mod Lengths

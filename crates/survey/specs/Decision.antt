@@ -1,4 +1,4 @@
--- Serves the contracts of the functions that deliver. How a delivery is done; the paper does not speak of it. How it is decided by its plan, and how those that act are gone through.
+-- Serves inner calls: how a delivery is done, which comes to what Delivery says. How it is decided by its plan, and how those that act are gone through.
 use Prim.Native.Nat.{ℕ, _/_, _%_}
 use mathlib.Core.Bool.{cond}
 use mathlib.Core.List.{List, [], _∷_}

@@ -1,4 +1,4 @@
--- Serves the contracts of the functions that deliver. How a delivery is done; the paper does not speak of it. A set of nodes is a number: node i is in it exactly if its binary digit i, counted from the lowest, is 1.
+-- Serves inner calls: how a delivery is done, which comes to what Delivery says. A set of nodes is a number: node i is in it exactly if its binary digit i, counted from the lowest, is 1.
 use Prim.Native.Nat.{ℕ, zero, suc, _+_, _-_, _/_, _%_, _^_}
 use mathlib.Core.Bool.{Bool, cond}
 use mathlib.Core.List.{List, [], _∷_}

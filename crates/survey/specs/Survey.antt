@@ -1,4 +1,4 @@
--- Serves the contracts of the functions that deliver. How a delivery is done; the paper does not speak of it. How it comes by its plan: a look at each node in order, then the tests of document 01 in their sequence.
+-- Serves inner calls: how a delivery is done, which comes to what Delivery says. How it comes by its plan: a look at each node in order, then the tests of document 01 in their sequence.
 use Prim.Native.Nat.{ℕ, _+_, _%_, _^_}
 use mathlib.Core.Bool.{Bool, true, cond, _&&_}
 use mathlib.Core.List.{List, [], _∷_}

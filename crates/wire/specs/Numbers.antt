@@ -26,6 +26,6 @@ numberOf refusal.Closed = 12
 abbrev pub collision : ℕ
 collision = 13
 
--- "1 to 31 nodes"
+-- "n or table length not 1 to 31"
 abbrev pub mostNodes : ℕ
 mostNodes = 31

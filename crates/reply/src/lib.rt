@@ -1,6 +1,6 @@
 // What a node sends back: the status packet, with the items of Define Status in their order, least significant byte first.
 // Promised: every reply is good, says by bit 1 whether the sum was wrong, and reads back under its mask as the items asked for.
-// Left to others: whether the node replies at all (message, chain).
+// Left to others: whether the node replies at all (message, survey).
 use buffer::Built;
 use command::Role;
 use message::Message;

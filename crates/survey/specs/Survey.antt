@@ -4,7 +4,7 @@ use mathlib.Core.Bool.{Bool, true, cond, _&&_}
 use mathlib.Core.List.{List, [], _∷_}
 use lib.Dec.{leb}
 use lib.ListN.{length, getD}
-use Rattle.wire.specs.Numbers.{mostNodes}
+use Rattle.wire.specs.Numbers.{done, numberOf, mostNodes}
 use Rattle.wire.specs.declared.address.Address.{Address}
 use Rattle.wire.specs.declared.refusal.Refusal.the-variants.{Range}
 use Rattle.packet.specs.Packet.{frameOf}
@@ -34,6 +34,11 @@ receiveBy (framed.Refused why) p = Unread why
 
 unfoldable pub receiveOf : List ℕ → Incoming
 receiveOf p = receiveBy (frameOf p) p
+
+-- the number that a packet which can't be read is refused with
+abbrev pub incomingNumber : Incoming → ℕ
+incomingNumber (Whole to m) = done
+incomingNumber (Unread why) = numberOf why
 
 -- nothing seen yet: the first node is near
 abbrev pub chainStart : Seen
@@ -76,6 +81,11 @@ planFor h s n = Deliver (replierTo h (s .replying) n) (s .acting) h
 abbrev pub planBy : Incoming → Seen → ℕ → Plan
 planBy (Whole to h) s n = planFor h s n
 planBy (Unread why) s n = Refuse why
+
+-- the number of a plan: of one that delivers, it is the delivery's
+abbrev pub planNumber : Plan → ℕ
+planNumber (Deliver r acting m) = done
+planNumber (Refuse why) = numberOf why
 
 -- "For the chain 6 comes first"
 unfoldable pub planOf : Incoming → Seen → ℕ → Plan

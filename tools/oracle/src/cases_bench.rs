@@ -195,7 +195,7 @@ fn leaders() -> Vec<String> {
     lines
 }
 
-/// Two and three repliers act and are not heard.
+/// Two and three repliers act, and their replies collide.
 fn collisions() -> Vec<String> {
     let mut lines = packets(&[
         "01 21 01 00",

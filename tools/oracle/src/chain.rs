@@ -38,7 +38,7 @@ pub fn deliver(
     if rules.slips(Mistake::FrameBeforeTable) {
         frame(rules, bytes)?;
     }
-    require(table_is_sound(rules, nodes), Refusal::OffRange)?;
+    require(table_is_in_range(rules, nodes), Refusal::OffRange)?;
     if rules.slips(Mistake::RoomBeforeFrame) {
         require(!buffer.is_empty(), Refusal::NoRoom)?;
     }
@@ -61,17 +61,17 @@ pub fn deliver(
 
 /// 6: "table length not 1 to 31, .. a lent node record with individual
 /// address above 0x7F or group below 0x80", hearing or not.
-fn table_is_sound(rules: Rules, nodes: &[Node]) -> bool {
+fn table_is_in_range(rules: Rules, nodes: &[Node]) -> bool {
     let most = MOST_NODES + usize::from(rules.slips(Mistake::TableOf32));
     let all = !rules.slips(Mistake::DeafRecordsUnchecked);
     (1..=most).contains(&nodes.len())
         && (0..nodes.len())
             .filter(|index| all || hears(rules, nodes, *index))
-            .all(|index| record_is_sound(&nodes[index]))
+            .all(|index| record_is_in_range(&nodes[index]))
 }
 
 /// An individual address and a group are never taken for each other.
-fn record_is_sound(node: &Node) -> bool {
+fn record_is_in_range(node: &Node) -> bool {
     node.address() <= 0x7F && node.group() >= 0x80
 }
 
@@ -98,8 +98,8 @@ fn acts(rules: Rules, nodes: &[Node], index: usize, packet: &Packet) -> bool {
 fn replies(rules: Rules, nodes: &[Node], index: usize, packet: &Packet) -> bool {
     let node = &nodes[index];
     let speaks = node.settings.place.leader || rules.slips(Mistake::MembersReply);
-    let called = packet.address == node.address() || packet.address == node.group() && speaks;
-    hears(rules, nodes, index) && called && !goes_unanswered(rules, packet)
+    let answers = packet.address == node.address() || packet.address == node.group() && speaks;
+    hears(rules, nodes, index) && answers && !goes_unanswered(rules, packet)
 }
 
 /// Whether nobody answers such a packet: an intact Hard Reset of count 0.

@@ -2,14 +2,26 @@
 
 use crate::bench::Bench;
 use crate::hex;
+use crate::refusal::{Refusal, COLLISION, DONE};
 use crate::rules::Rules;
 use crate::trials::Trials;
+
+/// The answer to a line that the trials program can't read.
+const UNREADABLE: u8 = 0xFF;
+
+/// All that can be answered, in order.
+pub fn answerable() -> Vec<u8> {
+    let refusals = Refusal::ALL.iter().map(|refusal| refusal.number());
+    let mut numbers: Vec<u8> = refusals.chain([DONE, COLLISION, UNREADABLE]).collect();
+    numbers.sort_unstable();
+    numbers
+}
 
 /// Counts by number and by command byte.
 pub struct Coverage {
     pub lines: usize,
-    /// The numbers 0 to 13; place 14 counts the answer FF.
-    pub numbers: [usize; 15],
+    /// Each number as itself; the last is the answer FF.
+    pub numbers: [usize; 256],
     pub commands: [usize; 256],
 }
 
@@ -17,13 +29,13 @@ impl Coverage {
     fn none() -> Coverage {
         Coverage {
             lines: 0,
-            numbers: [0; 15],
+            numbers: [0; 256],
             commands: [0; 256],
         }
     }
 
     fn number(&mut self, number: u8) {
-        self.numbers[usize::from(number.min(14))] += 1;
+        self.numbers[usize::from(number)] += 1;
     }
 
     fn command(&mut self, byte: Option<&u8>) {
@@ -67,9 +79,10 @@ impl Coverage {
     /// Numbers and commands with their counts.
     pub fn text(&self) -> String {
         let mut text = format!("{} lines\n", self.lines);
-        for (number, count) in self.numbers.iter().enumerate() {
+        for number in answerable() {
+            let count = self.numbers[usize::from(number)];
             let name = match number {
-                14 => "FF".to_string(),
+                UNREADABLE => "FF".to_string(),
                 _ => number.to_string(),
             };
             text += &format!("number {name}: {count}\n");
@@ -89,9 +102,9 @@ impl Coverage {
 /// The number that a line of the bench program stands for.
 fn bench_number(answer: &str) -> u8 {
     match answer.strip_prefix("refused ") {
-        Some(number) => number.parse().unwrap_or(14),
-        None if answer == "collision" => 13,
-        None => 0,
+        Some(number) => number.parse().unwrap_or(UNREADABLE),
+        None if answer == "collision" => COLLISION,
+        None => DONE,
     }
 }
 

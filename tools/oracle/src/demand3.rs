@@ -6,7 +6,7 @@
 //! reply comes whole, with one byte changed, or not at all, always before the
 //! next command. After each closed exchange three things are checked: what
 //! the host calls known is what the node holds; doubt is exactly what the
-//! history of sent and heard says; and no two nodes ever replied at once.
+//! history of sent and answered says; and no two nodes ever replied at once.
 
 use crate::chain::{deliver, Delivery};
 use crate::command::{Command, Settings, COMMAND_BYTES};
@@ -31,7 +31,7 @@ pub struct Counts {
     pub sent: usize,
     pub lost: usize,
     pub changed: usize,
-    pub heard: usize,
+    pub answered: usize,
     pub silent: usize,
     pub refused: usize,
     pub doubts: usize,
@@ -43,7 +43,7 @@ impl std::fmt::Display for Counts {
         write!(
             out,
             "demand 3 held: {} steps, {} power-ups, {} walks ended, {} commands sent, \
-             {} lost, {} changed, {} replies heard, {} silences, {} refusals, \
+             {} lost, {} changed, {} replies, {} silences, {} refusals, \
              {} settings checked, {} of them in doubt",
             self.steps,
             self.power_ups,
@@ -51,7 +51,7 @@ impl std::fmt::Display for Counts {
             self.sent,
             self.lost,
             self.changed,
-            self.heard,
+            self.answered,
             self.silent,
             self.refused,
             self.checks,
@@ -292,18 +292,19 @@ impl World {
             self.expect_number(7, |host| host.next(&mut [0; 19]))?;
             return self.unchanged(&before);
         }
-        let heard = self.line_back();
+        let reply = self.line_back();
         let walked = self.host.walks();
-        if heard.is_empty() {
+        if reply.is_empty() {
             self.story.push("  silence".to_string());
             self.counts.silent += 1;
             self.expect_number(0, |host| host.silence().map(|()| 0))?;
         } else {
-            self.story.push(format!("  heard {}", hex::format(&heard)));
-            self.counts.heard += 1;
-            self.expect_number(0, |host| host.report(&heard).map(|()| 0))?;
+            self.story
+                .push(format!("  answered {}", hex::format(&reply)));
+            self.counts.answered += 1;
+            self.expect_number(0, |host| host.report(&reply).map(|()| 0))?;
         }
-        self.history.hear(&heard);
+        self.history.answer(&reply);
         self.counts.ready += usize::from(walked && !self.host.walks());
         self.check()
     }

@@ -1,5 +1,5 @@
 //! Doubt as the acceptance conditions define it, computed from what was sent
-//! and heard alone. Nothing here looks at the session's record.
+//! and answered alone. Nothing here looks at the session's record.
 //!
 //! "It is in doubt exactly if the last command that could have written it was
 //! unconfirmed, went to a group while the node's group was in doubt, or
@@ -10,9 +10,9 @@ use crate::command::Command;
 use crate::record::Setting;
 use crate::target::Target;
 
-/// What was heard after a command.
+/// How a command was answered.
 #[derive(Clone, Copy, PartialEq, Eq)]
-enum Heard {
+enum Answered {
     Nothing,
     GoodAndClear,
 }
@@ -21,7 +21,7 @@ enum Heard {
 struct Sent {
     target: Target,
     command: Command,
-    heard: Heard,
+    answered: Answered,
 }
 
 /// The commands since the last power-up that count as sent, in order.
@@ -33,7 +33,7 @@ pub struct History {
 }
 
 impl History {
-    /// A command goes out; until something is heard it is unconfirmed. A Nop
+    /// A command goes out; until it is answered it is unconfirmed. A Nop
     /// during the walk is an ask, no command of its own: its good clear reply
     /// confirms the Set Address it asks after.
     pub fn send(&mut self, target: Target, command: Command, walking: bool) {
@@ -42,13 +42,13 @@ impl History {
             self.sent.push(Sent {
                 target,
                 command,
-                heard: Heard::Nothing,
+                answered: Answered::Nothing,
             });
         }
     }
 
     /// What came back: good if 2 to 19 bytes end in the sum of the others.
-    pub fn hear(&mut self, bytes: &[u8]) {
+    pub fn answer(&mut self, bytes: &[u8]) {
         let total: u32 = bytes
             .iter()
             .rev()
@@ -62,7 +62,7 @@ impl History {
         let clear = bytes.first().is_some_and(|status| status & 2 == 0);
         if good && clear {
             if let Some(last) = self.sent.last_mut() {
-                last.heard = Heard::GoodAndClear;
+                last.answered = Answered::GoodAndClear;
             }
         } else if good && !self.asking {
             self.sent.pop();
@@ -80,7 +80,7 @@ impl History {
             return false;
         };
         let sent = &self.sent[last];
-        sent.heard == Heard::Nothing
+        sent.answered == Answered::Nothing
             || sent.target.is_group() && self.in_doubt_before(last, node, Setting::Place)
             || sent.command == Command::SynchOutput
                 && self.in_doubt_before(last, node, Setting::Held)
@@ -90,12 +90,12 @@ impl History {
     fn last_writer(&self, time: usize, node: u8, setting: Setting) -> Option<usize> {
         (0..time)
             .rev()
-            .find(|at| writes(self.sent[*at].command, setting) && self.could_reach(*at, node))
+            .find(|at| writes(self.sent[*at].command, setting) && self.could_write(*at, node))
     }
 
-    /// Whether a command could have reached a node: sent to it, or to a group
+    /// Whether a command could have written to a node: sent to it, or to a group
     /// that it was known to be in, or while its place was in doubt.
-    fn could_reach(&self, at: usize, node: u8) -> bool {
+    fn could_write(&self, at: usize, node: u8) -> bool {
         match self.sent[at].target {
             Target::Node(other) => other == node,
             Target::Group(group) => {

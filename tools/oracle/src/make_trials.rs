@@ -176,7 +176,7 @@ impl Story {
         line
     }
 
-    /// A table of 0 to 33 records, mostly short and sound.
+    /// A table of 0 to 33 records, mostly short and in range.
     fn table(&mut self) -> Vec<Node> {
         let length = match self.prng.below(100) {
             _ if self.terse => self.prng.between(1, 2),
@@ -197,7 +197,7 @@ impl Story {
         nodes
     }
 
-    /// Makes one record odd: unaddressed amid others, a twin, or unsound.
+    /// Makes one record odd: unaddressed amid others, a twin, or off its range.
     fn disturb(&mut self, nodes: &mut [Node]) {
         let index = self.prng.below(nodes.len());
         let node = &mut nodes[index];

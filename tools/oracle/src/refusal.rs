@@ -6,10 +6,22 @@ pub const DONE: u8 = 0;
 /// Several nodes replied. Not a refusal: the nodes keep what they did.
 pub const COLLISION: u8 = 13;
 
-/// The numbers 1 to 12, each a refusal that changes nothing.
-#[derive(Clone, Copy, Debug, PartialEq, Eq)]
-#[repr(u8)]
-pub enum Refusal {
+macro_rules! refusals {
+    ($($refusal:ident = $number:literal,)*) => {
+        /// The other numbers, each a refusal that changes nothing.
+        #[derive(Clone, Copy, Debug, PartialEq, Eq)]
+        #[repr(u8)]
+        pub enum Refusal {
+            $($refusal = $number,)*
+        }
+
+        impl Refusal {
+            pub const ALL: &'static [Refusal] = &[$(Refusal::$refusal),*];
+        }
+    };
+}
+
+refusals! {
     Short = 1,
     NoHeader = 2,
     TooLong = 3,

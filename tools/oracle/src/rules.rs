@@ -112,7 +112,7 @@ mistakes! {
     NodeBeforeRange: "10 is tested before 6",
     WalkBeforeNode: "9 is tested before 10",
     RoomBeforeLeader: "5 is tested before 11",
-    HandedInTrusted: "an unsound session handed in is trusted",
+    HandedInTrusted: "an invalid session handed in is trusted",
     ClosedExchangeReports: "a closed session's exchange can be reported on",
     // The bench program.
     LeadingZeroTaken: "a count with a leading zero is taken",

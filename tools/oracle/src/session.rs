@@ -186,10 +186,10 @@ impl Session {
     /// "One handed in with n above 31, a walk past n, or waiting on a node
     /// not 1 to n counts as closed with no exchange open."
     pub fn is_open(&self) -> bool {
-        self.open && (self.is_sound() || self.rules.slips(Mistake::HandedInTrusted))
+        self.open && (self.is_valid() || self.rules.slips(Mistake::HandedInTrusted))
     }
 
-    fn is_sound(&self) -> bool {
+    fn is_valid(&self) -> bool {
         let waits_in_range = match self.exchange {
             Exchange::Waiting {
                 target: Target::Node(node),

@@ -124,11 +124,11 @@ fn text(name: &str, rehearse: Rehearse, input: &[u8]) -> Outcome {
 /// A chain as the generator of packets likes to meet it.
 fn oracle_nodes(prng: &mut Prng) -> Vec<node::Node> {
     let length = prng.below(33);
-    let unsound = prng.percent(3);
+    let off_range = prng.percent(3);
     (0..length)
         .map(|_| {
             let mut place = make_packets::place(prng);
-            if unsound && prng.percent(10) {
+            if off_range && prng.percent(10) {
                 place.address = prng.byte();
                 place.group = prng.byte();
             }

@@ -6,6 +6,9 @@
 
 use crate::plain::{Answer, Node};
 
+/// The number of a collision, which no refusal has.
+const COLLISION: u8 = 13;
+
 /// A slice as the compiler has it: where it starts, and how long it is.
 #[repr(C)]
 struct Slice<T> {
@@ -55,9 +58,11 @@ impl Said {
         number: 0,
     };
 
-    /// Refusals are numbered from 1 in the order of their declaration.
+    /// Refusals are declared in the order of their numbers, which are those
+    /// from 1 on without the collision's.
     fn refused(&self) -> u8 {
-        self.refusal + 1
+        let number = self.refusal + 1;
+        number + u8::from(number >= COLLISION)
     }
 }
 

@@ -126,7 +126,7 @@ impl Node {
         }
     }
 
-    fn is_sound(&self) -> bool {
+    fn is_in_range(&self) -> bool {
         self.settings.place.address < 0x80 && self.settings.place.group >= 0x80
     }
 
@@ -297,7 +297,7 @@ impl Packet {
 /// acts. As one writes it down: the table is checked, searched for repliers
 /// up to the second one, and gone through once more to act.
 pub fn deliver(nodes: &mut [Node], bytes: &[u8], reply: &mut [u8]) -> Answer {
-    if !(1..=31).contains(&nodes.len()) || !nodes.iter().all(Node::is_sound) {
+    if !(1..=31).contains(&nodes.len()) || !nodes.iter().all(Node::is_in_range) {
         return Answer::Refused(6);
     }
     let packet = match frame(bytes) {
@@ -356,9 +356,9 @@ pub fn deliver_at_one_look(nodes: &mut [Node], bytes: &[u8], reply: &mut [u8]) -
     let packet = frame(bytes);
     let address = packet.as_ref().map_or(0, |packet| packet.address);
     let (mut acting, mut replying) = (0u32, 0u32);
-    let (mut near, mut sound) = (true, true);
+    let (mut near, mut in_range) = (true, true);
     for (index, node) in nodes.iter().enumerate() {
-        sound &= node.is_sound();
+        in_range &= node.is_in_range();
         if (near || node.addressed) && node.is_meant(address) {
             acting |= 1 << index;
             if node.answers(address) {
@@ -368,7 +368,7 @@ pub fn deliver_at_one_look(nodes: &mut [Node], bytes: &[u8], reply: &mut [u8]) -
         near = node.addressed;
     }
     let packet = match packet {
-        _ if !sound => return Answer::Refused(6),
+        _ if !in_range => return Answer::Refused(6),
         Err(number) => return Answer::Refused(number),
         Ok(packet) => packet,
     };

@@ -68,7 +68,7 @@ fn deliver(room: u8, nodes: &[Node], packet: &str) -> String {
 pub fn cases() -> Vec<Case> {
     vec![
         Case::new("tables of every length", table_lengths()),
-        Case::new("records off their range", unsound_records()),
+        Case::new("records off their range", records_off_range()),
         Case::new("the chain's order of checks", chain_order()),
         Case::new("every kind at a node", every_kind()),
         Case::new("others and other counts at a node", others()),
@@ -91,7 +91,7 @@ fn table_lengths() -> Vec<String> {
 }
 
 /// 6 also for records that do not hear and for packets not meant for them.
-fn unsound_records() -> Vec<String> {
+fn records_off_range() -> Vec<String> {
     let bad_address = record(0x80, 0xFF, false, false);
     let bad_group = record(0x02, 0x7F, true, false);
     let nop = packet("01 0E");

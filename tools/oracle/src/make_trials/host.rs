@@ -220,7 +220,7 @@ impl Story {
         session
     }
 
-    /// An exchange, sound or not.
+    /// An exchange, of a valid session or not.
     fn exchange(&mut self, n: u8, walk: u8) -> Exchange {
         let target = match self.prng.below(10) {
             0..=2 => Target::Node(walk.saturating_add(1)),

@@ -39,6 +39,7 @@ pub use denote.Memory.{pointee}
 pub use denote.Ref.{RefT}
 pub use denote.Slice.{sliceVal, ShrSlice, Room, heres, codedHoleys, at-slice, slice-vals, shr-slice-tells, MutSlice, mut-slice-tells, finally, shr-slice-copy}
 pub use denote.Index.{row, place-is, elem-out}
+-- `heard` is the kit's name: a fact that a call has told
 pub use denote.Steps.{only, owned, facts, heard, nothing}
 -- contracts, and how a walk meets one
 pub use denote.Signature.{plain}

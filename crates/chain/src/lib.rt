@@ -52,8 +52,8 @@ pub fn deliver(table: &mut [Node], packet: &[u8], reply: &mut [u8]) -> Delivery
     ensures { λ r. ⌜ Lending deliveryNumber r (record { nodes = now (table .exit); reply = now (reply .exit) }) (deliverOf (now (table .entry)) (now (packet .entry)) (now (reply .entry))) ⌝ }
 {
     let incoming = survey::receive(packet);
-    let seen = survey_all(table, incoming);
-    let decided = survey::decide(seen, reply);
+    let surveyed = survey_all(table, incoming);
+    let decided = survey::decide(surveyed, reply);
     act_all(table, decided);
     steps::answer_of(decided)
 }

@@ -1,4 +1,4 @@
--- What a command is beside its data: one table. Whatever treats some commands alike goes by the role, so that a new command is one line here.
+-- What a command is beside its data: one table. Whatever treats some commands alike goes by the role, so that a new command is one row here.
 use mathlib.Core.Bool.{Bool, true, false}
 use Rattle.command.specs.declared.Command.{Command}
 use Rattle.command.specs.declared.Command.the-variants.{SetAddress, DefineStatus, ReadStatus, SetPwm, SynchOutput, SetOutputs, SetSynchOutput, SetTimerMode, SynchInput, Nop, HardReset}

@@ -51,7 +51,7 @@ pub enum Command {
     HardReset,
 }
 
-// What a command is beside its data. Whoever treats some commands alike asks for their role, so that a new command is one line of `role`.
+// What a command is beside its data. Whoever treats some commands alike asks for their role, so that a new command is one row of `role`.
 pub enum Role {
     // Stores its data or copies what is held, and no more.
     Plain,

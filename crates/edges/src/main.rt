@@ -137,8 +137,8 @@ fn read(from: u8, count: u8) {
 
 // A look at a node, from a session of n nodes; it is lent nothing.
 fn look(n: u8, node: u8) {
-    let seen = session::look(session(n, 0), Individual(node));
-    show(b"look, n and node ", n, node, seen.number(), 0, &[0x55; 5]);
+    let shown = session::look(session(n, 0), Individual(node));
+    show(b"look, n and node ", n, node, shown.number(), 0, &[0x55; 5]);
 }
 
 fn main() {

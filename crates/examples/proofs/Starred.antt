@@ -16,7 +16,7 @@ use Rattle.session.specs.declared.Exchange.the-variants.{Idle, Waiting}
 use Rattle.session.specs.declared.Session.{Session}
 use Rattle.session.specs.declared.End.the-variants.{Done, Sent}
 use Rattle.session.specs.Session.{isValid, isClosed, nodeAt, givenPlace}
-use Rattle.sending.specs.Sending.{isWaiting, readyCheck, openExchange, transmitOf}
+use Rattle.sending.specs.Sending.{isWaiting, freeCheck, openExchange, transmitOf}
 use Rattle.host.specs.Calls.{orderCheck, orderOf}
 use Rattle.reports.specs.Report.{isGiving, isAsking, concludeOf, finishOf}
 use Rattle.examples.specs.Example.{stepOf, knownBut, entryWith, addressed, pair, shown}
@@ -29,7 +29,7 @@ module _ (rest : List Entry) where
   waiting b = pair 2 (Waiting (nodeAt 2) (SetOutputs 5)) (addressed 1) (entryWith (givenPlace 2) 0 (knownBut b true true)) rest
 
   sent : (b : Bool) → stepOf outputs5 (pair 2 Idle (addressed 1) (entryWith (givenPlace 2) 0 (knownBut b true true)) rest) ≡ record { end = Sent 6; session = waiting b }
-  unfolding total written buildFor commandBuild isValid isClosed isWaiting readyCheck orderCheck openExchange transmitOf orderOf
+  unfolding total written buildFor commandBuild isValid isClosed isWaiting freeCheck orderCheck openExchange transmitOf orderOf
   sent b = refl
 
   lost : finishOf (waiting true) answer.Silent ≡ record { end = Done; session = shown doubtful rest }

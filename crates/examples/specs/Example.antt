@@ -30,7 +30,7 @@ use Rattle.walk.specs.Walk.{nextOf, askOf}
 use Rattle.host.specs.Calls.{orderOf, regroupOf}
 use Rattle.reports.specs.Report.{finishOf, reportOf}
 
--- what the host does, or hears
+-- what the host does, or is told
 pub data Event : Type 0 where
   next ask : Event
   order : Address → Command → Event

@@ -1,4 +1,4 @@
-// The bench in place of the serial line: a packet goes to a table of nodes, and what came back is reported.
+// The bench instead of the serial line: a packet goes to a table of nodes, and what came back is reported.
 use chain::Delivery;
 use node::Bench;
 use node::Node;

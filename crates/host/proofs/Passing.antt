@@ -18,13 +18,13 @@ use Rattle.session.specs.Session.{offChain}
 use Rattle.session.proofs.Sessions.{OnChain, on-chain}
 use Rattle.sending.specs.declared.Check.{Check}
 use Rattle.sending.specs.declared.Check.the-variants.{Passed}
-use Rattle.sending.specs.Sending.{refuseIf, readyCheck}
+use Rattle.sending.specs.Sending.{refuseIf, freeCheck}
 use Rattle.host.specs.Calls.{isBadGroup, hasRival, orderCheck, regroupCheck}
-use Rattle.sending.proofs.Passing.{passed, Ready, ready-says}
+use Rattle.sending.proofs.Passing.{passed, Free, free-says}
 
 -- a command of a ready session: not a Set Address, to a node 1 to n or to a group
 pub record OrderPasses (s : Session) (to : Address) (c : Command) : Type 0 where
-  pub session : Ready s
+  pub session : Free s
   pub ended : s .walk ≡ s .n
   pub ordinary : isPlacing (roleOf c) ≡ false
   pub group : isBadGroup to ≡ false
@@ -33,20 +33,20 @@ pub record OrderPasses (s : Session) (to : Address) (c : Command) : Type 0 where
 pub order-says : (s : Session) (to : Address) (c : Command) → orderCheck s to c ≡ Passed → OrderPasses s to c
 unfolding orderCheck
 order-says s to c h =
-    let k2 : Check = refuseIf (readyCheck s) (isPlacing (roleOf c)) Range in
+    let k2 : Check = refuseIf (freeCheck s) (isPlacing (roleOf c)) Range in
     let k3 : Check = refuseIf k2 (isBadGroup to) Range in
     let t = passed (refuseIf k3 (offChain (s .n) to) NoNode) (ltb (s .walk) (s .n)) NotDue h in
     let u = passed k3 (offChain (s .n) to) NoNode (t .before) in
     let v = passed k2 (isBadGroup to) Range (u .before) in
-    let w = passed (readyCheck s) (isPlacing (roleOf c)) Range (v .before) in
-    let r = ready-says s (w .before) in
+    let w = passed (freeCheck s) (isPlacing (roleOf c)) Range (v .before) in
+    let r = free-says s (w .before) in
     let b = r .valid in
     let e = ltb-false (s .walk) (s .n) (t .failed) in
     record { session = r; ended = omega arith; ordinary = w .failed; group = v .failed; node = u .failed }
 
 -- regroup: a node 1 to n of a ready session, a group of its range, and no leader wish that another node stands in the way of
 pub record RegroupPasses (s : Session) (i : Individual) (g : Group) (leader : Bool) : Type 0 where
-  pub session : Ready s
+  pub session : Free s
   pub ended : s .walk ≡ s .n
   pub group : groupInRange (g .0) ≡ true
   pub node : OnChain (s .n) i
@@ -55,13 +55,13 @@ pub record RegroupPasses (s : Session) (i : Individual) (g : Group) (leader : Bo
 pub regroup-says : (s : Session) (i : Individual) (g : Group) (leader : Bool) → regroupCheck s i g leader ≡ Passed → RegroupPasses s i g leader
 unfolding regroupCheck
 regroup-says s i g leader h =
-    let k2 : Check = refuseIf (readyCheck s) (not (groupInRange (g .0))) Range in
+    let k2 : Check = refuseIf (freeCheck s) (not (groupInRange (g .0))) Range in
     let k3 : Check = refuseIf k2 (offChain (s .n) (address.Individual i)) NoNode in
     let t = passed (refuseIf k3 (ltb (s .walk) (s .n)) NotDue) (hasRival s i g leader) Led h in
     let u = passed k3 (ltb (s .walk) (s .n)) NotDue (t .before) in
     let v = passed k2 (offChain (s .n) (address.Individual i)) NoNode (u .before) in
-    let w = passed (readyCheck s) (not (groupInRange (g .0))) Range (v .before) in
-    let r = ready-says s (w .before) in
+    let w = passed (freeCheck s) (not (groupInRange (g .0))) Range (v .before) in
+    let r = free-says s (w .before) in
     let b = r .valid in
     let e = ltb-false (s .walk) (s .n) (u .failed) in
     record { session = r; ended = omega arith; group = not-false (groupInRange (g .0)) (w .failed); node = on-chain (s .n) i (v .failed); free = t .failed }

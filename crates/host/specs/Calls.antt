@@ -18,7 +18,7 @@ use Rattle.session.specs.declared.Session.{Session}
 use Rattle.session.specs.declared.Step.{Step}
 use Rattle.session.specs.Session.{offChain}
 use Rattle.sending.specs.declared.Check.{Check}
-use Rattle.sending.specs.Sending.{refuseIf, readyCheck, transmitOf, byCheck}
+use Rattle.sending.specs.Sending.{refuseIf, freeCheck, transmitOf, byCheck}
 
 -- 6: "group below 0x80"
 abbrev pub isBadGroup : Address → Bool
@@ -32,13 +32,13 @@ hasRival s i g leader = cond leader (isLed (i .0) g (s .n) (s .entries)) false
 -- a command of a ready session; a Set Address is none
 unfoldable pub orderCheck : Session → Address → Command → Check
 orderCheck s to c =
-    refuseIf (refuseIf (refuseIf (refuseIf (readyCheck s) (isPlacing (roleOf c)) Range) (isBadGroup to) Range) (offChain (s .n) to) NoNode) (ltb (s .walk) (s .n)) NotDue
+    refuseIf (refuseIf (refuseIf (refuseIf (freeCheck s) (isPlacing (roleOf c)) Range) (isBadGroup to) Range) (offChain (s .n) to) NoNode) (ltb (s .walk) (s .n)) NotDue
 
 -- a Set Address of a ready session: 6 its group, 10 its node, 11 its wish
 unfoldable pub regroupCheck : Session → Individual → Group → Bool → Check
 regroupCheck s i g leader =
     refuseIf
-    (refuseIf (refuseIf (refuseIf (readyCheck s) (not (groupInRange (g .0))) Range) (offChain (s .n) (address.Individual i)) NoNode) (ltb (s .walk) (s .n)) NotDue)
+    (refuseIf (refuseIf (refuseIf (freeCheck s) (not (groupInRange (g .0))) Range) (offChain (s .n) (address.Individual i)) NoNode) (ltb (s .walk) (s .n)) NotDue)
     (hasRival s i g leader)
     Led
 

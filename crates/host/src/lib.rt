@@ -4,7 +4,7 @@
 use command::Command;
 use command::Place;
 use sending::Check;
-use sending::ready_check;
+use sending::free_check;
 use sending::transmit;
 use session::Session;
 use session::Step;
@@ -34,7 +34,7 @@ fn is_bad_group(to: Address) -> bool
 fn order_check(s: Session, to: Address, c: Command) -> Check
     ensures { λ r. ⌜ Promise checkNumber r (orderCheck s to c) ⌝ }
 {
-    ready_check(s)
+    free_check(s)
         .refuse_if(c.role().is_placing(), Refusal::Range)
         .refuse_if(is_bad_group(to), Refusal::Range)
         .refuse_if(off_chain(s.n, to), Refusal::NoNode)
@@ -56,7 +56,7 @@ fn has_rival(s: Session, node: Individual, group: Group, leader: bool) -> bool
 fn regroup_check(s: Session, node: Individual, group: Group, leader: bool) -> Check
     ensures { λ r. ⌜ Promise checkNumber r (regroupCheck s node group leader) ⌝ }
 {
-    ready_check(s)
+    free_check(s)
         .refuse_if(!group.in_range(), Refusal::Range)
         .refuse_if(off_chain(s.n, Address::Individual(node)), Refusal::NoNode)
         .refuse_if(s.walk < s.n, Refusal::NotDue)

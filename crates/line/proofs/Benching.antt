@@ -45,7 +45,7 @@ module _ (ns : List Node) (j : ℕ) (b : Bench) where
     addressed = λ i l. addressed-same i l (eqb j i) refl;
   }
 
-pub benched-exchange : {line : Address} {c : Command} {ls ns ms : List Node} {a : Answer} → Benched ns ms → Exchanged line c ls ns a → Exchanged line c ls ms a
+pub benched-exchange : {called : Address} {c : Command} {ls ns ms : List Node} {a : Answer} → Benched ns ms → Exchanged called c ls ns a → Exchanged called c ls ms a
 benched-exchange b x = record {
   did = x .did;
   acting = x .acting;

@@ -27,7 +27,7 @@ use Rattle.session.proofs.Sessions.{valid-from, open-is}
 use Rattle.sending.specs.Sending.{openExchange}
 use Rattle.sending.proofs.Sent.{opened-waits}
 use Rattle.reports.specs.Report.{isGiving, isAsking, isOnWalk, concludeOf, finishOf}
-use Rattle.reports.proofs.Concluding.{meant, walkAfter, concluded-at, concluded-walk, concluded-n, concluded-idle, concluded-started, finished-waiting, report-is}
+use Rattle.reports.proofs.Concluding.{settled, walkAfter, concluded-at, concluded-walk, concluded-n, concluded-idle, concluded-started, finished-waiting, report-is}
 use Rattle.reports.proofs.Validity.{concluded-valid}
 use Rattle.line.specs.History.{Sending, gives, asks, sends}
 use Rattle.line.specs.Line.{reportedOf, answerIn}
@@ -69,19 +69,19 @@ pub record Concluded (h : Session) (a : Answer) (to : Address) (c : Command) (w 
 
 -- ---- the exchange is open
 
-due-waits : {h : Session} {what : Sending} {line to : Address} {c : Command} → Due h what line to c → isReset (roleOf c) ≡ false
+due-waits : {h : Session} {what : Sending} {called to : Address} {c : Command} → Due h what called to c → isReset (roleOf c) ≡ false
 due-waits (next l k) = refl
 due-waits (ask l k) = refl
 due-waits {c = c} (order w o e) = not-reset c e
 due-waits (regroup w o f) = refl
 
-pub due-opens : {h : Session} {what : Sending} {line to : Address} {c : Command} → Due h what line to c → openExchange h to c ≡ waitingAt h to c
-due-opens {h} {what} {line} {to} {c} d = opened-waits h to c (due-waits d)
+pub due-opens : {h : Session} {what : Sending} {called to : Address} {c : Command} → Due h what called to c → openExchange h to c ≡ waitingAt h to c
+due-opens {h} {what} {called} {to} {c} d = opened-waits h to c (due-waits d)
 
 on-chain : (n k : ℕ) → 1 ≤ k → k ≤ n → offChain n (nodeAt k) ≡ false
 on-chain n k l m = rw (le-ltb k 1 l, le-ltb n k m) refl
 
-due-on-chain : {h : Session} {what : Sending} {line to : Address} {c : Command} → Due h what line to c → offChain (h .n) to ≡ false
+due-on-chain : {h : Session} {what : Sending} {called to : Address} {c : Command} → Due h what called to c → offChain (h .n) to ≡ false
 due-on-chain {h = h} (next l k) = on-chain (h .n) (h .walk + 1) (omega arith) (omega arith)
 due-on-chain {h = h} (ask l k) = on-chain (h .n) (h .walk + 1) (omega arith) (omega arith)
 due-on-chain (order w o e) = o
@@ -129,21 +129,21 @@ module _ (h : Session) (w : h .walk ≡ h .n) (c : Command) where
   never-asks to = rw (off-walk to) refl
 
 module _ (h : Session) (few : h .n ≤ 31) where
-  meant-is : {what : Sending} {line to : Address} {c : Command} → Due h what line to c → (a : Answer) → meant (waitingAt h to c) to c a ≡ settles what a c
-  meant-is (next l k) Clear = rw (gives-it h few l) refl
-  meant-is (next l k) Marked = refl
-  meant-is (next l k) Silent = refl
-  meant-is (ask l k) Clear = rw (gives-not h few l, asks-it h few l k) refl
-  meant-is (ask l k) Marked = refl
-  meant-is (ask l k) Silent = refl
-  meant-is {to = to} {c = c} (order w o e) Clear = rw (never-gives h w c to, never-asks h w c to) refl
-  meant-is (order w o e) Marked = refl
-  meant-is (order w o e) Silent = refl
-  meant-is {to = to} {c = c} (regroup w o f) Clear = rw (never-gives h w c to, never-asks h w c to) refl
-  meant-is (regroup w o f) Marked = refl
-  meant-is (regroup w o f) Silent = refl
+  settled-is : {what : Sending} {called to : Address} {c : Command} → Due h what called to c → (a : Answer) → settled (waitingAt h to c) to c a ≡ settles what a c
+  settled-is (next l k) Clear = rw (gives-it h few l) refl
+  settled-is (next l k) Marked = refl
+  settled-is (next l k) Silent = refl
+  settled-is (ask l k) Clear = rw (gives-not h few l, asks-it h few l k) refl
+  settled-is (ask l k) Marked = refl
+  settled-is (ask l k) Silent = refl
+  settled-is {to = to} {c = c} (order w o e) Clear = rw (never-gives h w c to, never-asks h w c to) refl
+  settled-is (order w o e) Marked = refl
+  settled-is (order w o e) Silent = refl
+  settled-is {to = to} {c = c} (regroup w o f) Clear = rw (never-gives h w c to, never-asks h w c to) refl
+  settled-is (regroup w o f) Marked = refl
+  settled-is (regroup w o f) Silent = refl
 
-  walked-is : {what : Sending} {line to : Address} {c : Command} → Due h what line to c → (a : Answer) → walkAfter (waitingAt h to c) to c a ≡ walkOn what a (h .walk)
+  walked-is : {what : Sending} {called to : Address} {c : Command} → Due h what called to c → (a : Answer) → walkAfter (waitingAt h to c) to c a ≡ walkOn what a (h .walk)
   walked-is (next l k) Clear = rw (gives-it h few l) refl
   walked-is (next l k) Marked = refl
   walked-is (next l k) Silent = refl
@@ -157,7 +157,7 @@ module _ (h : Session) (few : h .n ≤ 31) where
   walked-is (regroup w o f) Marked = refl
   walked-is (regroup w o f) Silent = refl
 
-module _ {h : Session} {what : Sending} {line to : Address} {c : Command} (d : Due h what line to c)
+module _ {h : Session} {what : Sending} {called to : Address} {c : Command} (d : Due h what called to c)
     (few : h .n ≤ 31) (on : h .walk ≤ h .n) (full : length (h .entries) ≡ 31) where
   valid-now : Valid (waitingAt h to c)
   valid-now = waiting-valid h to c few on full (due-on-chain d)
@@ -176,5 +176,5 @@ module _ {h : Session} {what : Sending} {line to : Address} {c : Command} (d : D
     full = concluded-valid (waitingAt h to c) to c a valid-now .whole;
     entry = λ i l.
         concluded-at (waitingAt h to c) to c a i blankEntry few l (omega arith)
-        ∙ ap (λ (m : Command). noteOf a (reachOf to (suc i) (entryAt h i)) m (entryAt h i)) (meant-is h few d a);
+        ∙ ap (λ (m : Command). noteOf a (reachOf to (suc i) (entryAt h i)) m (entryAt h i)) (settled-is h few d a);
   }

@@ -27,12 +27,12 @@ use Rattle.reports.specs.Report.{concludeOf, finishOf}
 use Rattle.survey.specs.Chain.{Said, silence, reply, collided}
 use Rattle.reports.proofs.Validity.{finished-stays, report-stays}
 use Rattle.line.specs.History.{Sending, Sent, counted}
-use Rattle.line.specs.Call.{Call, calledOf, whatOf, resets, TypedCall}
+use Rattle.line.specs.Call.{Call, callOutcome, whatOf, resets, TypedCall}
 use Rattle.line.specs.Line.{Line, quiet, going, coming, lingering, Arrival, nowhere, Arrives, lost, Nothing, absent, Returns, quietly, mixed, nodesAfter, saidAfter, reportedOf, answerIn}
 use Rattle.line.specs.Line as line
-use Rattle.line.specs.World.{World, hosting, callEnded, called, Comes, start, power, unpowered, call, deliver, report, hurry, delay, stray, bench}
+use Rattle.line.specs.World.{World, hosting, callEnded, callMade, Comes, start, power, unpowered, call, deliver, report, hurry, delay, stray, bench}
 use Rattle.wire.proofs.Numbers.{not-done}
-use Rattle.line.proofs.Due.{Due, Accepted, accepted, call-not-done, call-stays}
+use Rattle.line.proofs.Due.{Due, CallSends, call-sends, call-not-done, call-stays}
 use Rattle.line.proofs.Closing.{waitingAt, due-opens, reported-finished, reported-concludes, conclusion}
 use Rattle.line.proofs.Exactly.{Exactly, exactly-step}
 use Rattle.line.proofs.Invariant.{at, Invariant, Exchanged}
@@ -51,13 +51,13 @@ pub record Settled (h : Session) (ns : List Node) (past : List Sent) : Type 0 wh
 -- one is open: session and nodes were settled when it was
 pub record Opened (h : Session) (ns : List Node) (past : List Sent) (what : Sending) : Type 0 where
   pub before : Session
-  pub line : Address
+  pub called : Address
   pub to : Address
   pub command : Command
   pub inv : Invariant before ns
   pub exactly : Exactly before (counted past)
-  pub due : Due before what line to command
-  pub range : inRange line ≡ true
+  pub due : Due before what called to command
+  pub range : inRange called ≡ true
   pub fits : fitsOf command ≡ true
   pub typed : build.Typed command
   pub now : h ≡ waitingAt before to command
@@ -65,13 +65,13 @@ pub record Opened (h : Session) (ns : List Node) (past : List Sent) (what : Send
 -- its packet is on the way
 pub record Going (h : Session) (ns : List Node) (past : List Sent) (what : Sending) (p : List ℕ) : Type 0 where
   pub opened : Opened h ns past what
-  pub packet : p ≡ packetFor (opened .line) (opened .command)
+  pub packet : p ≡ packetFor (opened .called) (opened .command)
 
 -- what came of it is on the way
 pub record Coming (h : Session) (ns : List Node) (past : List Sent) (what : Sending) (r : Option (List ℕ)) : Type 0 where
   pub old : List Node
   pub opened : Opened h old past what
-  pub exchange : Exchanged (opened .line) (opened .command) old ns (answerIn r)
+  pub exchange : Exchanged (opened .called) (opened .command) old ns (answerIn r)
 
 -- it still is, although silence was reported on it
 pub record Lingering (h : Session) (ns : List Node) (past : List Sent) (p : List ℕ) : Type 0 where
@@ -82,22 +82,23 @@ pub record Lingering (h : Session) (ns : List Node) (past : List Sent) (p : List
   pub host : h ≡ reportedOf waiting none .session
   pub history : past ≡ record { what = what; answer = Silent } ∷ earlier
 
-abbrev pub Stands : Session → List Node → List Sent → Line → Type 0
-Stands h ns past quiet = Settled h ns past
-Stands h ns past (going what p) = Going h ns past what p
-Stands h ns past (coming what r) = Coming h ns past what r
-Stands h ns past (lingering p) = Lingering h ns past p
+-- what holds of host, nodes and history, by what is on the line
+abbrev pub LineHolds : Session → List Node → List Sent → Line → Type 0
+LineHolds h ns past quiet = Settled h ns past
+LineHolds h ns past (going what p) = Going h ns past what p
+LineHolds h ns past (coming what r) = Coming h ns past what r
+LineHolds h ns past (lingering p) = Lingering h ns past p
 
 -- ---- a call that sends
 
 not-idle : {h : Session} {ns : List Node} {past : List Sent} {what : Sending} → Opened h ns past what → h .exchange ≡ Idle → ⊥
 not-idle o e = true≢false (cc (ap (λ (s : Session). s .exchange) (o .now), e))
 
-call-goes : (h t : Session) (ns : List Node) (past : List Sent) (k : Call) (p : List ℕ) → Settled h ns past → Accepted h k p t → Going t ns past (whatOf k p) p
+call-goes : (h t : Session) (ns : List Node) (past : List Sent) (k : Call) (p : List ℕ) → Settled h ns past → CallSends h k p t → Going t ns past (whatOf k p) p
 call-goes h t ns past k p s a = record {
   opened = record {
     before = h;
-    line = a .line;
+    called = a .called;
     to = a .to;
     command = a .command;
     inv = s .inv;
@@ -120,7 +121,7 @@ arrives h ns past what p g q r a b =
     record {
       old = ns;
       opened = o;
-      exchange = exchanged (o .line) (o .command) ns (o .range) (o .fits) (o .typed) (none-collided (o .before) ns (o .inv)) (rw (g .packet) at a) b;
+      exchange = exchanged (o .called) (o .command) ns (o .range) (o .fits) (o .typed) (none-collided (o .before) ns (o .inv)) (rw (g .packet) at a) b;
     }
 
 settles-again : (h : Session) (ns : List Node) (past : List Sent) (what : Sending) (r : Option (List ℕ)) → Coming h ns past what r
@@ -151,7 +152,7 @@ lingering-settles {h} {ns} {past} {p} l q a =
     rw (l .host, l .history) (settles-again (l .waiting) (nodesAfter q ns) (l .earlier) (l .what) none
     (arrives (l .waiting) ns (l .earlier) (l .what) p (l .sent) q none a (absent-of (saidAfter q ns))))
 
-pub when-idle : (h : Session) (ns : List Node) (past : List Sent) (l : Line) → Stands h ns past l → h .exchange ≡ Idle → Settled h ns past
+pub when-idle : (h : Session) (ns : List Node) (past : List Sent) (l : Line) → LineHolds h ns past l → h .exchange ≡ Idle → Settled h ns past
 when-idle h ns past quiet s e = s
 when-idle h ns past (going what p) s e = absurd (not-idle (s .opened) e)
 when-idle h ns past (coming what r) s e = absurd (not-idle (s .opened) e)
@@ -185,7 +186,7 @@ bench-going {h} {ns} {ms} b s =
     record {
       opened = record {
         before = o .before;
-        line = o .line;
+        called = o .called;
         to = o .to;
         command = o .command;
         inv = benched-invariant (o .before) ns ms b (o .inv);
@@ -199,10 +200,10 @@ bench-going {h} {ns} {ms} b s =
       packet = s .packet;
     }
 
-bench-stands : (h : Session) (ns ms : List Node) (past : List Sent) (l : Line) → Benched ns ms → Stands h ns past l → Stands h ms past l
-bench-stands h ns ms past quiet b s = record { free = s .free; inv = benched-invariant h ns ms b (s .inv); exactly = s .exactly }
-bench-stands h ns ms past (going what p) b s = bench-going b s
-bench-stands h ns ms past (lingering p) b s = record {
+bench-holds : (h : Session) (ns ms : List Node) (past : List Sent) (l : Line) → Benched ns ms → LineHolds h ns past l → LineHolds h ms past l
+bench-holds h ns ms past quiet b s = record { free = s .free; inv = benched-invariant h ns ms b (s .inv); exactly = s .exactly }
+bench-holds h ns ms past (going what p) b s = bench-going b s
+bench-holds h ns ms past (lingering p) b s = record {
   waiting = s .waiting;
   earlier = s .earlier;
   what = s .what;
@@ -210,34 +211,34 @@ bench-stands h ns ms past (lingering p) b s = record {
   host = s .host;
   history = s .history;
 }
-bench-stands h ns ms past (coming what r) b s = record { old = s .old; opened = s .opened; exchange = benched-exchange b (s .exchange) }
+bench-holds h ns ms past (coming what r) b s = record { old = s .old; opened = s .opened; exchange = benched-exchange b (s .exchange) }
 
 -- ---- all along
 
 abbrev pub Upholds : World → Type 0
-Upholds w = w .up ≡ true → Stands (w .host) (w .nodes) (w .past) (w .line)
+Upholds w = w .up ≡ true → LineHolds (w .host) (w .nodes) (w .past) (w .line)
 
 not-up : (b u : Bool) → cond b false u ≡ true → (b ≡ false) × (u ≡ true)
 not-up true u e = absurd (false≢true e)
 not-up false u e = (refl, e)
 
-call-holds : (w : World) → Upholds w → (k : Call) → TypedCall k → (out : List ℕ) → Upholds (called k out w)
-call-holds w holds k typed out = go (calledOf k (w .host) out .answer .end) refl
+call-holds : (w : World) → Upholds w → (k : Call) → TypedCall k → (out : List ℕ) → Upholds (callMade k out w)
+call-holds w holds k typed out = go (callOutcome k (w .host) out .answer .end) refl
   where
     t : Session
-    t = calledOf k (w .host) out .answer .session
+    t = callOutcome k (w .host) out .answer .session
 
     stands : t ≡ w .host → Upholds (hosting t w)
     stands e up = rw e (holds up)
 
-    go : (e : End) → calledOf k (w .host) out .answer .end ≡ e → Upholds (callEnded e k t (calledOf k (w .host) out .left) w)
+    go : (e : End) → callOutcome k (w .host) out .answer .end ≡ e → Upholds (callEnded e k t (callOutcome k (w .host) out .left) w)
     go (ends.Sent n) e up =
         let u = not-up (resets k) (w .up) up in
-        let a = accepted k typed (u .0) (w .host) out n e in
-        let s = when-idle (w .host) (w .nodes) (w .past) (w .line) (holds (u .1)) (a .ready .idle) in
-        call-goes (w .host) t (w .nodes) (w .past) k (take n (calledOf k (w .host) out .left)) s a
+        let a = call-sends k typed (u .0) (w .host) out n e in
+        let s = when-idle (w .host) (w .nodes) (w .past) (w .line) (holds (u .1)) (a .free .idle) in
+        call-goes (w .host) t (w .nodes) (w .past) k (take n (callOutcome k (w .host) out .left)) s a
     go ends.Done e up = absurd (call-not-done k (w .host) out e)
-    go (ends.Refused why) e up = stands (call-stays k (w .host) out (refused-not-done (calledOf k (w .host) out .answer) why e)) up
+    go (ends.Refused why) e up = stands (call-stays k (w .host) out (refused-not-done (callOutcome k (w .host) out .answer) why e)) up
 
 pub holds : {w : World} → Comes w → Upholds w
 holds (start ns) up = absurd (false≢true up)
@@ -247,14 +248,14 @@ holds (power {w = w} c bs e) up =
 holds (unpowered {w = w} c n why e) up = rw (power-up-stays (w .host) n (refused-not-done (startPowerUp (w .host) n) why e)) (holds c up)
 holds (call {w = w} c k typed out) up = call-holds w (λ u. holds c u) k typed out up
 holds (deliver {w = w} c what p e q r a b) up =
-    arrives (w .host) (w .nodes) (w .past) what p (subst (λ (l : Line). Stands (w .host) (w .nodes) (w .past) l) e (holds c up)) q r a b
+    arrives (w .host) (w .nodes) (w .past) what p (subst (λ (l : Line). LineHolds (w .host) (w .nodes) (w .past) l) e (holds c up)) q r a b
 holds (report {w = w} c what r e) up =
-    settles-again (w .host) (w .nodes) (w .past) what r (subst (λ (l : Line). Stands (w .host) (w .nodes) (w .past) l) e (holds c up))
+    settles-again (w .host) (w .nodes) (w .past) what r (subst (λ (l : Line). LineHolds (w .host) (w .nodes) (w .past) l) e (holds c up))
 holds (hurry {w = w} c what p e r n) up =
-    hurries (w .host) (w .nodes) (w .past) what p (subst (λ (l : Line). Stands (w .host) (w .nodes) (w .past) l) e (holds c up)) r n
-holds (delay {w = w} c p e q a) up = lingering-settles (subst (λ (l : Line). Stands (w .host) (w .nodes) (w .past) l) e (holds c up)) q a
+    hurries (w .host) (w .nodes) (w .past) what p (subst (λ (l : Line). LineHolds (w .host) (w .nodes) (w .past) l) e (holds c up)) r n
+holds (delay {w = w} c p e q a) up = lingering-settles (subst (λ (l : Line). LineHolds (w .host) (w .nodes) (w .past) l) e (holds c up)) q a
 holds (stray {w = w} c r why e) up = rw (stray-stays (w .host) r why e) (holds c up)
-holds (bench {w = w} c i b) up = bench-stands (w .host) (w .nodes) _ (w .past) (w .line) (set-benched (w .nodes) i b) (holds c up)
+holds (bench {w = w} c i b) up = bench-holds (w .host) (w .nodes) _ (w .past) (w .line) (set-benched (w .nodes) i b) (holds c up)
 
 -- also in the middle of an exchange the nodes are such as some settled session has them
 pub record Steady (n : ℕ) (ns : List Node) : Type 0 where
@@ -262,7 +263,7 @@ pub record Steady (n : ℕ) (ns : List Node) : Type 0 where
   pub nodes : session .n ≡ n
   pub inv : Invariant session ns
 
-pub steady : (h : Session) (ns : List Node) (past : List Sent) (l : Line) → Stands h ns past l → Steady (h .n) ns
+pub steady : (h : Session) (ns : List Node) (past : List Sent) (l : Line) → LineHolds h ns past l → Steady (h .n) ns
 steady h ns past quiet s = record { session = h; nodes = refl; inv = s .inv }
 steady h ns past (going what p) s =
     let o = s .opened in

@@ -29,7 +29,7 @@ use Rattle.session.specs.declared.Exchange.the-variants.{Idle, Waiting}
 use Rattle.session.specs.declared.Session.{Session}
 use Rattle.session.specs.Session.{isValid, isClosed, isAskDue, nodeAt, givenPlace}
 use Rattle.start.specs.Start.{startPowerUp}
-use Rattle.sending.specs.Sending.{isWaiting, readyCheck, openExchange, transmitOf}
+use Rattle.sending.specs.Sending.{isWaiting, freeCheck, openExchange, transmitOf}
 use Rattle.walk.specs.Walk.{nextCheck, askCheck, nextOf, askOf}
 use Rattle.host.specs.Calls.{orderCheck, orderOf}
 use Rattle.reports.specs.Report.{isGiving, isAsking, concludeOf, finishOf, reportOf}
@@ -38,7 +38,7 @@ use Rattle.line.specs.History.{Sending, Sent, gives, asks, sends}
 use Rattle.line.specs.Call as calls
 use Rattle.line.specs.Line.{Line, quiet, going, Arrival, came, Arrives, Returns, nodesAfter, saidAfter, reportedOf, answerIn}
 use Rattle.line.specs.Line as line
-use Rattle.line.specs.World.{World, called, Comes, start, power, call, deliver, report}
+use Rattle.line.specs.World.{World, callMade, Comes, start, power, call, deliver, report}
 use Rattle.line.specs.Courses.{Courses, unasked, asked, walked, lost, again}
 use Rattle.line.specs.Late.{Late}
 
@@ -74,7 +74,7 @@ good = 0x00 ∷ 0x00 ∷ []
 
 -- one exchange: the call, the packet as it arrives, the reply as it comes, the report
 round : {w : World} → Comes w → (k : calls.Call) → calls.TypedCall k → (s t : Session) (ns ms : List Node) (past : List Sent) (what : Sending) (p : List ℕ)
-    (q : Arrival) (r : Option (List ℕ)) (a : Answer) → called k buffer w ≡ worldAt s ns (going what p) past → Arrives p q → Returns (saidAfter q ns) r
+    (q : Arrival) (r : Option (List ℕ)) (a : Answer) → callMade k buffer w ≡ worldAt s ns (going what p) past → Arrives p q → Returns (saidAfter q ns) r
     → nodesAfter q ns ≡ ms → reportedOf s r .session ≡ t → answerIn r ≡ a → Comes (worldAt t ms quiet (record { what = what; answer = a } ∷ past))
 round c k typed s t ns ms past what p q r a e x y f g h =
     rw (← f, ← g, ← h) (report (deliver (rw e at (call c k typed buffer)) what p refl q r x y) what r refl)
@@ -86,24 +86,24 @@ powers = power (start []) (zeros ∷ zeros ∷ []) refl
 
 module _ (es : List Entry) where
   -- the calls
-  next-1 : called calls.next buffer (worldAt (pair 0 Idle entryPowerUp entryPowerUp es) (up ∷ up ∷ []) quiet [])
+  next-1 : callMade calls.next buffer (worldAt (pair 0 Idle entryPowerUp entryPowerUp es) (up ∷ up ∷ []) quiet [])
       ≡ worldAt (pair 0 (Waiting (nodeAt 1) (SetAddress (givenPlace 1))) entryPowerUp entryPowerUp es) (up ∷ up ∷ []) (going (gives 1) (given 1)) []
-  unfolding nextOf nextCheck readyCheck isClosed isValid isWaiting isAskDue transmitOf openExchange commandBuild buildFor written total
+  unfolding nextOf nextCheck freeCheck isClosed isValid isWaiting isAskDue transmitOf openExchange commandBuild buildFor written total
   next-1 = refl
 
-  next-2 : (past : List Sent) → called calls.next buffer (worldAt (pair 1 Idle (addressed 1) entryPowerUp es) (placed 1 0 ∷ up ∷ []) quiet past)
+  next-2 : (past : List Sent) → callMade calls.next buffer (worldAt (pair 1 Idle (addressed 1) entryPowerUp es) (placed 1 0 ∷ up ∷ []) quiet past)
       ≡ worldAt (pair 1 (Waiting (nodeAt 2) (SetAddress (givenPlace 2))) (addressed 1) entryPowerUp es) (placed 1 0 ∷ up ∷ []) (going (gives 2) (given 2)) past
-  unfolding nextOf nextCheck readyCheck isClosed isValid isWaiting isAskDue transmitOf openExchange commandBuild buildFor written total
+  unfolding nextOf nextCheck freeCheck isClosed isValid isWaiting isAskDue transmitOf openExchange commandBuild buildFor written total
   next-2 past = refl
 
-  ask-1 : (past : List Sent) → called calls.ask buffer (worldAt (pair 0 Idle placeInDoubt entryPowerUp es) (placed 1 0 ∷ up ∷ []) quiet past)
+  ask-1 : (past : List Sent) → callMade calls.ask buffer (worldAt (pair 0 Idle placeInDoubt entryPowerUp es) (placed 1 0 ∷ up ∷ []) quiet past)
       ≡ worldAt (pair 0 (Waiting (nodeAt 1) Nop) placeInDoubt entryPowerUp es) (placed 1 0 ∷ up ∷ []) (going (asks 1) nop1) past
-  unfolding askOf askCheck readyCheck isClosed isValid isWaiting isAskDue transmitOf openExchange commandBuild buildFor written total
+  unfolding askOf askCheck freeCheck isClosed isValid isWaiting isAskDue transmitOf openExchange commandBuild buildFor written total
   ask-1 past = refl
 
-  set-outputs : (e : Entry) (ns : List Node) (past : List Sent) → called (calls.order (nodeAt 2) (SetOutputs 5)) buffer (worldAt (pair 2 Idle (addressed 1) e es) ns quiet past)
+  set-outputs : (e : Entry) (ns : List Node) (past : List Sent) → callMade (calls.order (nodeAt 2) (SetOutputs 5)) buffer (worldAt (pair 2 Idle (addressed 1) e es) ns quiet past)
       ≡ worldAt (pair 2 (Waiting (nodeAt 2) (SetOutputs 5)) (addressed 1) e es) ns (going (sends (nodeAt 2) (SetOutputs 5)) set5) past
-  unfolding orderOf orderCheck readyCheck isClosed isValid isWaiting transmitOf openExchange commandBuild buildFor written total
+  unfolding orderOf orderCheck freeCheck isClosed isValid isWaiting transmitOf openExchange commandBuild buildFor written total
   set-outputs e ns past = refl
 
   -- the reports
@@ -133,9 +133,9 @@ module _ (es : List Entry) where
   unfolding reportOf finishOf isClosed isValid concludeOf isGiving isAsking settleOf eachFrom ledgerLeast judgeOf endsInSum total
   good-5 = refl
 
-heard-good : judgeOf good ≡ Clear
+judged-good : judgeOf good ≡ Clear
 unfolding judgeOf endsInSum total
-heard-good = refl
+judged-good = refl
 
 -- the packets at the nodes
 takes-1 : nodesAfter (came (given 1)) (up ∷ up ∷ []) ≡ placed 1 0 ∷ up ∷ []
@@ -179,18 +179,18 @@ unanswered =
 answered : Comes (worldAt (pair 1 Idle (addressed 1) entryPowerUp rest) (placed 1 0 ∷ up ∷ []) quiet asked)
 answered =
     round unanswered calls.ask tt _ _ (placed 1 0 ∷ up ∷ []) _ _ (asks 1) nop1 (came nop1) (some good) Clear (ask-1 rest _) line.whole (rw says-ask line.whole)
-    takes-ask (good-ask rest) heard-good
+    takes-ask (good-ask rest) judged-good
 
 -- the walk
 first : Comes (worldAt (pair 1 Idle (addressed 1) entryPowerUp rest) (placed 1 0 ∷ up ∷ []) quiet (record { what = gives 1; answer = Clear } ∷ []))
 first =
     round powers calls.next tt _ _ (up ∷ up ∷ []) _ [] (gives 1) (given 1) (came (given 1)) (some good) Clear (next-1 rest) line.whole (rw says-1 line.whole)
-    takes-1 (good-1 rest) heard-good
+    takes-1 (good-1 rest) judged-good
 
 second : Comes (worldAt (pair 2 Idle (addressed 1) (addressed 2) rest) (placed 1 0 ∷ placed 2 0 ∷ []) quiet walked)
 second =
     round first calls.next tt _ _ (placed 1 0 ∷ up ∷ []) _ _ (gives 2) (given 2) (came (given 2)) (some good) Clear (next-2 rest _) line.whole (rw says-2 line.whole)
-    takes-2 (good-2 rest) heard-good
+    takes-2 (good-2 rest) judged-good
 
 -- Set Outputs 5 to node 2: the reply is lost
 third : Comes (worldAt (pair 2 Idle (addressed 1) (entryWith (givenPlace 2) 0 (knownBut false true true)) rest) (placed 1 0 ∷ placed 2 5 ∷ []) quiet lost)
@@ -202,7 +202,7 @@ third =
 fourth : Comes (worldAt (pair 2 Idle (addressed 1) (entryWith (givenPlace 2) 5 (knownBut true true true)) rest) (placed 1 0 ∷ placed 2 5 ∷ []) quiet again)
 fourth =
     round third (calls.order (nodeAt 2) (SetOutputs 5)) tt _ _ (placed 1 0 ∷ placed 2 5 ∷ []) _ _ (sends (nodeAt 2) (SetOutputs 5)) set5 (came set5) (some good) Clear
-    (set-outputs rest (entryWith (givenPlace 2) 0 (knownBut false true true)) _ _) line.whole (rw (says-5 5) line.whole) (takes-5 5) (good-5 rest) heard-good
+    (set-outputs rest (entryWith (givenPlace 2) 0 (knownBut false true true)) _ _) line.whole (rw (says-5 5) line.whole) (takes-5 5) (good-5 rest) judged-good
 
 -- the first "next" is on its way
 sent : Comes (worldAt (pair 0 (Waiting (nodeAt 1) (SetAddress (givenPlace 1))) entryPowerUp entryPowerUp rest) (up ∷ up ∷ []) (going (gives 1) (given 1)) [])

@@ -66,7 +66,7 @@ module _ (ns : List Node) (q : List ℕ) (to : Address) (k n : ℕ) (message : M
   said-is : saidAfter (came q) ns ≡ said to message ns
   said-is = rw (f, e) refl
 
--- whoever is called to reply to an address is one that acts on it
+-- whoever replies to an address is one that acts on it
 replies-acts : (to : Address) (ns : List Node) (i : ℕ) → repliesAt to ns i ≡ true → acts to ns i ≡ true
 replies-acts (address.Individual j) ns i e = e
 replies-acts (address.Group g) ns i e =

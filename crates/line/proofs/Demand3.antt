@@ -24,7 +24,7 @@ use Rattle.line.proofs.Closing.{entryAt}
 use Rattle.line.proofs.Peace.{none-collided}
 use Rattle.line.proofs.Delivery.{whole-means, damaged-means}
 use Rattle.line.proofs.Calls.{delivers}
-use Rattle.line.proofs.Course.{Opened, Going, Stands, when-idle, holds, steady}
+use Rattle.line.proofs.Course.{Opened, Going, LineHolds, when-idle, holds, steady}
 
 -- an index, and the node's number
 number : (k : ℕ) → 1 ≤ k → suc (k - 1) ≡ k
@@ -62,15 +62,15 @@ peace h ns past what p g q a c = go (rw (g .packet) at a) c
     o : Opened h ns past what
     o = g .opened
 
-    go : {q : Arrival} → Arrives (packetFor (o .line) (o .command)) q → saidAfter q ns ≡ collided → ⊥
-    go line.whole c = none-collided (o .before) ns (o .inv) _ _ (sym (whole-means (o .line) (o .command) ns (o .range) (o .fits) (o .typed) .speaks) ∙ c)
-    go (line.damaged {q = q} d) c = none-collided (o .before) ns (o .inv) _ _ (sym (damaged-means (o .line) (o .command) ns (o .range) (o .fits) (o .typed) q d .speaks) ∙ c)
+    go : {q : Arrival} → Arrives (packetFor (o .called) (o .command)) q → saidAfter q ns ≡ collided → ⊥
+    go line.whole c = none-collided (o .before) ns (o .inv) _ _ (sym (whole-means (o .called) (o .command) ns (o .range) (o .fits) (o .typed) .speaks) ∙ c)
+    go (line.damaged {q = q} d) c = none-collided (o .before) ns (o .inv) _ _ (sym (damaged-means (o .called) (o .command) ns (o .range) (o .fits) (o .typed) q d .speaks) ∙ c)
     go line.lost c = true≢false (cc c)
 
 pub no-collision : promised.NoCollision
 no-collision w comes up p o = go o (holds comes up)
   where
-    go : {l : Line} → line.OnItsWay p l → Stands (w .host) (w .nodes) (w .past) l → (q : Arrival) → Arrives p q → saidAfter q (w .nodes) ≡ collided → ⊥
+    go : {l : Line} → line.OnItsWay p l → LineHolds (w .host) (w .nodes) (w .past) l → (q : Arrival) → Arrives p q → saidAfter q (w .nodes) ≡ collided → ⊥
     go (line.awaited {what = what}) s = peace (w .host) (w .nodes) (w .past) what p s
     go line.overdue s = peace (s .waiting) (w .nodes) (s .earlier) (s .what) p (s .sent)
 

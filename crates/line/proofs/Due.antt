@@ -1,4 +1,4 @@
--- What may be sent while a session is open: by whom it is heard, whose record it is, and the command.
+-- What may be sent while a session is open: the address that is called, whose record it is, and the command.
 use Prim.Native.Nat.{ℕ, _+_, _<_}
 use mathlib.Core.Bool.{Bool, true, false, true≢false}
 use mathlib.Core.List.{List, _++_}
@@ -30,7 +30,7 @@ use Rattle.session.specs.declared.Step.{Step}
 use Rattle.session.specs.Session.{offChain, entryOf, nodeAt, endNumber, stepNumber, givenPlace}
 use Rattle.sending.specs.Sending.{openExchange}
 use Rattle.session.proofs.Sessions.{OnChain}
-use Rattle.sending.proofs.Passing.{Ready}
+use Rattle.sending.proofs.Passing.{Free}
 use Rattle.walk.proofs.Passing.{next-says, ask-says}
 use Rattle.host.proofs.Passing.{order-says, regroup-says, wish-free}
 use Rattle.sending.proofs.Sent.{sending, node-fits}
@@ -40,7 +40,7 @@ use Rattle.walk.proofs.Stands.{next-stands, ask-stands}
 use Rattle.host.proofs.Stands.{order-stands, regroup-stands}
 use Rattle.line.specs.History.{Sending, gives, asks, sends}
 use Rattle.line.specs.Call as calls
-use Rattle.line.specs.Call.{Call, calledOf, whatOf, resets}
+use Rattle.line.specs.Call.{Call, callOutcome, whatOf, resets}
 
 -- all but a Hard Reset, which opens no exchange
 pub data Due (h : Session) : Sending → Address → Address → Command → Type 0 where
@@ -59,84 +59,84 @@ order-sends : (c : Command) → isPlacing (roleOf c) ≡ false → isReset (role
 order-sends c e f = let t = ordinary-fits c e in (place-writes c ∙ rw (e, f), t .0, t .1)
 
 -- a command was put on the line
-pub record Goes (s : Session) (line to : Address) (c : Command) (p : List ℕ) (t : Session) : Type 0 where
-  pub range : inRange line ≡ true
+pub record Goes (s : Session) (called to : Address) (c : Command) (p : List ℕ) (t : Session) : Type 0 where
+  pub range : inRange called ≡ true
   pub fits : fitsOf c ≡ true
-  pub packet : p ≡ packetFor line c
+  pub packet : p ≡ packetFor called c
   pub after : t ≡ openExchange s to c
 
 seam : (p out : List ℕ) (n : ℕ) → length p ≡ n → take n (p ++ drop (length p) out) ≡ p
 seam p out n e = rw (← e) (take-append-seam p (drop (length p) out))
 
-goes : (s : Session) (line to : Address) (c : Command) (out : List ℕ) (o : Outcome Step (List ℕ)) (n : ℕ) → o ≡ sending s line to c out → o .answer .end ≡ Sent n
-    → inRange line ≡ true → fitsOf c ≡ true → Goes s line to c (take n (o .left)) (o .answer .session)
-goes s line to c out o n e f range fits =
-    let m : Sent (length (packetFor line c)) ≡ Sent n = sym (ap (λ (x : Outcome Step (List ℕ)). x .answer .end) e) ∙ f in
-    record { range = range; fits = fits; packet = rw e (seam (packetFor line c) out n (cc m)); after = ap (λ (x : Outcome Step (List ℕ)). x .answer .session) e }
+goes : (s : Session) (called to : Address) (c : Command) (out : List ℕ) (o : Outcome Step (List ℕ)) (n : ℕ) → o ≡ sending s called to c out → o .answer .end ≡ Sent n
+    → inRange called ≡ true → fitsOf c ≡ true → Goes s called to c (take n (o .left)) (o .answer .session)
+goes s called to c out o n e f range fits =
+    let m : Sent (length (packetFor called c)) ≡ Sent n = sym (ap (λ (x : Outcome Step (List ℕ)). x .answer .end) e) ∙ f in
+    record { range = range; fits = fits; packet = rw e (seam (packetFor called c) out n (cc m)); after = ap (λ (x : Outcome Step (List ℕ)). x .answer .session) e }
 
 -- a call that sends, and isn't a Hard Reset
-pub record Accepted (s : Session) (k : Call) (p : List ℕ) (t : Session) : Type 0 where
-  pub line : Address
+pub record CallSends (s : Session) (k : Call) (p : List ℕ) (t : Session) : Type 0 where
+  pub called : Address
   pub to : Address
   pub command : Command
-  pub ready : Ready s
-  pub due : Due s (whatOf k p) line to command
+  pub free : Free s
+  pub due : Due s (whatOf k p) called to command
   pub typed : Typed command
-  pub goes : Goes s line to command p t
+  pub goes : Goes s called to command p t
 
-pub accepted : (k : Call) → calls.TypedCall k → resets k ≡ false → (s : Session) (out : List ℕ) (n : ℕ) → calledOf k s out .answer .end ≡ Sent n
-    → Accepted s k (take n (calledOf k s out .left)) (calledOf k s out .answer .session)
-accepted calls.next t o s out n e =
+pub call-sends : (k : Call) → calls.TypedCall k → resets k ≡ false → (s : Session) (out : List ℕ) (n : ℕ) → callOutcome k s out .answer .end ≡ Sent n
+    → CallSends s k (take n (callOutcome k s out .left)) (callOutcome k s out .answer .session)
+call-sends calls.next t o s out n e =
     let w = next-went s out (ap endNumber e) in
     let k = next-says s (w .passed) in
     let l = k .walking in
     let f = node-fits (s .n) (s .walk + 1) (k .session .valid .few) (omega arith) in
     let g = goes s _ _ _ out _ n (w .result) e refl (rw f refl) in
     record {
-      line = nodeAt 0x00;
+      called = nodeAt 0x00;
       to = nodeAt (s .walk + 1);
       command = SetAddress (givenPlace (s .walk + 1));
-      ready = k .session;
+      free = k .session;
       due = rw (g .packet) (next l (k .placed));
       typed = omega arith;
       goes = g;
     }
-accepted calls.ask t o s out n e =
+call-sends calls.ask t o s out n e =
     let w = ask-went s out (ap endNumber e) in
     let k = ask-says s (w .passed) in
     let l = k .walking in
     let g = goes s _ _ _ out _ n (w .result) e (node-fits (s .n) (s .walk + 1) (k .session .valid .few) (omega arith)) refl in
     record {
-      line = nodeAt (s .walk + 1);
+      called = nodeAt (s .walk + 1);
       to = nodeAt (s .walk + 1);
       command = Nop;
-      ready = k .session;
+      free = k .session;
       due = rw (g .packet) (ask l (k .doubtful));
       typed = tt;
       goes = g;
     }
-accepted (calls.order to c) t o s out n e =
+call-sends (calls.order to c) t o s out n e =
     let w = order-went s out to c (ap endNumber e) in
     let k = order-says s to c (w .passed) in
     let r = order-sends c (k .ordinary) o in
     record {
-      line = to;
+      called = to;
       to = to;
       command = c;
-      ready = k .session;
+      free = k .session;
       due = order (k .ended) (k .node) (r .0);
       typed = r .2;
       goes = goes s to to c out _ n (w .result) e (to-fits (s .n) to (k .session .valid .few) (k .group) (k .node)) (r .1);
     }
-accepted (calls.regroup i g leader) t o s out n e =
+call-sends (calls.regroup i g leader) t o s out n e =
     let w = regroup-went s out i g leader (ap endNumber e) in
     let k = regroup-says s i g leader (w .passed) in
     let f = node-fits (s .n) (i .0) (k .session .valid .few) (k .node .high) in
     record {
-      line = address.Individual i;
+      called = address.Individual i;
       to = address.Individual i;
       command = SetAddress (record { address = i; group = g; leader = leader });
-      ready = k .session;
+      free = k .session;
       due = regroup {leader = leader} (k .ended) (k .node) (λ l. wish-free s i g (rw l at (k .free)));
       typed = t;
       goes = goes s _ _ _ out _ n (w .result) e f (rw (f, k .group) refl);
@@ -146,17 +146,17 @@ accepted (calls.regroup i g leader) t o s out n e =
 sent-not-done : {e : End} {n : ℕ} → e ≡ Sent n → e ≡ Done → ⊥
 sent-not-done p q = true≢false (cc (p, q))
 
-endOf : Outcome Step (List ℕ) → End
-endOf o = o .answer .end
+stepEnd : Outcome Step (List ℕ) → End
+stepEnd o = o .answer .end
 
-pub call-not-done : (k : Call) (s : Session) (out : List ℕ) → calledOf k s out .answer .end ≡ Done → ⊥
-unfolding endOf
-call-not-done calls.next s out e = sent-not-done (ap endOf (next-went s out (ap endNumber e) .result)) e
-call-not-done calls.ask s out e = sent-not-done (ap endOf (ask-went s out (ap endNumber e) .result)) e
-call-not-done (calls.order to c) s out e = sent-not-done (ap endOf (order-went s out to c (ap endNumber e) .result)) e
-call-not-done (calls.regroup i g leader) s out e = sent-not-done (ap endOf (regroup-went s out i g leader (ap endNumber e) .result)) e
+pub call-not-done : (k : Call) (s : Session) (out : List ℕ) → callOutcome k s out .answer .end ≡ Done → ⊥
+unfolding stepEnd
+call-not-done calls.next s out e = sent-not-done (ap stepEnd (next-went s out (ap endNumber e) .result)) e
+call-not-done calls.ask s out e = sent-not-done (ap stepEnd (ask-went s out (ap endNumber e) .result)) e
+call-not-done (calls.order to c) s out e = sent-not-done (ap stepEnd (order-went s out to c (ap endNumber e) .result)) e
+call-not-done (calls.regroup i g leader) s out e = sent-not-done (ap stepEnd (regroup-went s out i g leader (ap endNumber e) .result)) e
 
-pub call-stays : (k : Call) (s : Session) (out : List ℕ) → (stepNumber (calledOf k s out .answer) ≡ done → ⊥) → calledOf k s out .answer .session ≡ s
+pub call-stays : (k : Call) (s : Session) (out : List ℕ) → (stepNumber (callOutcome k s out .answer) ≡ done → ⊥) → callOutcome k s out .answer .session ≡ s
 call-stays calls.next s out f = next-stands s out f .0
 call-stays calls.ask s out f = ask-stands s out f .0
 call-stays (calls.order to c) s out f = order-stands s out to c f .0

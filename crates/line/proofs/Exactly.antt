@@ -46,7 +46,7 @@ sendable : (to : Address) (c : Command) → writes (effect c place) ≡ false �
 sendable (address.Individual i) c e = tt
 sendable (address.Group g) c e = e
 
-pub exactly-step : {h : Session} {what : Sending} {line to : Address} {c : Command} → Due h what line to c
+pub exactly-step : {h : Session} {what : Sending} {called to : Address} {c : Command} → Due h what called to c
     → (t : Session) (past : List Counted) → Exactly h past → (a : Answer) → Concluded h a to (settles what a c) (walkOn what a (h .walk)) t
     → Exactly t (count what a past)
 exactly-step {h} (next l n) t past x Clear k = counts h t past x _ _ _ Clear tt tt k

@@ -23,8 +23,8 @@ use Rattle.line.proofs.Walk.{next-step, ask-step}
 next-entry : (h : Session) → entryOf h (h .walk + 1) ≡ entryAt h (h .walk)
 next-entry h = let e : h .walk + 1 - 1 ≡ h .walk = omega arith in ap (λ (i : ℕ). getD (h .entries) i blankEntry) e
 
-pub exchange-step : {h : Session} {what : Sending} {line to : Address} {c : Command} → Due h what line to c → fitsOf c ≡ true
-    → (t : Session) (ns ms : List Node) → Invariant h ns → (a : Answer) → Exchanged line c ns ms a
+pub exchange-step : {h : Session} {what : Sending} {called to : Address} {c : Command} → Due h what called to c → fitsOf c ≡ true
+    → (t : Session) (ns ms : List Node) → Invariant h ns → (a : Answer) → Exchanged called c ns ms a
     → Concluded h a to (settles what a c) (walkOn what a (h .walk)) t → Invariant t ms
 exchange-step {h} (next l k) fits t ns ms inv a x = next-step h t ns ms inv l (rw (next-entry h) at k) a x fits
 exchange-step {h} (ask l k) fits t ns ms inv a x = ask-step h t ns ms inv l a x

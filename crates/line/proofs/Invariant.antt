@@ -85,22 +85,22 @@ pub deaf : (ns : List Node) (i : ℕ) → at ns i .addressed ≡ false → at ns
 deaf ns i u v = rw (u, v) refl
 
 -- the node of index i replies to this address, and acted on the command
-pub record Answered (line : Address) (ns : List Node) (did : ℕ → Bool) : Type 0 where
+pub record Answered (called : Address) (ns : List Node) (did : ℕ → Bool) : Type 0 where
   pub index : ℕ
   pub inside : index < length ns
-  pub replies : repliesAt line ns index ≡ true
+  pub replies : repliesAt called ns index ≡ true
   pub acted : did index ≡ true
 
 -- what the line and the nodes make of a command, from its sending to the report
-pub record Exchanged (line : Address) (c : Command) (ns ms : List Node) (a : Answer) : Type 0 where
+pub record Exchanged (called : Address) (c : Command) (ns ms : List Node) (a : Answer) : Type 0 where
   -- the command came whole to the node of index i, which acted on it
   pub did : ℕ → Bool
-  pub acting : (i : ℕ) → did i ≡ true → acts line ns i ≡ true
+  pub acting : (i : ℕ) → did i ≡ true → acts called ns i ≡ true
   -- "A command reaches all nodes alike": where one acted on it, all did that act on such a command
-  pub alike : (i j : ℕ) → did i ≡ true → acts line ns j ≡ true → did j ≡ true
+  pub alike : (i j : ℕ) → did i ≡ true → acts called ns j ≡ true → did j ≡ true
   pub long : length ms ≡ length ns
   pub settings : (i : ℕ) → i < length ns → at ms i .settings ≡ cond (did i) (settingsAfter c (at ns i .settings)) (at ns i .settings)
   pub addressed : (i : ℕ) → i < length ns → at ms i .addressed ≡ cond (did i) (addressedAfter (roleOf c) (at ns i .addressed)) (at ns i .addressed)
   -- what the answer tells
   pub marked : a ≡ Marked → (i : ℕ) → did i ≡ false
-  pub clear : a ≡ Clear → Answered line ns did
+  pub clear : a ≡ Clear → Answered called ns did

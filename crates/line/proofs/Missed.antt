@@ -29,16 +29,16 @@ use Rattle.host.proofs.Passing.{order-says, regroup-says}
 use Rattle.host.proofs.Sent.{order-went, regroup-went}
 use Rattle.reports.specs.Report.{concludeOf}
 use Rattle.line.specs.History.{Sending, asks}
-use Rattle.line.specs.Call.{Call, calledOf}
+use Rattle.line.specs.Call.{Call, callOutcome}
 use Rattle.line.specs.Call as calls
 use Rattle.line.specs.Line.{reportedOf, answerIn}
 use Rattle.line.specs.Missed.{Left, OnlyPowerUp}
-use Rattle.line.proofs.Due.{Due, next, ask, order, regroup, accepted}
+use Rattle.line.proofs.Due.{Due, next, ask, order, regroup, call-sends}
 use Rattle.line.proofs.Closing.{waitingAt, entryAt, due-opens, reported-concludes}
 use Rattle.line.proofs.Returning.{marked-returns, quiet-returns}
 use Rattle.line.proofs.Invariant.{at, EdgeAt, Invariant, Answered, Exchanged}
 use Rattle.line.proofs.Peace.{none-collided}
-use Rattle.line.proofs.Walk.{nobody}
+use Rattle.line.proofs.Walk.{nobody-answers}
 use Rattle.line.proofs.Delivery.{exchanged}
 use Rattle.line.proofs.Course.{when-idle, holds}
 
@@ -48,7 +48,7 @@ module _ (h : Session) (ns : List Node) (inv : Invariant h ns) (l : h .walk < h 
   unanswered o = go (inv .edge l)
     where
       go : EdgeAt (entryAt h (h .walk)) ns (h .walk) → ⊥
-      go (inl p) = nobody h ns inv l p o
+      go (inl p) = nobody-answers h ns inv l p o
       go (inr p) = true≢false (sym (p .2) ∙ u)
 
   stays-out : {ms : List Node} {a : Answer} → Exchanged (nodeAt (h .walk + 1)) Nop ns ms a → (a ≡ Clear → ⊥) × Left (at ns (h .walk)) (at ms (h .walk))
@@ -58,7 +58,7 @@ module _ (h : Session) (ns : List Node) (inv : Invariant h ns) (l : h .walk < h 
         (λ e. unanswered (x .clear e)),
         record {
           settings = x .settings (h .walk) m ∙ same b (at ns (h .walk) .settings);
-          unreached = x .addressed (h .walk) m ∙ same b (at ns (h .walk) .addressed) ∙ u;
+          unaddressed = x .addressed (h .walk) m ∙ same b (at ns (h .walk) .addressed) ∙ u;
         },
       )
 
@@ -70,11 +70,11 @@ unconfirmed s e Silent n = rw (opened-waits s (nodeAt (s .walk + 1)) Nop refl) a
 
 -- what "ask" sends, and what the report of whatever came leaves
 asked : (s t : Session) (ns ms : List Node) (p : List ℕ) → Invariant s ns → s .exchange ≡ Idle → at ns (s .walk) .addressed ≡ false
-    → {line to : Address} {c : Command} → Due s (calls.whatOf calls.ask p) line to c → t ≡ openExchange s to c → (r : Option (List ℕ)) → Exchanged line c ns ms (answerIn r)
+    → {called to : Address} {c : Command} → Due s (calls.whatOf calls.ask p) called to c → t ≡ openExchange s to c → (r : Option (List ℕ)) → Exchanged called c ns ms (answerIn r)
     → (reportedOf t r .session ≡ s) × Left (at ns (s .walk)) (at ms (s .walk))
 asked s t ns ms p inv idle u d f r x = go d refl f x
   where
-    go : {what : Sending} {line to : Address} {c : Command} → Due s what line to c → what ≡ calls.whatOf calls.ask p → t ≡ openExchange s to c → Exchanged line c ns ms (answerIn r)
+    go : {what : Sending} {called to : Address} {c : Command} → Due s what called to c → what ≡ calls.whatOf calls.ask p → t ≡ openExchange s to c → Exchanged called c ns ms (answerIn r)
         → (reportedOf t r .session ≡ s) × Left (at ns (s .walk)) (at ms (s .walk))
     go (ask l k) e f x =
         let o = stays-out s ns inv l u x in
@@ -87,7 +87,7 @@ asked s t ns ms p inv idle u d f r x = go d refl f x
 
 -- no other call sends
 alone : (s : Session) → s .walk < s .n → knows (entryOf s (s .walk + 1)) place ≡ false → (c : Call) (out : List ℕ) (n : ℕ)
-    → calledOf c s out .answer .end ≡ Sent n → c ≡ calls.ask
+    → callOutcome c s out .answer .end ≡ Sent n → c ≡ calls.ask
 alone s l d calls.next out n e = absurd (true≢false (sym (next-says s (next-went s out (ap endNumber e) .passed) .placed) ∙ d))
 alone s l d calls.ask out n e = refl
 alone s l d (calls.order to c) out n e = absurd (let k = order-says s to c (order-went s out to c (ap endNumber e) .passed) .ended in omega arith)
@@ -100,12 +100,12 @@ pub only-power-up : OnlyPowerUp
 only-power-up w comes up idle m =
     let s = when-idle (w .host) (w .nodes) (w .past) (w .line) (holds comes up) idle in
     let i = s .inv in
-    let u : at (w .nodes) (w .host .walk) .addressed ≡ false = rw (index (w .host .walk)) at (m .unreached) in
+    let u : at (w .nodes) (w .host .walk) .addressed ≡ false = rw (index (w .host .walk)) at (m .unaddressed) in
     record {
       alone = alone (w .host) (m .walking) (m .unconfirmed);
       same = λ out n e q r arrives returns.
-          let a = accepted calls.ask tt refl (w .host) out n e in
-          let x = exchanged (a .line) (a .command) (w .nodes) (a .goes .range) (a .goes .fits) (a .typed) (none-collided (w .host) (w .nodes) i)
+          let a = call-sends calls.ask tt refl (w .host) out n e in
+          let x = exchanged (a .called) (a .command) (w .nodes) (a .goes .range) (a .goes .fits) (a .typed) (none-collided (w .host) (w .nodes) i)
           (rw (a .goes .packet) at arrives) returns in
-          rw (index (w .host .walk)) (asked (w .host) _ (w .nodes) _ (take n (calledOf calls.ask (w .host) out .left)) i idle u (a .due) (a .goes .after) r x);
+          rw (index (w .host .walk)) (asked (w .host) _ (w .nodes) _ (take n (callOutcome calls.ask (w .host) out .left)) i idle u (a .due) (a .goes .after) r x);
     }

@@ -40,7 +40,7 @@ abbrev given : Session → Command
 given h = SetAddress (givenPlace (h .walk + 1))
 
 -- nothing was learnt and nothing changed
-module _ (h t : Session) (ns ms : List Node) (inv : Invariant h ns) (line to : Address) (c : Command) (a : Answer) (x : Exchanged line c ns ms a)
+module _ (h t : Session) (ns ms : List Node) (inv : Invariant h ns) (called to : Address) (c : Command) (a : Answer) (x : Exchanged called c ns ms a)
     (k : Concluded h a to c (h .walk) t)
     (learnt : (i : ℕ) → noteOf a (reachOf to (suc i) (entryAt h i)) c (entryAt h i) ≡ entryAt h i)
     (settings : (i : ℕ) → i < h .n → at ms i .settings ≡ at ns i .settings)
@@ -48,7 +48,7 @@ module _ (h t : Session) (ns ms : List Node) (inv : Invariant h ns) (line to : A
   still-step : fitsOf c ≡ true → Invariant t ms
   still-step fits =
       let w = inv .walked in
-      stepped h ns ms inv line c a x t to c (h .walk) k fits w
+      stepped h ns ms inv called c a x t to c (h .walk) k fits w
       (λ i l. rw (learnt i, settings i l) (inv .held i l))
       (λ i l. rw (settings i (omega arith), addressed i (omega arith)) (inv .front i l))
       (λ i l m. rw (settings i m, addressed i m) (inv .back i l m))
@@ -71,15 +71,15 @@ module _ (h : Session) (ns : List Node) (inv : Invariant h ns) (l : h .walk < h 
   only : (i : ℕ) → i < h .n → acts (nodeAt 0) ns i ≡ true → h .walk ≡ i
   only i p e = go (ltb i (h .walk)) (eqb (h .walk) i) refl refl
     where
-      called : (hearsAt ns i ≡ true) × (isMeant (nodeAt 0) (at ns i .settings .place) ≡ true)
-      called = both (hearsAt ns i) (isMeant (nodeAt 0) (at ns i .settings .place)) e
+      hears-and-meant : (hearsAt ns i ≡ true) × (isMeant (nodeAt 0) (at ns i .settings .place) ≡ true)
+      hears-and-meant = both (hearsAt ns i) (isMeant (nodeAt 0) (at ns i .settings .place)) e
 
       go : (b c : Bool) → ltb i (h .walk) ≡ b → eqb (h .walk) i ≡ c → h .walk ≡ i
-      go true c f k = absurd (omega (arith, inv .front i (ltb-true i (h .walk) f) .1, eqb-true 0 (at ns i .settings .place .address .0) (called .1)))
+      go true c f k = absurd (omega (arith, inv .front i (ltb-true i (h .walk) f) .1, eqb-true 0 (at ns i .settings .place .address .0) (hears-and-meant .1)))
       go false true f k = eqb-true (h .walk) i k
       go false false f k =
           let d = eqb-false (h .walk) i k in
-          absurd (false≢true (sym (last i (omega (arith, ltb-false i (h .walk) f)) p) ∙ called .0))
+          absurd (false≢true (sym (last i (omega (arith, ltb-false i (h .walk) f)) p) ∙ hears-and-meant .0))
 
   module _ (ms : List Node) (t : Session) (a : Answer) (x : Exchanged (nodeAt 0) (given h) ns ms a) where
     at-walk : (i : ℕ) → i < h .n → x .did i ≡ true → h .walk ≡ i
@@ -177,9 +177,9 @@ next-step h t ns ms inv l known a x fits k = go a x k
 -- ---- "ask"
 
 -- before the node that the walk is at has its new address nobody has it, and so nobody answers
-pub nobody : (h : Session) (ns : List Node) (inv : Invariant h ns) → h .walk < h .n → UnplacedAt ns (h .walk)
+pub nobody-answers : (h : Session) (ns : List Node) (inv : Invariant h ns) → h .walk < h .n → UnplacedAt ns (h .walk)
     → {did : ℕ → Bool} → Answered (nodeAt (h .walk + 1)) ns did → ⊥
-nobody h ns inv l u o = go (ltb (o .index) (h .walk)) refl
+nobody-answers h ns inv l u o = go (ltb (o .index) (h .walk)) refl
   where
     inside : o .index < h .n
     inside = omega (arith, o .inside, inv .long)
@@ -200,7 +200,7 @@ module _ (h t : Session) (ns ms : List Node) (inv : Invariant h ns) (l : h .walk
 
   found : a ≡ Clear → EdgeAt (entryAt h (h .walk)) ns (h .walk)
       → (at ns (h .walk) .settings .place ≡ givenPlace (h .walk + 1)) × (at ns (h .walk) .addressed ≡ true)
-  found e (inl u) = absurd (nobody h ns inv l u (x .clear e))
+  found e (inl u) = absurd (nobody-answers h ns inv l u (x .clear e))
   found e (inr p) = (p .1, p .2)
 
   module _ (f : (at ns (h .walk) .settings .place ≡ givenPlace (h .walk + 1)) × (at ns (h .walk) .addressed ≡ true)) where

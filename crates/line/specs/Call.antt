@@ -23,11 +23,11 @@ pub data Call : Type 0 where
   regroup : Individual → Group → Bool → Call
 
 -- what the host makes of a call with a lent buffer
-abbrev pub calledOf : Call → Session → List ℕ → Outcome Step (List ℕ)
-calledOf next s out = nextOf s out
-calledOf ask s out = askOf s out
-calledOf (order to c) s out = orderOf s to c out
-calledOf (regroup i g leader) s out = regroupOf s i g leader out
+abbrev pub callOutcome : Call → Session → List ℕ → Outcome Step (List ℕ)
+callOutcome next s out = nextOf s out
+callOutcome ask s out = askOf s out
+callOutcome (order to c) s out = orderOf s to c out
+callOutcome (regroup i g leader) s out = regroupOf s i g leader out
 
 -- what was sent, read off the call and its packet p: the address that "next" gives is the first data byte, the node that "ask" asks is the address byte
 abbrev pub whatOf : Call → List ℕ → Sending

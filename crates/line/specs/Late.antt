@@ -1,4 +1,4 @@
--- Why a packet that is on its way at a power-up may reach no node after it: a setting that the host calls known would not be what the node holds.
+-- Why a packet that is on its way at a power-up may come to no node after it: a setting that the host calls known would not be what the node holds.
 use Prim.Native.Nat.{ℕ}
 use mathlib.Core.Bool.{true}
 use mathlib.Core.List.{List, map}

@@ -1,4 +1,4 @@
--- Demand 3's line: what reaches the nodes, what they make of it, what comes back. Nobody else sends on it.
+-- Demand 3's line: what comes to the nodes, what they make of it, what comes back. Nobody else sends on it.
 use Prim.Native.Nat.{ℕ}
 use mathlib.Core.List.{List, []}
 use mathlib.Core.Option.{Option, none, some}

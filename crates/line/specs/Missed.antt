@@ -11,7 +11,7 @@ use Rattle.entry.specs.Entry.{knows}
 use Rattle.session.specs.declared.Exchange.the-variants.{Idle}
 use Rattle.session.specs.declared.End.the-variants.{Sent}
 use Rattle.session.specs.Session.{entryOf}
-use Rattle.line.specs.Call.{Call, ask, calledOf}
+use Rattle.line.specs.Call.{Call, ask, callOutcome}
 use Rattle.line.specs.Line.{Arrival, Arrives, Returns, nodesAfter, saidAfter, reportedOf}
 use Rattle.line.specs.World.{World, Comes}
 use Rattle.line.specs.Demand3.{nodeOf}
@@ -20,19 +20,19 @@ use Rattle.line.specs.Demand3.{nodeOf}
 pub record Missed (w : World) : Type 0 where
   pub walking : w .host .walk < w .host .n
   pub unconfirmed : knows (entryOf (w .host) (w .host .walk + 1)) place ≡ false
-  pub unreached : nodeOf (w .nodes) (w .host .walk + 1) .addressed ≡ false
+  pub unaddressed : nodeOf (w .nodes) (w .host .walk + 1) .addressed ≡ false
 
 -- m is the node n, which got no command: its settings are as they were, and it is not addressed
 pub record Left (n m : Node) : Type 0 where
   pub settings : m .settings ≡ n .settings
-  pub unreached : m .addressed ≡ false
+  pub unaddressed : m .addressed ≡ false
 
 -- no call but "ask" sends; and whatever becomes of an "ask" and of the reply to it, the session is afterwards as it was, the node's settings too, and it is still not addressed
 pub record Stuck (w : World) : Type 0 where
-  pub alone : (c : Call) (out : List ℕ) (n : ℕ) → calledOf c (w .host) out .answer .end ≡ Sent n → c ≡ ask
-  pub same : (out : List ℕ) (n : ℕ) → calledOf ask (w .host) out .answer .end ≡ Sent n → (q : Arrival) (r : Option (List ℕ))
-      → Arrives (take n (calledOf ask (w .host) out .left)) q → Returns (saidAfter q (w .nodes)) r
-      → (reportedOf (calledOf ask (w .host) out .answer .session) r .session ≡ w .host) × Left (nodeOf (w .nodes) (w .host .walk + 1)) (nodeOf (nodesAfter q (w .nodes)) (w .host .walk + 1))
+  pub alone : (c : Call) (out : List ℕ) (n : ℕ) → callOutcome c (w .host) out .answer .end ≡ Sent n → c ≡ ask
+  pub same : (out : List ℕ) (n : ℕ) → callOutcome ask (w .host) out .answer .end ≡ Sent n → (q : Arrival) (r : Option (List ℕ))
+      → Arrives (take n (callOutcome ask (w .host) out .left)) q → Returns (saidAfter q (w .nodes)) r
+      → (reportedOf (callOutcome ask (w .host) out .answer .session) r .session ≡ w .host) × Left (nodeOf (w .nodes) (w .host .walk + 1)) (nodeOf (nodesAfter q (w .nodes)) (w .host .walk + 1))
 
 abbrev pub OnlyPowerUp : Type 0
 OnlyPowerUp = (w : World) → Comes w → w .up ≡ true → w .host .exchange ≡ Idle → Missed w → Stuck w

@@ -16,7 +16,7 @@ use Rattle.session.specs.declared.End.the-variants.{Done, Sent, Refused}
 use Rattle.start.specs.Start.{freshOf, startPowerUp}
 use Rattle.line.specs.History.{Sending}
 use Rattle.line.specs.History as history
-use Rattle.line.specs.Call.{Call, calledOf, whatOf, resets, TypedCall}
+use Rattle.line.specs.Call.{Call, callOutcome, whatOf, resets, TypedCall}
 use Rattle.line.specs.Line.{Line, quiet, going, coming, lingering, Arrival, Arrives, Nothing, nodesAfter, saidAfter, Returns, reportedOf, answerIn}
 
 -- `up`: the host was told of a power-up, and no Hard Reset was sent since; `past`: what was sent and answered since, the newest first
@@ -35,7 +35,7 @@ started ns = record { host = freshOf; nodes = ns; line = quiet; past = []; up = 
 abbrev pub hosting : Session → World → World
 hosting s w = record { host = s; nodes = w .nodes; line = w .line; past = w .past; up = w .up }
 
--- all nodes in power-up state, each with the bench values that it has; what was on the line reaches no node any more (Late says why this is asked)
+-- all nodes in power-up state, each with the bench values that it has; what was on the line comes to no node any more (Late says why this is asked)
 abbrev pub powered : List Bench → Session → World
 powered bs s = record { host = s; nodes = map powerUp bs; line = quiet; past = []; up = true }
 
@@ -46,8 +46,9 @@ callEnded (Sent n) c s left w =
 callEnded Done c s left w = hosting s w
 callEnded (Refused why) c s left w = hosting s w
 
-abbrev pub called : Call → List ℕ → World → World
-called c out w = callEnded (calledOf c (w .host) out .answer .end) c (calledOf c (w .host) out .answer .session) (calledOf c (w .host) out .left) w
+-- a call was made, with this buffer lent
+abbrev pub callMade : Call → List ℕ → World → World
+callMade c out w = callEnded (callOutcome c (w .host) out .answer .end) c (callOutcome c (w .host) out .answer .session) (callOutcome c (w .host) out .left) w
 
 -- the packet came as q, and r comes back
 abbrev pub delivered : Arrival → Sending → Option (List ℕ) → World → World
@@ -89,8 +90,8 @@ pub data Comes : World → Type 0 where
   -- a power-up that is refused
   unpowered : {w : World} → Comes w → (n : ℕ) (why : Refusal) → startPowerUp (w .host) n .end ≡ Refused why → Comes (hosting (startPowerUp (w .host) n .session) w)
   -- a call, accepted or refused, with any buffer, at any time
-  call : {w : World} → Comes w → (c : Call) → TypedCall c → (out : List ℕ) → Comes (called c out w)
-  -- its packet reaches all nodes alike, and what they say comes back
+  call : {w : World} → Comes w → (c : Call) → TypedCall c → (out : List ℕ) → Comes (callMade c out w)
+  -- its packet comes to all nodes alike, and what they say comes back
   deliver : {w : World} → Comes w → (what : Sending) (p : List ℕ) → w .line ≡ going what p
       → (q : Arrival) (r : Option (List ℕ)) → Arrives p q → Returns (saidAfter q (w .nodes)) r → Comes (delivered q what r w)
   -- what came is reported as it came

@@ -1,6 +1,6 @@
 // One LS-773: what it holds, its power-up state, and what a packet does to it.
 // Promised: the table of effects, setting by setting; a wrong sum and another command change nothing; no packet changes a bench value.
-// Left to others: whether the packet is heard and meant (survey), and the bytes of the reply (reply).
+// Left to others: whether the node hears it and is meant (survey), and the bytes of the reply (reply).
 mod state;
 
 pub use state::Bench;

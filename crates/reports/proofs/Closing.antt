@@ -96,9 +96,9 @@ module _ (s : Session) (a : Answer) (v : Bool) (by : v ≡ isClosed s) where
   waiting-reports t to c p q h =
       promised (rw (← by, p) (ap (λ (x : Session). record { end = Done; session = x }) h ∙ sym (ap (λ (x : Exchange). finishBy x s a) q)))
 
-pub reported : (s : Session) (bytes : List ℕ) (a : Answer) (r : Step) → a ≡ judgeOf bytes → Promise stepNumber r (finishOf s a) → Promise stepNumber r (reportOf s bytes)
+pub report-by-answer : (s : Session) (bytes : List ℕ) (a : Answer) (r : Step) → a ≡ judgeOf bytes → Promise stepNumber r (finishOf s a) → Promise stepNumber r (reportOf s bytes)
 unfolding reportOf
-reported s bytes a r p h = rw (← p) h
+report-by-answer s bytes a r p h = rw (← p) h
 
 -- an exchange of the walk
 on-walks : (s : Session) (to : Address) → isOnWalk s to ≡ true → s .walk < s .n

@@ -23,10 +23,10 @@ use Rattle.session.specs.Session.{refuseOf, isClosed, givenPlace}
 use Rattle.reports.specs.Report.{isGiving, isAsking, idleAt, concludeOf, finishBy, finishOf, reportOf}
 
 -- the command that an answer is about: an "ask"'s good clear reply confirms the walk's Set Address
-abbrev pub meant : Session → Address → Command → Answer → Command
-meant s to c Marked = c
-meant s to c Silent = c
-meant s to c Clear = cond (isGiving s to c) c (cond (isAsking s to c) (SetAddress (givenPlace (s .walk + 1))) c)
+abbrev pub settled : Session → Address → Command → Answer → Command
+settled s to c Marked = c
+settled s to c Silent = c
+settled s to c Clear = cond (isGiving s to c) c (cond (isAsking s to c) (SetAddress (givenPlace (s .walk + 1))) c)
 
 -- where the walk then stands
 abbrev pub walkAfter : Session → Address → Command → Answer → ℕ
@@ -46,7 +46,7 @@ three false false s to c x = refl
 
 module _ (s : Session) (to : Address) (c : Command) where
   -- a good clear reply, and silence: every node's entry by the rule, no exchange open, n and the rest as they were
-  pub clear-is : concludeOf s to c Clear ≡ idleAt s (walkAfter s to c Clear) (settleOf Clear to (meant s to c Clear) (s .n) (s .entries))
+  pub clear-is : concludeOf s to c Clear ≡ idleAt s (walkAfter s to c Clear) (settleOf Clear to (settled s to c Clear) (s .n) (s .entries))
   unfolding concludeOf
   clear-is = three (isGiving s to c) (isAsking s to c) s to c (SetAddress (givenPlace (s .walk + 1)))
 
@@ -61,16 +61,16 @@ module _ (s : Session) (to : Address) (c : Command) where
 
   -- the entry of node i + 1, for each answer
   pub concluded-at : (a : Answer) (i : ℕ) (d : Entry) → s .n ≤ 31 → i < s .n → i < length (s .entries)
-      → getD (concludeOf s to c a .entries) i d ≡ noteOf a (reachOf to (suc i) (getD (s .entries) i d)) (meant s to c a) (getD (s .entries) i d)
+      → getD (concludeOf s to c a .entries) i d ≡ noteOf a (reachOf to (suc i) (getD (s .entries) i d)) (settled s to c a) (getD (s .entries) i d)
   concluded-at Marked i d f p q = rw marked-is
   concluded-at Silent i d f p q = rw silent-is (settled-at Silent to c (s .n) (s .entries) i d f p q)
-  concluded-at Clear i d f p q = rw clear-is (settled-at Clear to (meant s to c Clear) (s .n) (s .entries) i d f p q)
+  concluded-at Clear i d f p q = rw clear-is (settled-at Clear to (settled s to c Clear) (s .n) (s .entries) i d f p q)
 
   -- an entry past n stays
   pub concluded-past : (a : Answer) (i : ℕ) (d : Entry) → s .n ≤ 31 → s .n ≤ i → getD (concludeOf s to c a .entries) i d ≡ getD (s .entries) i d
   concluded-past Marked i d f p = rw marked-is
   concluded-past Silent i d f p = rw silent-is (settled-past Silent to c (s .n) (s .entries) i d f p)
-  concluded-past Clear i d f p = rw clear-is (settled-past Clear to (meant s to c Clear) (s .n) (s .entries) i d f p)
+  concluded-past Clear i d f p = rw clear-is (settled-past Clear to (settled s to c Clear) (s .n) (s .entries) i d f p)
 
   -- the rest of the session
   pub concluded-walk : (a : Answer) → concludeOf s to c a .walk ≡ walkAfter s to c a

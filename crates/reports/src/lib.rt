@@ -59,7 +59,7 @@ fn is_asking(s: Session, to: Address, c: Command) -> bool
 }
 
 // The session with no exchange open, at a step of the walk, with a record.
-// Made in one place, since a literal of the whole session is the costly part of a check.
+// Made here alone, since a literal of the whole session is the costly part of a check.
 fn idle_at(s: Session, walk: u8, entries: [Entry; MOST_NODES]) -> Session
     ensures { λ r. ⌜ r ≡ idleAt s walk entries ⌝ }
 {

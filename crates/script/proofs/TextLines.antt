@@ -69,9 +69,9 @@ pub line-short : (d : List ℕ) → length d ≤ 19 → length (hexLine d) ≤ 5
 line-short [] h = omega arith
 line-short (b ∷ bs) h = omega (arith, length-line (b ∷ bs) (omega arith))
 
-placed : (d : List ℕ) → length d ≤ 19 → written (hexLine d) (replicate 64 0) ≡ atStart (hexLine d) (replicate 64 0)
+laid : (d : List ℕ) → length d ≤ 19 → written (hexLine d) (replicate 64 0) ≡ atStart (hexLine d) (replicate 64 0)
 unfolding written
-placed d h = rw (le-ltb 64 (length (hexLine d)) (omega (arith, line-short d h)))
+laid d h = rw (le-ltb 64 (length (hexLine d)) (omega (arith, line-short d h)))
 
 module _ (d l : List ℕ) (b : Built) (p : Lending builtNumber b l (written (hexLine d) (replicate 64 0))) where
   pub reply-room : (n : ℕ) (part : List ℕ) → part ≡ take n l → length part ≤ 64
@@ -82,16 +82,16 @@ module _ (d l : List ℕ) (b : Built) (p : Lending builtNumber b l (written (hex
   module _ (h : length d ≤ 19) where
     pub reply-done : (n at r : ℕ) (part out left : List ℕ) → b ≡ built.Bytes n → part ≡ take n l → Wrote part at out r left → WroteLine (hexLine d) at out r left
     reply-done n at r part out left e f w =
-        let a : built.Bytes n ≡ built.Bytes (length (hexLine d)) = sym e ∙ p .answer ∙ ap (λ o. o .answer) (placed d h) in
+        let a : built.Bytes n ≡ built.Bytes (length (hexLine d)) = sym e ∙ p .answer ∙ ap (λ o. o .answer) (laid d h) in
         let en : n ≡ length (hexLine d) = cc in
-        let el : l ≡ hexLine d ++ drop (length (hexLine d)) (replicate 64 0) = p .leaves ∙ ap (λ o. o .left) (placed d h) in
+        let el : l ≡ hexLine d ++ drop (length (hexLine d)) (replicate 64 0) = p .leaves ∙ ap (λ o. o .left) (laid d h) in
         let ep : part ≡ hexLine d = f ∙ rw (en, el) (take-at (hexLine d) (drop (length (hexLine d)) (replicate 64 0)) (length (hexLine d)) refl) in
         record { wrote = rw ep at w; near = omega (arith, line-short d h) }
 
     -- 64 bytes are enough
     pub reply-refused : (why : Refusal) (at : ℕ) (out : List ℕ) → b ≡ built.Refused why → WroteLine (hexLine d) at out at out
     reply-refused why at out e =
-        let a : built.Refused why ≡ built.Bytes (length (hexLine d)) = sym e ∙ p .answer ∙ ap (λ o. o .answer) (placed d h) in
+        let a : built.Refused why ≡ built.Bytes (length (hexLine d)) = sym e ∙ p .answer ∙ ap (λ o. o .answer) (laid d h) in
         impossible cc
 
 -- ---- by the answer

@@ -11,7 +11,7 @@ use Rattle.session.specs.Session.{isClosed}
 use Rattle.session.proofs.Sessions.{Bounds, valid-says, closed-not}
 use Rattle.sending.specs.declared.Check.{Check}
 use Rattle.sending.specs.declared.Check.the-variants.{Passed, Refuse}
-use Rattle.sending.specs.Sending.{refuseIf, doesWait, isWaiting, readyCheck}
+use Rattle.sending.specs.Sending.{refuseIf, doesWait, isWaiting, freeCheck}
 
 -- a check that is clear was clear before, and its last test failed
 pub record TestPassed (k : Check) (test : Bool) : Type 0 where
@@ -24,7 +24,7 @@ passed Passed true why h = impossible cc
 passed Passed false why h = record { before = refl; failed = refl }
 
 -- a started session with nothing on the line
-pub record Ready (s : Session) : Type 0 where
+pub record Free (s : Session) : Type 0 where
   pub valid : Bounds s
   pub started : s .started ≡ true
   pub idle : s .exchange ≡ Idle
@@ -38,9 +38,9 @@ unfolding isWaiting
 waiting-not s p h = idle-says (s .exchange) (rw p at h)
 
 -- 12 and 7 did not occur
-pub ready-says : (s : Session) → readyCheck s ≡ Passed → Ready s
-unfolding readyCheck
-ready-says s h =
+pub free-says : (s : Session) → freeCheck s ≡ Passed → Free s
+unfolding freeCheck
+free-says s h =
     let t = passed (refuseIf Passed (isClosed s) Closed) (isWaiting s) Busy h in
     let u = passed Passed (isClosed s) Closed (t .before) in
     let v = closed-not s (u .failed) in

@@ -44,10 +44,10 @@ pub record Sends (s : Session) (called to : Address) (c : Command) (out : List �
   pub room : length (packetFor called c) ≤ length out → o ≡ sending s called to c out
   pub none : length out < length (packetFor called c) → o ≡ roomless s out
 
-by-place : (s : Session) (called to : Address) (c : Command) (out : List ℕ)
+by-written : (s : Session) (called to : Address) (c : Command) (out : List ℕ)
     → Sends s called to c out (record { answer = stepBy s (openExchange s to c) (written (packetFor called c) out .answer); left = written (packetFor called c) out .left })
 unfolding written
-by-place s called to c out = record {
+by-written s called to c out = record {
   room = λ h. rw (le-ltb (length out) (length (packetFor called c)) h);
   none = λ h. rw (lt-ltb (length out) (length (packetFor called c)) h);
 }
@@ -56,7 +56,7 @@ by-place s called to c out = record {
 pub transmitted-sends : (s : Session) (called to : Address) (c : Command) (out : List ℕ) → inRange called ≡ true → fitsOf c ≡ true
     → Sends s called to c out (transmitOf s called to c out)
 unfolding transmitOf
-transmitted-sends s called to c out p q = rw (built-written called c out p q) (by-place s called to c out)
+transmitted-sends s called to c out p q = rw (built-written called c out p q) (by-written s called to c out)
 
 -- where the check before it is clear
 pub by-passed : (k : Check) (s : Session) (called to : Address) (c : Command) (out : List ℕ) (o : Outcome Step (List ℕ)) → k ≡ Passed

@@ -43,8 +43,8 @@ unfoldable pub isWaiting : Session → Bool
 isWaiting s = cond (isClosed s) false (doesWait (s .exchange))
 
 -- "Host order: 12, 7, 6, 10, 9, 11, 5"
-unfoldable pub readyCheck : Session → Check
-readyCheck s = refuseIf (refuseIf Passed (isClosed s) Closed) (isWaiting s) Busy
+unfoldable pub freeCheck : Session → Check
+freeCheck s = refuseIf (refuseIf Passed (isClosed s) Closed) (isWaiting s) Busy
 
 -- "Each sent command but Hard Reset opens an exchange"; "Hard Reset closes the session and puts all settings in doubt"
 unfoldable pub openExchange : Session → Address → Command → Session

@@ -14,7 +14,7 @@ use wire::Refusal;
 ghost use mathlib.Core.Path.{_≡_};
 ghost use Rattle.wire.specs.Promise.{Promise, Lending};
 ghost use Rattle.session.specs.Session.{stepNumber};
-ghost use Rattle.sending.specs.Sending.{checkNumber, refuseIf, doesWait, isWaiting, readyCheck, openExchange, transmitOf};
+ghost use Rattle.sending.specs.Sending.{checkNumber, refuseIf, doesWait, isWaiting, freeCheck, openExchange, transmitOf};
 
 // What the tests so far came to.
 pub enum Check {
@@ -60,8 +60,8 @@ fn is_waiting(s: Session) -> bool
 }
 
 // 12 and 7, which every call that sends tests first.
-pub fn ready_check(s: Session) -> Check
-    ensures { λ r. ⌜ Promise checkNumber r (readyCheck s) ⌝ }
+pub fn free_check(s: Session) -> Check
+    ensures { λ r. ⌜ Promise checkNumber r (freeCheck s) ⌝ }
 {
     Check::Passed
         .refuse_if(is_closed(s), Refusal::Closed)

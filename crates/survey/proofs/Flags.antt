@@ -1,4 +1,4 @@
--- What a walk along the chain has seen, as sets of the nodes that act and of those that reply.
+-- What the look along the chain has seen, as sets of the nodes that act and of those that reply.
 use Prim.Native.Nat.{ℕ, suc, _+_, _*_, _/_, _%_, _^_, _<_, _≤_}
 use mathlib.Core.Bool.{Bool, true, false, cond, _&&_}
 use mathlib.Core.List.{List, [], _∷_}

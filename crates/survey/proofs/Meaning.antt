@@ -148,7 +148,7 @@ pub replier-below : (to : Address) (l : List Node) (i : ℕ) → replierIn to l 
 unfolding replierIn
 replier-below to l i e = let f = found-from to 0 true l i e in omega (arith, f .index, f .inside)
 
--- the one reply is that of a node of the chain that hears and is called
+-- the one reply is that of a node of the chain that hears and answers
 pub record Replying (to : Address) (h : Message) (l : List Node) (r : List ℕ) : Type 0 where
   pub at : ℕ
   pub inside : at < length l

@@ -41,13 +41,13 @@ not-none r w n =
     ⊎-elim (λ e. omega arith) (λ e. omega arith) w
 
 -- found so far, before node i of n, with `rest` the repliers from there on, of those in s
-abbrev pub Going : ℕ → ℕ → ℕ → ℕ → Replier → Type 0
-Going s n rest i found = searchOf (kept found ++ membersFrom (n - i) i rest) ≡ searchOf (members n s)
+abbrev pub Searched : ℕ → ℕ → ℕ → ℕ → Replier → Type 0
+Searched s n rest i found = searchOf (kept found ++ membersFrom (n - i) i rest) ≡ searchOf (members n s)
 
-pub search-start : (s n : ℕ) → Going s n s 0 None
+pub search-start : (s n : ℕ) → Searched s n s 0 None
 search-start s n = rw sub-zero
 
-module _ (s n rest i : ℕ) (r : Replier) (inv : Going s n rest i r) where
+module _ (s n rest i : ℕ) (r : Replier) (inv : Searched s n rest i r) where
   pub search-end : n ≤ i → r ≡ searchOf (members n s)
   search-end h =
       let e : n - i ≡ 0 = omega arith in
@@ -57,13 +57,13 @@ module _ (s n rest i : ℕ) (r : Replier) (inv : Going s n rest i r) where
     one-less : n - i ≡ suc (n - suc i)
     one-less = omega arith
 
-    pub search-past : (r′ : Replier) → (rest % 2 ≡ 1 → ⊥) → r′ ≡ r → Going s n (rest / 2) (i + 1) r′
+    pub search-past : (r′ : Replier) → (rest % 2 ≡ 1 → ⊥) → r′ ≡ r → Searched s n (rest / 2) (i + 1) r′
     search-past r′ h f =
         let e : rest % 2 ≡ 0 = omega arith in
         rw (f, add-one) (rw (one-less, e) at inv)
 
     module _ (replying : rest % 2 ≡ 1) where
-      pub search-first : (r′ : Replier) → r ≡ None → r′ ≡ One i → Going s n (rest / 2) (i + 1) r′
+      pub search-first : (r′ : Replier) → r ≡ None → r′ ≡ One i → Searched s n (rest / 2) (i + 1) r′
       search-first r′ e f = rw (f, add-one) (rw (e, one-less, replying) at inv)
 
       -- nobody behind node i replies

@@ -20,7 +20,7 @@ pub enum Incoming {
     Unread(Refusal),
 }
 
-// What a walk along the chain has seen so far: whether the next node is first or stands behind an addressed one, its bit,
+// What the look along the chain has seen so far: whether the next node is first or stands behind an addressed one, its bit,
 // who acts, who replies, and whether every record is in range.
 pub struct Seen {
     pub near: bool,
@@ -108,7 +108,7 @@ pub fn glance(seen: Seen, n: Node, incoming: Incoming) -> Seen
     }
 }
 
-// Who replies to a packet, of n nodes and those of them that it calls.
+// Who replies to a packet, of n nodes and those of them that reply.
 fn replier_to(message: Message, replying: u32, n: usize) -> Replier
     ensures { λ r. ⌜ r ≡ replierTo message replying n ⌝ }
 {
@@ -149,7 +149,7 @@ pub fn plan_of(incoming: Incoming, seen: Seen, n: usize) -> Plan
 }
 
 // The index of the node that replies; 32, past every chain, where none does alone.
-// A number and no enum: the walk over the lent table takes it as an index in its next line.
+// A number and no enum: the walk over the lent table takes it as an index in its next statement.
 pub fn speaker(p: Plan) -> usize
     ensures { λ r. ⌜ r ≡ speakerOf p ⌝ }
 {

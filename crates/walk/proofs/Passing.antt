@@ -13,38 +13,38 @@ use Rattle.session.specs.Session.{entryOf, isAskDue}
 use Rattle.session.proofs.Sessions.{due-says}
 use Rattle.sending.specs.declared.Check.{Check}
 use Rattle.sending.specs.declared.Check.the-variants.{Passed}
-use Rattle.sending.specs.Sending.{refuseIf, readyCheck}
+use Rattle.sending.specs.Sending.{refuseIf, freeCheck}
 use Rattle.walk.specs.Walk.{nextCheck, askCheck}
-use Rattle.sending.proofs.Passing.{passed, Ready, ready-says}
+use Rattle.sending.proofs.Passing.{passed, Free, free-says}
 
 -- "next": the walk has not ended, and the next node's place is known
 pub record NextPasses (s : Session) : Type 0 where
-  pub session : Ready s
+  pub session : Free s
   pub walking : s .walk < s .n
   pub placed : knows (entryOf s (s .walk + 1)) place ≡ true
 
 pub next-says : (s : Session) → nextCheck s ≡ Passed → NextPasses s
 unfolding nextCheck
 next-says s h =
-    let t = passed (refuseIf (readyCheck s) (leb (s .n) (s .walk)) NotDue) (isAskDue s) NotDue h in
-    let u = passed (readyCheck s) (leb (s .n) (s .walk)) NotDue (t .before) in
-    let r = ready-says s (u .before) in
+    let t = passed (refuseIf (freeCheck s) (leb (s .n) (s .walk)) NotDue) (isAskDue s) NotDue h in
+    let u = passed (freeCheck s) (leb (s .n) (s .walk)) NotDue (t .before) in
+    let r = free-says s (u .before) in
     let v = r .valid in
     let w = leb-false (s .n) (s .walk) (u .failed) in
     record { session = r; walking = w; placed = not-false (knows (entryOf s (s .walk + 1)) place) (sym (due-says s (omega arith)) ∙ t .failed) }
 
 -- "ask": the walk has not ended, and the next node's place is in doubt
 pub record AskPasses (s : Session) : Type 0 where
-  pub session : Ready s
+  pub session : Free s
   pub walking : s .walk < s .n
   pub doubtful : knows (entryOf s (s .walk + 1)) place ≡ false
 
 pub ask-says : (s : Session) → askCheck s ≡ Passed → AskPasses s
 unfolding askCheck
 ask-says s h =
-    let t = passed (refuseIf (readyCheck s) (leb (s .n) (s .walk)) NotDue) (not (isAskDue s)) NotDue h in
-    let u = passed (readyCheck s) (leb (s .n) (s .walk)) NotDue (t .before) in
-    let r = ready-says s (u .before) in
+    let t = passed (refuseIf (freeCheck s) (leb (s .n) (s .walk)) NotDue) (not (isAskDue s)) NotDue h in
+    let u = passed (freeCheck s) (leb (s .n) (s .walk)) NotDue (t .before) in
+    let r = free-says s (u .before) in
     let v = r .valid in
     let w = leb-false (s .n) (s .walk) (u .failed) in
     let d = not-false (isAskDue s) (t .failed) in

@@ -11,15 +11,15 @@ use Rattle.session.specs.declared.Session.{Session}
 use Rattle.session.specs.declared.Step.{Step}
 use Rattle.session.specs.Session.{givenPlace, isAskDue, nodeAt}
 use Rattle.sending.specs.declared.Check.{Check}
-use Rattle.sending.specs.Sending.{refuseIf, readyCheck, transmitOf, byCheck}
+use Rattle.sending.specs.Sending.{refuseIf, freeCheck, transmitOf, byCheck}
 
 -- 9: "next" is due until the walk has ended, unless "ask" is
 unfoldable pub nextCheck : Session → Check
-nextCheck s = refuseIf (refuseIf (readyCheck s) (leb (s .n) (s .walk)) NotDue) (isAskDue s) NotDue
+nextCheck s = refuseIf (refuseIf (freeCheck s) (leb (s .n) (s .walk)) NotDue) (isAskDue s) NotDue
 
 -- 9: "ask" is due where the place that "next" gave is in doubt
 unfoldable pub askCheck : Session → Check
-askCheck s = refuseIf (refuseIf (readyCheck s) (leb (s .n) (s .walk)) NotDue) (not (isAskDue s)) NotDue
+askCheck s = refuseIf (refuseIf (freeCheck s) (leb (s .n) (s .walk)) NotDue) (not (isAskDue s)) NotDue
 
 -- "'next' sends Set Address to 0x00 with the next address"
 unfoldable pub nextOf : Session → List ℕ → Outcome Step (List ℕ)

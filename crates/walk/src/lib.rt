@@ -4,7 +4,7 @@
 use command::Command;
 use node::Node;
 use sending::Check;
-use sending::ready_check;
+use sending::free_check;
 use sending::transmit;
 use session::Session;
 use session::Step;
@@ -24,7 +24,7 @@ ghost use Rattle.walk.specs.Walk.{nextCheck, askCheck, nextOf, askOf};
 fn next_check(s: Session) -> Check
     ensures { λ r. ⌜ Promise checkNumber r (nextCheck s) ⌝ }
 {
-    ready_check(s)
+    free_check(s)
         .refuse_if(s.n <= s.walk, Refusal::NotDue)
         .refuse_if(is_ask_due(s), Refusal::NotDue)
 }
@@ -33,7 +33,7 @@ fn next_check(s: Session) -> Check
 fn ask_check(s: Session) -> Check
     ensures { λ r. ⌜ Promise checkNumber r (askCheck s) ⌝ }
 {
-    ready_check(s)
+    free_check(s)
         .refuse_if(s.n <= s.walk, Refusal::NotDue)
         .refuse_if(!is_ask_due(s), Refusal::NotDue)
 }

@@ -1,4 +1,4 @@
--- The range of a refusal's number, whichever it is: a new refusal has one line here, and every other law goes by these three.
+-- The range of a refusal's number, whichever it is: a new refusal has one row here, and every other law goes by these three.
 use Prim.Native.Nat.{ℕ, _<_}
 use mathlib.Core.Bool.{Bool, true, not, _&&_, true≢false}
 use mathlib.Core.Path.{_≡_, refl, sym, _∙_}

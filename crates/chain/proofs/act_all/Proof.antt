@@ -80,8 +80,8 @@ low c = LL.tuple-val D.the-type D′.the-laws (D.the-type .to c)
 
 module _ {M : Type 1} (𝓤 : URA M) (H : Heap 𝓤) (A : Atoms 𝓤) (mem : Memory → SProp 𝓤) (run : Routine → Fun 𝓤) where
   -- the contracts that the proof cites
-  abbrev Reach : Contract 𝓤
-  Reach = tripleOf 𝓤 H A span′.signature (span′.spec 𝓤 H A mem run)
+  abbrev Span : Contract 𝓤
+  Span = tripleOf 𝓤 H A span′.signature (span′.spec 𝓤 H A mem run)
 
   abbrev First : Contract 𝓤
   First = tripleOf 𝓤 H A first′.signature (first′.spec 𝓤 H A mem run)
@@ -125,14 +125,14 @@ module _ {M : Type 1} (𝓤 : URA M) (H : Heap 𝓤) (A : Atoms 𝓤) (W : Given
       feqI ! (List Val) (vunit ∷ []) (vunit ∷ []) refl $ move ! (1 ∷ 0 ∷ []) $ done !
 
   -- ---- the calls: what each callee's triple binds outside, that the caller has what it asks, and what it is told
-  abbrev to-reach : Reach 𝓤 H A mem run .Ghost
-  to-reach = ((tt, tt, tt, (n, tt), (vint w64 n ∷ [], tt)), tt)
+  abbrev to-span : Span 𝓤 H A mem run .Ghost
+  to-span = ((tt, tt, tt, (n, tt), (vint w64 n ∷ [], tt)), tt)
 
-  goes-reach : ent 𝓤 (emp 𝓤) (Reach 𝓤 H A mem run .pre to-reach)
-  goes-reach = qed W [] ∵ nothing ! $ owned ! usize (Is usize) (uint-makes 𝓤 H A W w64) n _ (refl, room₀ .0) $ fjoin ! $ nothing ! $ join ! $ frame ! $ done !
+  goes-span : ent 𝓤 (emp 𝓤) (Span 𝓤 H A mem run .pre to-span)
+  goes-span = qed W [] ∵ nothing ! $ owned ! usize (Is usize) (uint-makes 𝓤 H A W w64) n _ (refl, room₀ .0) $ fjoin ! $ nothing ! $ join ! $ frame ! $ done !
 
-  reach-of : (r : ℕ) → ent 𝓤 (ensured 𝓤 H A span′.ended (span′.clauses 𝓤 H A mem run) tt (n, tt) tt r) (fact 𝓤 (r ≡ spanOf n))
-  reach-of r = tells 𝓤 H A (lasts span′.ended tt (n, tt)) (r ≡ spanOf n)
+  span-of : (r : ℕ) → ent 𝓤 (ensured 𝓤 H A span′.ended (span′.clauses 𝓤 H A mem run) tt (n, tt) tt r) (fact 𝓤 (r ≡ spanOf n))
+  span-of r = tells 𝓤 H A (lasts span′.ended tt (n, tt)) (r ≡ spanOf n)
 
   abbrev to-first : ℕ → First 𝓤 H A mem run .Ghost
   to-first s = ((tt, tt, tt, (s, tt), (vint w32 s ∷ [], tt)), tt)
@@ -162,7 +162,7 @@ module _ {M : Type 1} (𝓤 : URA M) (H : Heap 𝓤) (A : Atoms 𝓤) (W : Given
   act-of : (d r : Node) → ent 𝓤 (ensured 𝓤 H A take′.ended (take′.clauses 𝓤 H A mem run) tt (d, (c, tt)) tt r) (fact 𝓤 (r ≡ takeOf (c .message) d))
   act-of d r = tells 𝓤 H A (lasts take′.ended tt (d, (c, tt))) (r ≡ takeOf (c .message) d)
 
-  module _ (𝓣 : Tables 𝓤 H) (known-reach : Triple 𝓤 (𝓣 .C #chain·span) (Reach 𝓤 H A mem run)) (known-first : Triple 𝓤 (𝓣 .C #survey·first) (First 𝓤 H A mem run)) (known-without-first : Triple 𝓤 (𝓣 .C #survey·without-first) (Without 𝓤 H A mem run)) (known-act : Triple 𝓤 (𝓣 .C #chain·take) (Act 𝓤 H A mem run)) (l₀ l₁ l₂ l₃ l₄ l₅ l₆ l₇ l₈ l₉ l₁₀ l₁₁ l₁₂ l₁₃ : ℕ) where
+  module _ (𝓣 : Tables 𝓤 H) (known-span : Triple 𝓤 (𝓣 .C #chain·span) (Span 𝓤 H A mem run)) (known-first : Triple 𝓤 (𝓣 .C #survey·first) (First 𝓤 H A mem run)) (known-without-first : Triple 𝓤 (𝓣 .C #survey·without-first) (Without 𝓤 H A mem run)) (known-act : Triple 𝓤 (𝓣 .C #chain·take) (Act 𝓤 H A mem run)) (l₀ l₁ l₂ l₃ l₄ l₅ l₆ l₇ l₈ l₉ l₁₀ l₁₁ l₁₂ l₁₃ : ℕ) where
     abbrev En : Env 𝓤 H
     En = (tyUnit, l₀) ∷ (slice, l₁) ∷ (Dc, l₂) ∷ (word, l₃) ∷ (set32, l₄) ∷ (word, l₅) ∷ (word, l₆) ∷ (tyBool, l₇) ∷ (Nd, l₈) ∷ (word, l₉) ∷ (tyPtr, l₁₀) ∷ (Nd, l₁₁) ∷ (word, l₁₂) ∷ (tyPtr, l₁₃) ∷ []
 
@@ -174,7 +174,7 @@ module _ {M : Type 1} (𝓤 : URA M) (H : Heap 𝓤) (A : Atoms 𝓤) (W : Given
     Left = afterBlock 𝓤 H (afterSeq 𝓤 H (Wp 𝓤 H (𝓣 .C) (𝓣 .Λ) En body.t-6 (atReturn 𝓤 H En Post)) (atReturn 𝓤 H En Post))
 
     -- m is how far a set spans along the table
-    module _ (m : ℕ) (reached : m ≡ spanOf n) where
+    module _ (m : ℕ) (spans : m ≡ spanOf n) where
       -- the nodes of s are to act yet, and the table is ws
       abbrev At : ℕ → List Node → List (Item 𝓤)
       At s ws = ‵ (row T.the-row fullShare ws b o) ∷ Locs (has word l₃ (vint w64 m)) (has set32 l₄ (vint w32 s)) (has word l₅ (vint w64 (firstOf s)))
@@ -256,7 +256,7 @@ module _ {M : Type 1} (𝓤 : URA M) (H : Heap 𝓤) (A : Atoms 𝓤) (W : Given
 
       turn-by : (s : ℕ) (ws : List Node) (t : Bool) → ltb (firstOf s) m ≡ t → Facts s ws → ent 𝓤 (⋆ 𝓤 H A (At s ws)) (Wp 𝓤 H (𝓣 .C) (𝓣 .Λ) En body.turn-1 (afterTurn 𝓤 H (Below s) Left))
       turn-by s ws false by-test e =
-          ends s ws (Below s) past (e .1) (sym (visit-end (c .message) s ws (subst (λ (z : ℕ). z ≤ firstOf s) (reached ∙ ap spanOf (sym (e .1))) past) (e .0)) ∙ e .2)
+          ends s ws (Below s) past (e .1) (sym (visit-end (c .message) s ws (subst (λ (z : ℕ). z ≤ firstOf s) (spans ∙ ap spanOf (sym (e .1))) past) (e .0)) ∙ e .2)
         where
           past : m ≤ firstOf s
           past = ltb-false (firstOf s) m by-test
@@ -269,7 +269,7 @@ module _ {M : Type 1} (𝓤 : URA M) (H : Heap 𝓤) (A : Atoms 𝓤) (W : Given
           small = ltb-true (firstOf s) m by-test
 
           both : (firstOf s < 32) × (firstOf s < length ws)
-          both = below-span (firstOf s) (length ws) (subst (λ (z : ℕ). firstOf s < z) (reached ∙ ap spanOf (sym (e .1))) small)
+          both = below-span (firstOf s) (length ws) (subst (λ (z : ℕ). firstOf s < z) (spans ∙ ap spanOf (sym (e .1))) small)
 
           kept : (r : Node) → r ≡ takeOf (c .message) (getD ws (firstOf s) nobody) → actAll (c .message) (withoutFirst s) (set ws (firstOf s) r) ≡ final
           kept r is = ap (λ (z : Node). actAll (c .message) (withoutFirst s) (set ws (firstOf s) z)) is ∙ visit-next (c .message) s ws nobody (both .0) (both .1) ∙ e .2
@@ -309,30 +309,30 @@ module _ {M : Type 1} (𝓤 : URA M) (H : Heap 𝓤) (A : Atoms 𝓤) (W : Given
     starts =
         qed W (Passed (room word l₃) (room set32 l₄)) ∵ exec ! (𝓣 .C) (𝓣 .Λ) En body.t-1 (atRet En Post) $
         assigns ! (of-opd ! (load ! (from ! (fld ! refl (stop !))) (look-in ! 24 (sub ! 1 refl (whole !))))) (from ! (stop !)) (init ! 14 refl (tt, record { fits = room₀ .0 })) $
-        use0 W (raw (Reach 𝓤 H A mem run .pre to-reach)) goes-reach $
-        calls-at ! (fmOf 𝓤 H (W .laws) 𝓣) (Reach 𝓤 H A mem run) known-reach to-reach (and-then ! (load ! (from ! (stop !)) (look ! 15 refl)) (no-more !)) (λ v.
+        use0 W (raw (Span 𝓤 H A mem run .pre to-span)) goes-span $
+        calls-at ! (fmOf 𝓤 H (W .laws) 𝓣) (Span 𝓤 H A mem run) known-span to-span (and-then ! (load ! (from ! (stop !)) (look ! 15 refl)) (no-more !)) (λ v.
         use1 W (later (some (λ (m : ℕ). (‵ ftrue ⊛ ‵ (usize .own m (v ∷ []))) ⊛ raw (ensured 𝓤 H A span′.ended (span′.clauses 𝓤 H A mem run) tt (n, tt) tt m)))) (id⊢ 𝓤 _) $ await ! tt $ pick ! (λ m.
-        split ! $ move ! (1 ∷ []) $ use1 W (raw (fact 𝓤 (m ≡ spanOf n))) (reach-of m) $ heard ! (m ≡ spanOf n) (λ e. split ! $ let-go ! $
+        split ! $ move ! (1 ∷ []) $ use1 W (raw (fact 𝓤 (m ≡ spanOf n))) (span-of m) $ heard ! (m ≡ spanOf n) (λ e. split ! $ let-go ! $
         facts ! usize (Is usize) (shows 𝓤 H A usize) m (v ∷ []) (λ is.
         land ! (from ! (stop !)) (init ! 20 refl (uint-lawful 𝓤 H A W w64 .typed m _ is .0)) $
         rewrite ! 20 (λ (z : Val). has word l₃ z) (ap only (is .0)) refl $
         assigns ! (of-opd ! (load ! (from ! (fld ! {τ = set32} {d = 16} refl (stop !))) (look-in ! 22 (sub ! 1 {τ = set32} {d = 16} refl (whole !))))) (from ! (stop !)) (init ! 18 refl (tt, record { fits = acting-fits })) $
         forget ! 14 refl $ by ! (second m e)))))
 
-  walk : (𝓣 : Tables 𝓤 H) → Triple 𝓤 (𝓣 .C #chain·span) (Reach 𝓤 H A mem run) → Triple 𝓤 (𝓣 .C #survey·first) (First 𝓤 H A mem run) → Triple 𝓤 (𝓣 .C #survey·without-first) (Without 𝓤 H A mem run) → Triple 𝓤 (𝓣 .C #chain·take) (Act 𝓤 H A mem run)
+  walk : (𝓣 : Tables 𝓤 H) → Triple 𝓤 (𝓣 .C #chain·span) (Span 𝓤 H A mem run) → Triple 𝓤 (𝓣 .C #survey·first) (First 𝓤 H A mem run) → Triple 𝓤 (𝓣 .C #survey·without-first) (Without 𝓤 H A mem run) → Triple 𝓤 (𝓣 .C #chain·take) (Act 𝓤 H A mem run)
       → ent 𝓤 (onEntry 𝓤 H A act-all.signature (κ, tt) (q, tt) a vals) (WpFn 𝓤 H (𝓣 .C) (𝓣 .Λ) code.function (v₁ ∷ low c ∷ []) Post)
-  walk 𝓣 known-reach known-first known-without-first known-act =
+  walk 𝓣 known-span known-first known-without-first known-act =
       qed W ((‵ (flft κ q) ⊛ ‵ ftrue) ∷ ‵ (owns (MutSlice (named 0) κ T.the-row ∷ D.the-row ∷ []) a vals) ∷ []) ∵ enter ! (𝓣 .C) (𝓣 .Λ) code.function (v₁ ∷ low c ∷ []) _ $
       alloc1 ! (λ l₀. alloc1 ! (λ l₁. alloc1 ! (λ l₂. alloc1 ! (λ l₃. alloc1 ! (λ l₄. alloc1 ! (λ l₅. alloc1 ! (λ l₆. alloc1 ! (λ l₇. alloc1 ! (λ l₈. alloc1 ! (λ l₉. alloc1 ! (λ l₁₀. alloc1 ! (λ l₁₁. alloc1 ! (λ l₁₂. alloc1 ! (λ l₁₃. alloc0 ! $ params1 ! $
       pass1 ! (init ! 24 refl (tt, (tt, (record { fits = room₀ .0 }, tt)))) $ pass1 ! (init ! 22 refl (LL.lawful D.the-type D′.the-laws 𝓤 H A W .typed c _ gc .0)) $ pass0 ! $
-      by ! (starts 𝓣 known-reach known-first known-without-first known-act l₀ l₁ l₂ l₃ l₄ l₅ l₆ l₇ l₈ l₉ l₁₀ l₁₁ l₁₂ l₁₃)))))))))))))))
+      by ! (starts 𝓣 known-span known-first known-without-first known-act l₀ l₁ l₂ l₃ l₄ l₅ l₆ l₇ l₈ l₉ l₁₀ l₁₁ l₁₂ l₁₃)))))))))))))))
 
-module _ {M : Type 1} (𝓤 : URA M) (H : Heap 𝓤) (A : Atoms 𝓤) (W : Given 𝓤 H A) (mem : Memory → SProp 𝓤) (run : Routine → Fun 𝓤) (𝓣 : Tables 𝓤 H) (known-reach : Triple 𝓤 (𝓣 .C #chain·span) (Reach 𝓤 H A mem run)) (known-first : Triple 𝓤 (𝓣 .C #survey·first) (First 𝓤 H A mem run)) (known-without-first : Triple 𝓤 (𝓣 .C #survey·without-first) (Without 𝓤 H A mem run)) (known-act : Triple 𝓤 (𝓣 .C #chain·take) (Act 𝓤 H A mem run)) where
+module _ {M : Type 1} (𝓤 : URA M) (H : Heap 𝓤) (A : Atoms 𝓤) (W : Given 𝓤 H A) (mem : Memory → SProp 𝓤) (run : Routine → Fun 𝓤) (𝓣 : Tables 𝓤 H) (known-span : Triple 𝓤 (𝓣 .C #chain·span) (Span 𝓤 H A mem run)) (known-first : Triple 𝓤 (𝓣 .C #survey·first) (First 𝓤 H A mem run)) (known-without-first : Triple 𝓤 (𝓣 .C #survey·without-first) (Without 𝓤 H A mem run)) (known-act : Triple 𝓤 (𝓣 .C #chain·take) (Act 𝓤 H A mem run)) where
   act-all-walks : Walks 𝓤 H A act-all.ended stayed (WpFn 𝓤 H (𝓣 .C) (𝓣 .Λ) code.function) (act-all.clauses 𝓤 H A mem run)
   act-all-walks = walked 𝓤 H A act-all.ended stayed (act-all.clauses 𝓤 H A mem run) (WpFn 𝓤 H (𝓣 .C) (𝓣 .Λ) code.function)
       (λ κs. (slice-vals, (LL.vals D.the-type D′.the-laws, tt))) (λ κs. (mut-slice-tells (named 0) (κs .0) T.the-row, (LL.tells D.the-type D′.the-laws, tt)))
       (λ κs qs bounds a g are. via 𝓤 _ (fst∗ 𝓤 _ (emp 𝓤))
-      (walk 𝓤 H A W mem run (κs .0) (qs .0) (a .0 .ptr .0) (a .0 .ptr .1) (a .0 .name) (a .0 .now) (a .1 .0) (are .1 .0) (are .0 .0 .1) 𝓣 known-reach known-first known-without-first known-act))
+      (walk 𝓤 H A W mem run (κs .0) (qs .0) (a .0 .ptr .0) (a .0 .ptr .1) (a .0 .name) (a .0 .now) (a .1 .0) (are .1 .0) (are .0 .0 .1) 𝓣 known-span known-first known-without-first known-act))
 
   act-all-meets : Meets 𝓤 H A act-all.signature (WpFn 𝓤 H (𝓣 .C) (𝓣 .Λ) code.function) (act-all.spec 𝓤 H A mem run)
   act-all-meets =
@@ -345,7 +345,7 @@ act-all-spec 𝓤 H 𝓜 𝓖 𝓡 =
     entered 𝓤 H (tripleOf 𝓤 H (𝓖 .A) act-all.signature (act-all.spec 𝓤 H (𝓖 .A) (𝓜 .mem) (𝓡 .run)))
     (tables 𝓤 H 𝓜 𝓡 code.env .C) (tables 𝓤 H 𝓜 𝓡 code.env .Λ) #chain·act-all code.function (code.unfolded 𝓤 H 𝓜 𝓡)
     (act-all-meets 𝓤 H (𝓖 .A) (givenOf 𝓤 H 𝓜 𝓖) (𝓜 .mem) (𝓡 .run) (tablesOf 𝓤 H 𝓜 (tables 𝓤 H 𝓜 𝓡 code.env))
-    (cited 𝓤 H (Reach 𝓤 H (𝓖 .A) (𝓜 .mem) (𝓡 .run)) 𝓜 𝓡 code.env #chain·span span-def.routine code.calls-chain·steps·span (span-thm.met 𝓤 H 𝓜 𝓖 𝓡))
+    (cited 𝓤 H (Span 𝓤 H (𝓖 .A) (𝓜 .mem) (𝓡 .run)) 𝓜 𝓡 code.env #chain·span span-def.routine code.calls-chain·steps·span (span-thm.met 𝓤 H 𝓜 𝓖 𝓡))
     (cited 𝓤 H (First 𝓤 H (𝓖 .A) (𝓜 .mem) (𝓡 .run)) 𝓜 𝓡 code.env #survey·first first-def.routine code.calls-survey·first (first-thm.met 𝓤 H 𝓜 𝓖 𝓡))
     (cited 𝓤 H (Without 𝓤 H (𝓖 .A) (𝓜 .mem) (𝓡 .run)) 𝓜 𝓡 code.env #survey·without-first without-first-def.routine code.calls-survey·without-first (without-first-thm.met 𝓤 H 𝓜 𝓖 𝓡))
     (cited 𝓤 H (Act 𝓤 H (𝓖 .A) (𝓜 .mem) (𝓡 .run)) 𝓜 𝓡 code.env #chain·take take-def.routine code.calls-chain·steps·take (take-thm.met 𝓤 H 𝓜 𝓖 𝓡)))

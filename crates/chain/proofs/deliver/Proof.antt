@@ -81,8 +81,8 @@ Dy = spell body.table (pointee (Y.the-row .written))
 
 module _ {M : Type 1} (𝓤 : URA M) (H : Heap 𝓤) (A : Atoms 𝓤) (mem : Memory → SProp 𝓤) (run : Routine → Fun 𝓤) where
   -- the contracts that the proof cites
-  abbrev Hear : Contract 𝓤
-  Hear = tripleOf 𝓤 H A receive′.signature (receive′.spec 𝓤 H A mem run)
+  abbrev Receive : Contract 𝓤
+  Receive = tripleOf 𝓤 H A receive′.signature (receive′.spec 𝓤 H A mem run)
 
   abbrev SurveyAll : Contract 𝓤
   SurveyAll = tripleOf 𝓤 H A survey-all′.signature (survey-all′.spec 𝓤 H A mem run)
@@ -146,15 +146,15 @@ module _ {M : Type 1} (𝓤 : URA M) (H : Heap 𝓤) (A : Atoms 𝓤) (W : Given
       frame ! $ frame ! $ owned ! Y.the-row (Is Y.the-row) (EL.makes Y.the-type Y′.the-plain 𝓤 H A) r _ gr $ done !
 
   -- ---- the calls: what each callee's triple binds outside, that the caller has what it asks, and what it is told
-  abbrev to-hear : Hear 𝓤 H A mem run .Ghost
-  to-hear = (((κ₁, tt), (q₁, tt), tt, (pk, tt), (v₂ ∷ [], tt)), tt)
+  abbrev to-receive : Receive 𝓤 H A mem run .Ghost
+  to-receive = (((κ₁, tt), (q₁, tt), tt, (pk, tt), (v₂ ∷ [], tt)), tt)
 
-  goes-hear : ent 𝓤 (⋆ 𝓤 H A (‵ (flft κ₁ q₁) ∷ Packet ∷ [])) (Hear 𝓤 H A mem run .pre to-hear)
-  goes-hear =
+  goes-receive : ent 𝓤 (⋆ 𝓤 H A (‵ (flft κ₁ q₁) ∷ Packet ∷ [])) (Receive 𝓤 H A mem run .pre to-receive)
+  goes-receive =
       qed W (‵ (flft κ₁ q₁) ∷ Packet ∷ []) ∵ nothing ! $ move ! (2 ∷ 0 ∷ []) $ fjoin ! $ nothing ! $ move ! (2 ∷ 0 ∷ []) $ join ! $ join ! $ frame ! $ done !
 
-  hear-of : (c : Incoming) → ent 𝓤 (ensured 𝓤 H A receive′.ended (receive′.clauses 𝓤 H A mem run) (κ₁, tt) (pk, tt) tt c) (fact 𝓤 (c ≡ receiveOf (pk .now)))
-  hear-of c = tells 𝓤 H A (lasts receive′.ended (κ₁, tt) (pk, tt)) (c ≡ receiveOf (pk .now))
+  receive-of : (c : Incoming) → ent 𝓤 (ensured 𝓤 H A receive′.ended (receive′.clauses 𝓤 H A mem run) (κ₁, tt) (pk, tt) tt c) (fact 𝓤 (c ≡ receiveOf (pk .now)))
+  receive-of c = tells 𝓤 H A (lasts receive′.ended (κ₁, tt) (pk, tt)) (c ≡ receiveOf (pk .now))
 
   abbrev to-survey : ℕ → GName → Incoming → Val → SurveyAll 𝓤 H A mem run .Ghost
   to-survey ν δ c mc = (((ν ∷ [], tt), (fullShare, tt), tt, (x δ, (c, tt)), (v₁ ∷ [], (mc ∷ [], tt))), tt)
@@ -194,7 +194,7 @@ module _ {M : Type 1} (𝓤 : URA M) (H : Heap 𝓤) (A : Atoms 𝓤) (W : Given
   answer-of-of : (d : Decided) (r : Delivery) → ent 𝓤 (ensured 𝓤 H A answer-of′.ended (answer-of′.clauses 𝓤 H A mem run) tt (d, tt) tt r) (fact 𝓤 (r ≡ d .answer))
   answer-of-of d r = tells 𝓤 H A (lasts answer-of′.ended tt (d, tt)) (r ≡ d .answer)
 
-  module _ (𝓣 : Tables 𝓤 H) (known-hear : Triple 𝓤 (𝓣 .C #survey·receive) (Hear 𝓤 H A mem run)) (known-survey : Triple 𝓤 (𝓣 .C #chain·survey-all) (SurveyAll 𝓤 H A mem run)) (known-decide : Triple 𝓤 (𝓣 .C #survey·decide) (Decide 𝓤 H A mem run)) (known-act : Triple 𝓤 (𝓣 .C #chain·act-all) (ActAll 𝓤 H A mem run)) (known-answer : Triple 𝓤 (𝓣 .C #chain·answer-of) (AnswerOf 𝓤 H A mem run)) (l₀ l₁ l₂ l₃ l₄ l₅ l₆ l₇ l₈ l₉ l₁₀ l₁₁ l₁₂ l₁₃ : ℕ) where
+  module _ (𝓣 : Tables 𝓤 H) (known-receive : Triple 𝓤 (𝓣 .C #survey·receive) (Receive 𝓤 H A mem run)) (known-survey : Triple 𝓤 (𝓣 .C #chain·survey-all) (SurveyAll 𝓤 H A mem run)) (known-decide : Triple 𝓤 (𝓣 .C #survey·decide) (Decide 𝓤 H A mem run)) (known-act : Triple 𝓤 (𝓣 .C #chain·act-all) (ActAll 𝓤 H A mem run)) (known-answer : Triple 𝓤 (𝓣 .C #chain·answer-of) (AnswerOf 𝓤 H A mem run)) (l₀ l₁ l₂ l₃ l₄ l₅ l₆ l₇ l₈ l₉ l₁₀ l₁₁ l₁₂ l₁₃ : ℕ) where
     abbrev En : Env 𝓤 H
     En = (Dy, l₀) ∷ ((sliceIn 0 mut Nd), l₁) ∷ ((sliceIn 1 imm byte), l₂) ∷ ((sliceIn 2 mut byte), l₃) ∷ (In, l₄) ∷ (Su, l₅) ∷ (De, l₆) ∷ ((tyRef erased imm Nd), l₇) ∷ ((sliceHere imm Nd), l₈) ∷ ((tyRef erased mut byte), l₉) ∷ ((sliceHere mut byte), l₁₀) ∷ (tyUnit, l₁₁) ∷ ((tyRef erased mut Nd), l₁₂) ∷ ((sliceHere mut Nd), l₁₃) ∷ []
 
@@ -297,30 +297,30 @@ module _ {M : Type 1} (𝓤 : URA M) (H : Heap 𝓤) (A : Atoms 𝓤) (W : Given
         move ! (29 ∷ []) $ fsplit ! $ move ! (1 ∷ []) $ fsplit ! $ move ! (1 ∷ []) $ fsplit ! $ move ! (32 ∷ []) $ split ! $ move ! (1 ∷ []) $ split ! $ move ! (1 ∷ []) $ split ! $
         -- [the reply's token; true; the packet's; the table's; Reply; true; Packet; Table; _13; …]: the packet is Copy
         move ! (6 ∷ []) $ use1 W (Packet ⊛ Packet) (shr-slice-copy 𝓤 H A W (named 1) κ₁ u8 .twice pk (v₂ ∷ [])) $ split ! $
-        move ! (4 ∷ 0 ∷ []) $ use2 W (raw (Hear 𝓤 H A mem run .pre to-hear)) goes-hear $
+        move ! (4 ∷ 0 ∷ []) $ use2 W (raw (Receive 𝓤 H A mem run .pre to-receive)) goes-receive $
         -- [what `receive` asks; Packet; the reply's token; true; the table's; Reply; true; Table; _13; …]
-        calls-at ! (fmOf 𝓤 H (W .laws) 𝓣) (Hear 𝓤 H A mem run) known-hear to-hear (and-then ! (load ! (from ! (stop !)) (look ! 30 refl)) (no-more !)) (λ v.
+        calls-at ! (fmOf 𝓤 H (W .laws) 𝓣) (Receive 𝓤 H A mem run) known-receive to-receive (and-then ! (load ! (from ! (stop !)) (look ! 30 refl)) (no-more !)) (λ v.
         use1 W (later (some (λ (c : Incoming). ((‵ (flft κ₁ q₁) ⊛ ‵ ftrue) ⊛ ‵ (I.the-row .own c (v ∷ []))) ⊛ raw (ensured 𝓤 H A receive′.ended (receive′.clauses 𝓤 H A mem run) (κ₁, tt) (pk, tt) tt c)))) (id⊢ 𝓤 _) $ await ! tt $ pick ! (λ c.
-        split ! $ move ! (1 ∷ []) $ use1 W (raw (fact 𝓤 (c ≡ receiveOf (pk .now)))) (hear-of c) $ heard ! (c ≡ receiveOf (pk .now)) (λ e. split ! $ move ! (1 ∷ []) $
+        split ! $ move ! (1 ∷ []) $ use1 W (raw (fact 𝓤 (c ≡ receiveOf (pk .now)))) (receive-of c) $ heard ! (c ≡ receiveOf (pk .now)) (λ e. split ! $ move ! (1 ∷ []) $
         facts ! I.the-row (Is I.the-row) (shows 𝓤 H A I.the-row) c (v ∷ []) (λ is.
         land ! (from ! (stop !)) (init ! 26 refl (EL.lawful I.the-type I′.the-laws 𝓤 H A W tt .typed c _ is .0)) $ split ! $
         -- [the packet's token; true; Packet; the reply's; true; the table's; Reply; true; Table; _13; …]
         keep ! (9 ∷ 10 ∷ 11 ∷ 12 ∷ 13 ∷ 14 ∷ 15 ∷ 16 ∷ 17 ∷ 18 ∷ 19 ∷ 20 ∷ 21 ∷ 22 ∷ 23 ∷ 24 ∷ 25 ∷ 26 ∷ 27 ∷ 28 ∷ 29 ∷ 30 ∷ 31 ∷ 32 ∷ 33 ∷ 34 ∷ 35 ∷ 36 ∷ 5 ∷ 0 ∷ 3 ∷ 8 ∷ 2 ∷ 6 ∷ []) $ by ! (second c v is e)))))
 
-  walk : (𝓣 : Tables 𝓤 H) → Triple 𝓤 (𝓣 .C #survey·receive) (Hear 𝓤 H A mem run) → Triple 𝓤 (𝓣 .C #chain·survey-all) (SurveyAll 𝓤 H A mem run) → Triple 𝓤 (𝓣 .C #survey·decide) (Decide 𝓤 H A mem run) → Triple 𝓤 (𝓣 .C #chain·act-all) (ActAll 𝓤 H A mem run) → Triple 𝓤 (𝓣 .C #chain·answer-of) (AnswerOf 𝓤 H A mem run)
+  walk : (𝓣 : Tables 𝓤 H) → Triple 𝓤 (𝓣 .C #survey·receive) (Receive 𝓤 H A mem run) → Triple 𝓤 (𝓣 .C #chain·survey-all) (SurveyAll 𝓤 H A mem run) → Triple 𝓤 (𝓣 .C #survey·decide) (Decide 𝓤 H A mem run) → Triple 𝓤 (𝓣 .C #chain·act-all) (ActAll 𝓤 H A mem run) → Triple 𝓤 (𝓣 .C #chain·answer-of) (AnswerOf 𝓤 H A mem run)
       → ent 𝓤 (onEntry 𝓤 H A deliver.signature (κ₀, (κ₁, (κ₂, tt))) (q₀, (q₁, (q₂, tt))) a vals) (WpFn 𝓤 H (𝓣 .C) (𝓣 .Λ) code.function (v₁ ∷ v₂ ∷ v₃ ∷ []) Post)
-  walk 𝓣 known-hear known-survey known-decide known-act known-answer =
+  walk 𝓣 known-receive known-survey known-decide known-act known-answer =
       qed W ((‵ (flft κ₀ q₀) ⊛ Toks) ∷ ‵ (owns (MutSlice (named 0) κ₀ T.the-row ∷ ShrSlice (named 1) κ₁ u8 ∷ MutSlice (named 2) κ₂ u8 ∷ []) a vals) ∷ []) ∵ enter ! (𝓣 .C) (𝓣 .Λ) code.function (v₁ ∷ v₂ ∷ v₃ ∷ []) _ $
       alloc1 ! (λ l₀. alloc1 ! (λ l₁. alloc1 ! (λ l₂. alloc1 ! (λ l₃. alloc1 ! (λ l₄. alloc1 ! (λ l₅. alloc1 ! (λ l₆. alloc1 ! (λ l₇. alloc1 ! (λ l₈. alloc1 ! (λ l₉. alloc1 ! (λ l₁₀. alloc1 ! (λ l₁₁. alloc1 ! (λ l₁₂. alloc1 ! (λ l₁₃. alloc0 ! $ params1 ! $
       pass1 ! (init ! 24 refl (tt, (tt, (record { fits = room₀ .0 }, tt)))) $ pass1 ! (init ! 22 refl (tt, (tt, (record { fits = room₁ .0 }, tt)))) $ pass1 ! (init ! 20 refl (tt, (tt, (record { fits = room₂ .0 }, tt)))) $ pass0 ! $
-      by ! (first 𝓣 known-hear known-survey known-decide known-act known-answer l₀ l₁ l₂ l₃ l₄ l₅ l₆ l₇ l₈ l₉ l₁₀ l₁₁ l₁₂ l₁₃)))))))))))))))
+      by ! (first 𝓣 known-receive known-survey known-decide known-act known-answer l₀ l₁ l₂ l₃ l₄ l₅ l₆ l₇ l₈ l₉ l₁₀ l₁₁ l₁₂ l₁₃)))))))))))))))
 
-module _ {M : Type 1} (𝓤 : URA M) (H : Heap 𝓤) (A : Atoms 𝓤) (W : Given 𝓤 H A) (mem : Memory → SProp 𝓤) (run : Routine → Fun 𝓤) (𝓣 : Tables 𝓤 H) (known-hear : Triple 𝓤 (𝓣 .C #survey·receive) (Hear 𝓤 H A mem run)) (known-survey : Triple 𝓤 (𝓣 .C #chain·survey-all) (SurveyAll 𝓤 H A mem run)) (known-decide : Triple 𝓤 (𝓣 .C #survey·decide) (Decide 𝓤 H A mem run)) (known-act : Triple 𝓤 (𝓣 .C #chain·act-all) (ActAll 𝓤 H A mem run)) (known-answer : Triple 𝓤 (𝓣 .C #chain·answer-of) (AnswerOf 𝓤 H A mem run)) where
+module _ {M : Type 1} (𝓤 : URA M) (H : Heap 𝓤) (A : Atoms 𝓤) (W : Given 𝓤 H A) (mem : Memory → SProp 𝓤) (run : Routine → Fun 𝓤) (𝓣 : Tables 𝓤 H) (known-receive : Triple 𝓤 (𝓣 .C #survey·receive) (Receive 𝓤 H A mem run)) (known-survey : Triple 𝓤 (𝓣 .C #chain·survey-all) (SurveyAll 𝓤 H A mem run)) (known-decide : Triple 𝓤 (𝓣 .C #survey·decide) (Decide 𝓤 H A mem run)) (known-act : Triple 𝓤 (𝓣 .C #chain·act-all) (ActAll 𝓤 H A mem run)) (known-answer : Triple 𝓤 (𝓣 .C #chain·answer-of) (AnswerOf 𝓤 H A mem run)) where
   deliver-walks : Walks 𝓤 H A deliver.ended stayed (WpFn 𝓤 H (𝓣 .C) (𝓣 .Λ) code.function) (deliver.clauses 𝓤 H A mem run)
   deliver-walks = walked 𝓤 H A deliver.ended stayed (deliver.clauses 𝓤 H A mem run) (WpFn 𝓤 H (𝓣 .C) (𝓣 .Λ) code.function)
       (λ κs. (slice-vals, (slice-vals, (slice-vals, tt)))) (λ κs. (mut-slice-tells (named 0) (κs .0) T.the-row, (shr-slice-tells (named 1) (κs .1 .0) u8, (mut-slice-tells (named 2) (κs .1 .1 .0) u8, tt))))
       (λ κs qs bounds a g are. via 𝓤 _ (fst∗ 𝓤 _ (emp 𝓤))
-      (walk 𝓤 H A W mem run (κs .0) (κs .1 .0) (κs .1 .1 .0) (qs .0) (qs .1 .0) (qs .1 .1 .0) (a .0 .ptr .0) (a .0 .ptr .1) (a .0 .name) (a .0 .now) (a .1 .0) (a .1 .1 .0) (are .0 .0 .1) (are .1 .0 .0 .1) (are .1 .1 .0 .0 .1) 𝓣 known-hear known-survey known-decide known-act known-answer))
+      (walk 𝓤 H A W mem run (κs .0) (κs .1 .0) (κs .1 .1 .0) (qs .0) (qs .1 .0) (qs .1 .1 .0) (a .0 .ptr .0) (a .0 .ptr .1) (a .0 .name) (a .0 .now) (a .1 .0) (a .1 .1 .0) (are .0 .0 .1) (are .1 .0 .0 .1) (are .1 .1 .0 .0 .1) 𝓣 known-receive known-survey known-decide known-act known-answer))
 
   deliver-meets : Meets 𝓤 H A deliver.signature (WpFn 𝓤 H (𝓣 .C) (𝓣 .Λ) code.function) (deliver.spec 𝓤 H A mem run)
   deliver-meets =
@@ -333,7 +333,7 @@ deliver-spec 𝓤 H 𝓜 𝓖 𝓡 =
     entered 𝓤 H (tripleOf 𝓤 H (𝓖 .A) deliver.signature (deliver.spec 𝓤 H (𝓖 .A) (𝓜 .mem) (𝓡 .run)))
     (tables 𝓤 H 𝓜 𝓡 code.env .C) (tables 𝓤 H 𝓜 𝓡 code.env .Λ) #chain·deliver code.function (code.unfolded 𝓤 H 𝓜 𝓡)
     (deliver-meets 𝓤 H (𝓖 .A) (givenOf 𝓤 H 𝓜 𝓖) (𝓜 .mem) (𝓡 .run) (tablesOf 𝓤 H 𝓜 (tables 𝓤 H 𝓜 𝓡 code.env))
-    (cited 𝓤 H (Hear 𝓤 H (𝓖 .A) (𝓜 .mem) (𝓡 .run)) 𝓜 𝓡 code.env #survey·receive receive-def.routine code.calls-survey·receive (receive-thm.met 𝓤 H 𝓜 𝓖 𝓡))
+    (cited 𝓤 H (Receive 𝓤 H (𝓖 .A) (𝓜 .mem) (𝓡 .run)) 𝓜 𝓡 code.env #survey·receive receive-def.routine code.calls-survey·receive (receive-thm.met 𝓤 H 𝓜 𝓖 𝓡))
     (cited 𝓤 H (SurveyAll 𝓤 H (𝓖 .A) (𝓜 .mem) (𝓡 .run)) 𝓜 𝓡 code.env #chain·survey-all survey-all-def.routine code.calls-chain·survey-all (survey-all-thm.met 𝓤 H 𝓜 𝓖 𝓡))
     (cited 𝓤 H (Decide 𝓤 H (𝓖 .A) (𝓜 .mem) (𝓡 .run)) 𝓜 𝓡 code.env #survey·decide decide-def.routine code.calls-survey·decide (decide-thm.met 𝓤 H 𝓜 𝓖 𝓡))
     (cited 𝓤 H (ActAll 𝓤 H (𝓖 .A) (𝓜 .mem) (𝓡 .run)) 𝓜 𝓡 code.env #chain·act-all act-all-def.routine code.calls-chain·act-all (act-all-thm.met 𝓤 H 𝓜 𝓖 𝓡))

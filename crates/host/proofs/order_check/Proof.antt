@@ -5,9 +5,9 @@ use Rattle.host.specs.Calls.{orderCheck}
 use Rattle.host.proofs.order_check.Statement.{statement}
 use Rattle.host.proofs.order_check.Tie as tie
 
-in-order : tie.Need-returns
+in-sequence : tie.Need-returns
 unfolding orderCheck
-in-order c = promised (rw (c .refuse-if4 .ensures .answer, c .before .before .refuse-if3 .ensures .answer, c .before .before .before .off-chain .ensures, c .before .before .before .before .refuse-if2 .ensures .answer, c .before .before .before .before .before .is-bad-group .ensures, c .before .before .before .before .before .before .refuse-if .ensures .answer, c .before .before .before .before .before .before .before .is-placing .ensures, c .before .before .before .before .before .before .before .before .role .ensures, c .before .before .before .before .before .before .before .before .before .ready-check .ensures .answer))
+in-sequence c = promised (rw (c .refuse-if4 .ensures .answer, c .before .before .refuse-if3 .ensures .answer, c .before .before .before .off-chain .ensures, c .before .before .before .before .refuse-if2 .ensures .answer, c .before .before .before .before .before .is-bad-group .ensures, c .before .before .before .before .before .before .refuse-if .ensures .answer, c .before .before .before .before .before .before .before .is-placing .ensures, c .before .before .before .before .before .before .before .before .role .ensures, c .before .before .before .before .before .before .before .before .before .free-check .ensures .answer))
 
 pub order-check-spec : {M : Type 1} → statement M
 order-check-spec =
@@ -22,4 +22,4 @@ order-check-spec =
     (λ c κs. search needs)
     (λ c κs. search needs)
     (λ c κs. search needs)
-    in-order)
+    in-sequence)

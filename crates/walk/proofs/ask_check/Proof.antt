@@ -5,9 +5,9 @@ use Rattle.walk.specs.Walk.{askCheck}
 use Rattle.walk.proofs.ask_check.Statement.{statement}
 use Rattle.walk.proofs.ask_check.Tie as tie
 
-in-order : tie.Need-returns
+in-sequence : tie.Need-returns
 unfolding askCheck
-in-order c = promised (rw (c .refuse-if2 .ensures .answer, c .before .is-ask-due .ensures, c .before .before .refuse-if .ensures .answer, c .before .before .before .before .ready-check .ensures .answer))
+in-sequence c = promised (rw (c .refuse-if2 .ensures .answer, c .before .is-ask-due .ensures, c .before .before .refuse-if .ensures .answer, c .before .before .before .before .free-check .ensures .answer))
 
 pub ask-check-spec : {M : Type 1} → statement M
 ask-check-spec =
@@ -17,4 +17,4 @@ ask-check-spec =
     (λ c κs. search needs)
     (λ c κs. search needs)
     (λ c κs. search needs)
-    in-order)
+    in-sequence)

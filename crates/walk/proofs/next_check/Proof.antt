@@ -5,9 +5,9 @@ use Rattle.walk.specs.Walk.{nextCheck}
 use Rattle.walk.proofs.next_check.Statement.{statement}
 use Rattle.walk.proofs.next_check.Tie as tie
 
-in-order : tie.Need-returns
+in-sequence : tie.Need-returns
 unfolding nextCheck
-in-order c = promised (rw (c .refuse-if2 .ensures .answer, c .before .is-ask-due .ensures, c .before .before .refuse-if .ensures .answer, c .before .before .before .before .ready-check .ensures .answer))
+in-sequence c = promised (rw (c .refuse-if2 .ensures .answer, c .before .is-ask-due .ensures, c .before .before .refuse-if .ensures .answer, c .before .before .before .before .free-check .ensures .answer))
 
 pub next-check-spec : {M : Type 1} → statement M
 next-check-spec =
@@ -17,4 +17,4 @@ next-check-spec =
     (λ c κs. search needs)
     (λ c κs. search needs)
     (λ c κs. search needs)
-    in-order)
+    in-sequence)

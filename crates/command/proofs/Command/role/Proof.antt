@@ -1,4 +1,4 @@
--- In each arm the command is known, and the table's line for it is what is returned.
+-- In each arm the command is known, and the table's row for it is what is returned.
 use borrow.Author.Needs.{needs}
 use mathlib.Core.Path.{_≡_, sym, ap, _∙_}
 use Rattle.command.specs.Role.{roleOf}

@@ -1,4 +1,4 @@
--- Who hears and is called replies.
+-- Who hears and answers replies.
 use borrow.Author.Needs.{needs}
 use Rattle.survey.proofs.Ones.{replies-are}
 use Rattle.survey.proofs.one.does_reply.Statement.{statement}

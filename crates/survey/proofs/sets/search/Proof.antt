@@ -2,12 +2,12 @@
 use Prim.Native.Nat.{_-_}
 use mathlib.Core.Logic.{⊎-elim}
 use borrow.Author.Needs.{needs}
-use Rattle.survey.proofs.Searching.{Going, search-start, search-end, search-past, search-first, search-last, search-second, not-none}
+use Rattle.survey.proofs.Searching.{Searched, search-start, search-end, search-past, search-first, search-last, search-second, not-none}
 use Rattle.survey.proofs.sets.search.Statement.{statement}
 use Rattle.survey.proofs.sets.search.Tie as tie
 
 abbrev Inv-loop : tie.InvT-loop
-Inv-loop replying n rest₀ found₀ i₀ rest found i = Going replying n rest i found
+Inv-loop replying n rest₀ found₀ i₀ rest found i = Searched replying n rest i found
 
 abbrev μ-loop : tie.MeasureT-loop
 μ-loop replying n rest₀ found₀ i₀ rest found i = n - i

@@ -10,7 +10,7 @@ use lib.Dec.{ltb, eqb}
 use borrow.Author.Tests.{eqb-true, eq-eqb, le-ltb, ltb-false, not-false}
 use Rattle.buffer.specs.Sum.{withSum}
 use Rattle.wire.specs.Address.{addressOf, byteOf}
-use Rattle.packet.specs.Packet.{commandOf, countOf, endOf, followed, partsOf, dataPart, frameOf, isIntact, checked, readOf}
+use Rattle.packet.specs.Packet.{commandOf, countOf, endOf, partsOf, dataPart, frontOf, alone, frameOf, isIntact, checked, readOf}
 use Rattle.packet.specs.Build.{headOf, packetOf, buildOf}
 use Rattle.buffer.specs.Buffer.{atStart}
 use Rattle.buffer.specs.Change.{AllBytes, Changed, Damaged}
@@ -30,6 +30,38 @@ use Rattle.buffer.proofs.Sums.{length-with-sum, with-sum-ends, ends-shape, chan
 refused-not : (why : Refusal) (a : Address) (c n : ℕ) → Refused why ≡ Whole a c n → ⊥
 refused-not why a c n e = impossible cc
 
+-- what the checks of the front find of a packet that they pass: at the start of the bytes, whatever follows
+pub record Fronting (s : List ℕ) (a : Address) (c n : ℕ) : Type 0 where
+  pub header : getD s 0 0 ≡ 0xAA
+  pub address : addressOf (getD s 1 0) ≡ a
+  pub command : commandOf s ≡ c
+  pub end : endOf s ≡ n
+  pub reaches : n ≤ length s
+
+pub fronting : (s : List ℕ) (a : Address) (c n : ℕ) → frontOf s ≡ Whole a c n → Fronting s a c n
+unfolding frontOf
+fronting s a c n e =
+    let t1 = chose-second (ltb (length s) 1) e (refused-not Short a c n) in
+    let t2 = chose-second (not (eqb (getD s 0 0) 0xAA)) (t1 .1) (refused-not Header a c n) in
+    let t3 = chose-second (ltb (length s) 4) (t2 .1) (refused-not Short a c n) in
+    let t4 = chose-second (ltb (length s) (endOf s)) (t3 .1) (refused-not Short a c n) in
+    let k : endOf s ≡ n = cc (t4 .1) in
+    record {
+      header = eqb-true _ _ (not-false _ (t2 .0));
+      address = cc (t4 .1);
+      command = cc (t4 .1);
+      end = k;
+      reaches = omega (arith, ltb-false);
+    }
+
+-- what stands alone is what was found, and ends where the bytes do
+alone-says : (s : List ℕ) (f : Framed) (a : Address) (c n : ℕ) → alone s f ≡ Whole a c n → (f ≡ Whole a c n) × (length s ≤ n)
+alone-says s (Whole a′ c′ n′) a c n e =
+    let t = chose-second (ltb n′ (length s)) e (refused-not Long a c n) in
+    let k : n′ ≡ n = cc (t .1) in
+    (t .1, omega (arith, ltb-false))
+alone-says s (Refused why) a c n e = absurd (refused-not why a c n e)
+
 -- what the checks but for the sum find of a packet that they pass
 pub record Framing (s : List ℕ) (a : Address) (c n : ℕ) : Type 0 where
   pub size : length s ≡ n
@@ -41,31 +73,25 @@ pub record Framing (s : List ℕ) (a : Address) (c n : ℕ) : Type 0 where
 pub framing : (s : List ℕ) (a : Address) (c n : ℕ) → frameOf s ≡ Whole a c n → Framing s a c n
 unfolding frameOf
 framing s a c n e =
-    let t1 = chose-second (ltb (length s) 1) e (refused-not Short a c n) in
-    let t2 = chose-second (not (eqb (getD s 0 0) 0xAA)) (t1 .1) (refused-not Header a c n) in
-    let t3 = chose-second (ltb (length s) 4) (t2 .1) (refused-not Short a c n) in
-    let t4 = chose-second (ltb (length s) (endOf s)) (t3 .1) (refused-not Short a c n) in
-    let t5 = chose-second (followed s) (t4 .1) (refused-not Long a c n) in
-    let k : endOf s ≡ n = cc (t5 .1) in
-    record {
-      size = omega (arith, ltb-false);
-      header = eqb-true _ _ (not-false _ (t2 .0));
-      address = cc (t5 .1);
-      command = cc (t5 .1);
-      end = k;
-    }
+    let t = alone-says s (frontOf s) a c n e in
+    let f = fronting s a c n (t .0) in
+    record { size = omega (arith, t .1, f .reaches); header = f .header; address = f .address; command = f .command; end = f .end }
 
--- the checks but for the sum pass
-pub frames : (s : List ℕ) → length s ≡ endOf s → getD s 0 0 ≡ 0xAA → frameOf s ≡ partsOf s
-unfolding frameOf
-frames s e h =
+-- the checks of the front pass
+pub fronts : (s : List ℕ) → endOf s ≤ length s → getD s 0 0 ≡ 0xAA → frontOf s ≡ partsOf s
+unfolding frontOf
+fronts s e h =
     simp (
       le-ltb (length s) 1 (omega arith),
       eq-eqb (getD s 0 0) 0xAA h,
       le-ltb (length s) 4 (omega arith),
       le-ltb (length s) (endOf s) (omega arith),
-      le-ltb (endOf s) (length s) (omega arith),
     )
+
+-- the checks but for the sum pass
+pub frames : (s : List ℕ) → length s ≡ endOf s → getD s 0 0 ≡ 0xAA → frameOf s ≡ partsOf s
+unfolding frameOf
+frames s e h = rw (fronts s (omega arith) h, le-ltb (endOf s) (length s) (omega arith))
 
 -- a whole packet with a right sum reads as its parts
 pub reads : (s : List ℕ) (a : Address) (c n : ℕ) → frameOf s ≡ Whole a c n → isIntact s ≡ true → readOf s ≡ Whole a c n

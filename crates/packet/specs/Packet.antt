@@ -26,10 +26,6 @@ endOf s = 4 + countOf s
 abbrev pub partsOf : List ℕ → Framed
 partsOf s = Whole (addressOf (getD s 1 0)) (commandOf s) (endOf s)
 
--- bytes follow the packet
-abbrev pub followed : List ℕ → Bool
-followed s = ltb (endOf s) (length s)
-
 -- "its fourth byte", counted from 0
 abbrev pub dataFrom : ℕ
 dataFrom = 3
@@ -38,15 +34,22 @@ dataFrom = 3
 unfoldable pub dataPart : List ℕ → List ℕ
 dataPart s = take (countOf s) (drop dataFrom s)
 
--- "empty, 1; first byte not 0xAA, 2; fewer than 4 bytes or fewer than 4 + count, 1; more, 3"
-unfoldable pub frameOf : List ℕ → Framed
-frameOf s =
+-- "empty, 1; first byte not 0xAA, 2; fewer than 4 bytes or fewer than 4 + count, 1", whatever follows the packet
+unfoldable pub frontOf : List ℕ → Framed
+frontOf s =
     cond (ltb (length s) 1) (Refused Short)
     (cond (not (eqb (getD s 0 0) 0xAA)) (Refused Header)
     (cond (ltb (length s) 4) (Refused Short)
     (cond (ltb (length s) (endOf s)) (Refused Short)
-    (cond (followed s) (Refused Long)
-    (partsOf s)))))
+    (partsOf s))))
+
+-- "more, 3": what is found ends where the bytes do
+abbrev pub alone : List ℕ → Framed → Framed
+alone s (Whole a c e) = cond (ltb e (length s)) (Refused Long) (Whole a c e)
+alone s (Refused why) = Refused why
+
+unfoldable pub frameOf : List ℕ → Framed
+frameOf s = alone s (frontOf s)
 
 -- the sum is right; "the header isn't in it"
 unfoldable pub isIntact : List ℕ → Bool

@@ -10,7 +10,7 @@ ghost use lib.ListN.{length, drop};
 ghost use Prim.Native.Nat.{_+_, _≤_};
 ghost use Rattle.wire.specs.Promise.{Promise, Lending};
 ghost use Rattle.wire.specs.Part.{Part};
-ghost use Rattle.packet.specs.Packet.{frameOf, framedNumber, isIntact, readOf, dataFrom, dataPart};
+ghost use Rattle.packet.specs.Packet.{frontOf, frameOf, framedNumber, isIntact, readOf, dataFrom, dataPart};
 ghost use Rattle.buffer.specs.Buffer.{builtNumber};
 ghost use Rattle.packet.specs.Build.{packetWith, buildOf};
 
@@ -43,9 +43,9 @@ impl Framed {
     }
 }
 
-// One whole command packet, whatever its sum: the chain takes a wrong sum too.
-pub fn frame(s: &[u8]) -> Framed
-    ensures { λ r. ⌜ Promise framedNumber r (frameOf (now (s .entry))) ⌝ }
+// The packet at the front of some bytes, whatever its sum and whatever follows it.
+fn front(s: &[u8]) -> Framed
+    ensures { λ r. ⌜ r ≡ frontOf (now (s .entry)) ⌝ }
 {
     if s.len() < 1 {
         return Framed::Refused(Refusal::Short);
@@ -61,14 +61,35 @@ pub fn frame(s: &[u8]) -> Framed
     if s.len() < end {
         return Framed::Refused(Refusal::Short);
     }
-    // Here alone is it a fault that bytes follow the packet.
-    if end < s.len() {
-        return Framed::Refused(Refusal::Long);
-    }
     Framed::Whole {
         address: Address::of(s[1]),
         command: head % 16,
         end,
+    }
+}
+
+// One whole command packet, whatever its sum: the chain takes a wrong sum too.
+pub fn frame(s: &[u8]) -> Framed
+    ensures { λ r. ⌜ Promise framedNumber r (frameOf (now (s .entry))) ⌝ }
+{
+    match front(s) {
+        Framed::Whole {
+            address,
+            command,
+            end,
+        } => {
+            // Here alone is it a fault that bytes follow the packet.
+            if end < s.len() {
+                Framed::Refused(Refusal::Long)
+            } else {
+                Framed::Whole {
+                    address,
+                    command,
+                    end,
+                }
+            }
+        }
+        Framed::Refused(fault) => Framed::Refused(fault),
     }
 }
 

@@ -3,7 +3,7 @@ use mathlib.Core.List.{map}
 use mathlib.Core.Path.{_≡_, refl}
 use Rattle.buffer.specs.Buffer.{written}
 use Rattle.buffer.specs.Sum.{total, endsInSum}
-use Rattle.packet.specs.Packet.{dataPart, frameOf, isIntact}
+use Rattle.packet.specs.Packet.{dataPart, frontOf, frameOf, isIntact}
 use Rattle.command.specs.Command.{listedOf, commandRead}
 use Rattle.text.specs.Digits.{valueOf, oneDigit, twoDigits, decimalOf, readDecimal}
 use Rattle.hex.specs.Digits.{digitOf, characterOf}
@@ -19,9 +19,9 @@ use Rattle.script.specs.Bench.{startOf, playOf, runOf, runWith, rehearse
 use Rattle.script.specs.Example.{Rehearsal, paper, edges}
 
 pub example : rehearseOf (paper .input) ≡ paper .output
-unfolding written total endsInSum dataPart frameOf isIntact listedOf commandRead valueOf oneDigit twoDigits decimalOf readDecimal digitOf characterOf hexRest pairBy readPair replyItems replyOf doesAct doesReply turned isRanged after replierIn said valid deliveredTo deliverOf tableDeliver numberEnd startOf playOf runOf runWith rehearseOf
+unfolding written total endsInSum dataPart frontOf frameOf isIntact listedOf commandRead valueOf oneDigit twoDigits decimalOf readDecimal digitOf characterOf hexRest pairBy readPair replyItems replyOf doesAct doesReply turned isRanged after replierIn said valid deliveredTo deliverOf tableDeliver numberEnd startOf playOf runOf runWith rehearseOf
 example = refl
 
 pub edge : map (λ (e : Rehearsal). rehearseOf (e .input)) edges ≡ map (λ (e : Rehearsal). e .output) edges
-unfolding written total endsInSum dataPart frameOf isIntact listedOf commandRead valueOf oneDigit twoDigits decimalOf readDecimal digitOf characterOf hexRest pairBy readPair replyItems replyOf doesAct doesReply turned isRanged after replierIn said valid deliveredTo deliverOf tableDeliver numberEnd startOf playOf runOf runWith rehearseOf
+unfolding written total endsInSum dataPart frontOf frameOf isIntact listedOf commandRead valueOf oneDigit twoDigits decimalOf readDecimal digitOf characterOf hexRest pairBy readPair replyItems replyOf doesAct doesReply turned isRanged after replierIn said valid deliveredTo deliverOf tableDeliver numberEnd startOf playOf runOf runWith rehearseOf
 edge = refl

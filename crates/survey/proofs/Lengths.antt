@@ -16,7 +16,7 @@ use Rattle.wire.proofs.Impossible.{impossible}
 use Rattle.buffer.specs.declared.Built.{Built}
 use Rattle.buffer.specs.declared.Built.the-variants as built
 use Rattle.buffer.proofs.Writing.{written-long}
-use Rattle.packet.specs.Packet.{countOf, partsOf, frameOf}
+use Rattle.packet.specs.Packet.{endOf, partsOf, frontOf, alone, frameOf}
 use Rattle.packet.specs.declared.Framed.{Framed}
 use Rattle.packet.specs.declared.Framed.the-variants as framed
 use Rattle.node.specs.declared.state.Node.{Node}
@@ -37,9 +37,13 @@ abbrev overlong : ℕ → Framed
 overlong head = cond (not (eqb head 0xAA)) (framed.Refused Header) (framed.Refused Long)
 
 frame-over : (p : List ℕ) → 20 ≤ length p → getD p 2 0 < 256 → frameOf p ≡ overlong (getD p 0 0)
-unfolding frameOf
+unfolding frontOf frameOf
 frame-over p h b =
-    rw (le-ltb (length p) 1 (omega arith), le-ltb (length p) 4 (omega arith), le-ltb (length p) (4 + countOf p) (omega arith), lt-ltb (4 + countOf p) (length p) (omega arith))
+    rw (le-ltb (length p) 1 (omega arith), le-ltb (length p) 4 (omega arith), le-ltb (length p) (endOf p) (omega arith)) (go (not (eqb (getD p 0 0) 0xAA)))
+  where
+    go : (n : Bool) → alone p (cond n (framed.Refused Header) (partsOf p)) ≡ cond n (framed.Refused Header) (framed.Refused Long)
+    go true = refl
+    go false = rw (lt-ltb (endOf p) (length p) (omega arith))
 
 on-overlong : (t : Bool) (p q : List ℕ) (ns : List Node) (out : List ℕ)
     → onFrame (cond t (framed.Refused Header) (framed.Refused Long)) p ns out ≡ onFrame (cond t (framed.Refused Header) (framed.Refused Long)) q ns out
@@ -60,11 +64,11 @@ deliver-long ns p out h b =
 -- what holds of the three refusals holds of such a delivery
 pub deliver-brief : (ns : List Node) (p out : List ℕ) → length p < 4 → (Q : Outcome Delivery Lent → Type 0)
     → Q (refusedDelivery Short ns out) → Q (refusedDelivery Header ns out) → Q (refusedDelivery Range ns out) → Q (deliverOf ns p out)
-unfolding deliverOf frameOf
+unfolding deliverOf frontOf frameOf
 deliver-brief ns p out h Q short header range =
     rw (lt-ltb (length p) 4 h) (go (valid ns) (ltb (length p) 1) (not (eqb (getD p 0 0) 0xAA)))
   where
-    go : (v e n : Bool) → Q (cond v (onFrame (cond e (framed.Refused Short) (cond n (framed.Refused Header) (framed.Refused Short))) p ns out) (refusedDelivery Range ns out))
+    go : (v e n : Bool) → Q (cond v (onFrame (alone p (cond e (framed.Refused Short) (cond n (framed.Refused Header) (framed.Refused Short)))) p ns out) (refusedDelivery Range ns out))
     go false e n = range
     go true true n = short
     go true false true = header
@@ -98,18 +102,21 @@ deliver-left ns p out = go (valid ns)
 
 -- reading refuses a frame for its length or its header
 frame-whys : (p : List ℕ) → frameOf p ≡ framed.Refused Room → ⊥
-unfolding frameOf
-frame-whys p = go (ltb (length p) 1) (not (eqb (getD p 0 0) 0xAA)) (ltb (length p) 4) (ltb (length p) (4 + countOf p)) (ltb (4 + countOf p) (length p))
+unfolding frontOf frameOf
+frame-whys p = go (ltb (length p) 1) (not (eqb (getD p 0 0) 0xAA)) (ltb (length p) 4) (ltb (length p) (endOf p))
   where
-    go : (a b c d e : Bool)
-        → cond a (framed.Refused Short) (cond b (framed.Refused Header) (cond c (framed.Refused Short) (cond d (framed.Refused Short) (cond e (framed.Refused Long) (partsOf p)))))
+    ends : (e : Bool) → cond e (framed.Refused Long) (partsOf p) ≡ framed.Refused Room → ⊥
+    ends true x = impossible cc
+    ends false x = impossible cc
+
+    go : (a b c d : Bool)
+        → alone p (cond a (framed.Refused Short) (cond b (framed.Refused Header) (cond c (framed.Refused Short) (cond d (framed.Refused Short) (partsOf p)))))
         ≡ framed.Refused Room → ⊥
-    go true b c d e x = impossible cc
-    go false true c d e x = impossible cc
-    go false false true d e x = impossible cc
-    go false false false true e x = impossible cc
-    go false false false false true x = impossible cc
-    go false false false false false x = impossible cc
+    go true b c d x = impossible cc
+    go false true c d x = impossible cc
+    go false false true d x = impossible cc
+    go false false false true x = impossible cc
+    go false false false false x = ends (ltb (endOf p) (length p)) x
 
 module _ (ns : List Node) (out : List ℕ) (room : 19 ≤ length out) where
   reply-fits : (to : Address) (h : Message) (r : List ℕ) → said to h ns ≡ reply r → length r ≤ length out

@@ -4,6 +4,7 @@ use node::Node;
 use survey::Decided;
 use survey::Delivery;
 use survey::Plan;
+use survey::SET_WIDTH;
 use survey::Seen;
 use survey::Survey;
 ghost use mathlib.Core.Path.{_≡_};
@@ -57,8 +58,8 @@ pub(crate) fn survey_alone(p: Plan) -> Survey
 pub(crate) fn span(n: usize) -> usize
     ensures { λ r. ⌜ r ≡ spanOf n ⌝ }
 {
-    if 32 < n {
-        return 32;
+    if SET_WIDTH < n {
+        return SET_WIDTH;
     }
     n
 }

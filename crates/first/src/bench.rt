@@ -26,7 +26,7 @@ pub(crate) fn two_nodes() -> Table {
     };
     let fresh = Node::power_up(bench);
     Table {
-        nodes: [fresh; 33],
+        nodes: [fresh; table::ROOM],
         count: 2,
     }
 }
@@ -38,7 +38,7 @@ pub(crate) fn exchange(chain: Table, sent: Step, out: &[u8]) -> Show {
         End::Sent(n) => n,
         _ => 0,
     };
-    let mut reply = [0; 19];
+    let mut reply = [0; status::MOST_REPLY];
     let delivered = table::deliver(chain, text::first(out, n), &mut reply);
     let answer = delivered.answer;
     let told = match answer {

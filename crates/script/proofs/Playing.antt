@@ -15,11 +15,12 @@ use Rattle.hex.specs.declared.pairs.Parsed.{Parsed}
 use Rattle.hex.specs.declared.pairs.Parsed.the-variants.{Bytes, Malformed}
 use Rattle.text.proofs.Parts.{line-short, lines-step}
 use Rattle.hex.proofs.Meaning.{read-written}
+use Rattle.status.specs.Status.{mostReply}
 use Rattle.node.specs.declared.state.Node.{Node}
 use Rattle.node.specs.Node.{powerUp}
 use Rattle.table.specs.declared.Table.{Table}
 use Rattle.table.specs.declared.Delivered.{Delivered}
-use Rattle.table.specs.Table.{deliveredNumber, tableDeliver}
+use Rattle.table.specs.Table.{tableRoom, deliveredNumber, tableDeliver}
 use Rattle.script.specs.Answers.{answerLine}
 use Rattle.buffer.specs.Wrote.{Wrote}
 use Rattle.script.specs.Line.{WroteLine}
@@ -31,7 +32,7 @@ use Rattle.buffer.proofs.Appends.{Going, going-on, going-done}
 
 -- ---- the start
 
-pub start-done : (n : Node) (k : ℕ) → n ≡ powerUp zeros → record { nodes = replicate 33 n; count = k } ≡ startOf k
+pub start-done : (n : Node) (k : ℕ) → n ≡ powerUp zeros → record { nodes = replicate tableRoom n; count = k } ≡ startOf k
 unfolding startOf
 start-done n k e = rw e
 
@@ -51,7 +52,7 @@ module _ (t : Table) (l b : List ℕ) (found : Parsed) (e : Lending parsedNumber
       go malformed e = f
       go (bytes p) e = impossible cc
 
-  pub play-good : (n : ℕ) (d : List ℕ) → found ≡ Bytes n → d ≡ take n b → Played (answerStep (tableDeliver t d (replicate 19 0))) at o r m → Played (playOf t l) at o r m
+  pub play-good : (n : ℕ) (d : List ℕ) → found ≡ Bytes n → d ≡ take n b → Played (answerStep (tableDeliver t d (replicate mostReply 0))) at o r m → Played (playOf t l) at o r m
   unfolding playOf
   play-good n d h g f = go (bytesIn l) (λ p q. read-written l p q .small) (sym h ∙ e .answer) (e .leaves)
     where
@@ -61,7 +62,7 @@ module _ (t : Table) (l b : List ℕ) (found : Parsed) (e : Lending parsedNumber
       go (bytes p) s i j =
           let en : n ≡ length p = cc in
           let ed : d ≡ take (length p) (over p (replicate 20 0)) = g ∙ rw (en, j) in
-          rw (← deliver-kept t p (replicate 19 0) (replicate 20 0) refl (byte-at p 2 (s p refl)), ← ed) f
+          rw (← deliver-kept t p (replicate mostReply 0) (replicate 20 0) refl (byte-at p 2 (s p refl)), ← ed) f
 
 -- ---- all lines: those from i on are still to be played
 

@@ -17,6 +17,7 @@ use Rattle.wire.proofs.Numbers.{number-small}
 use Rattle.buffer.specs.declared.Built.{Built}
 use Rattle.buffer.specs.declared.Built.the-variants as built
 use Rattle.buffer.proofs.Writing.{written-long}
+use Rattle.status.specs.Status.{mostReply}
 use Rattle.text.specs.Lines.{newline}
 use Rattle.text.specs.Digits.{decimalOf}
 use Rattle.hex.specs.Hex.{hexLine}
@@ -65,11 +66,11 @@ module _ (why : Refusal) (n at p : ℕ) (out m : List ℕ) (e : n ≡ numberOf w
 
 -- ---- a reply
 
-pub line-short : (d : List ℕ) → length d ≤ 19 → length (hexLine d) ≤ 57
+pub line-short : (d : List ℕ) → length d ≤ mostReply → length (hexLine d) ≤ 57
 line-short [] h = omega arith
 line-short (b ∷ bs) h = omega (arith, length-line (b ∷ bs) (omega arith))
 
-laid : (d : List ℕ) → length d ≤ 19 → written (hexLine d) (replicate 64 0) ≡ atStart (hexLine d) (replicate 64 0)
+laid : (d : List ℕ) → length d ≤ mostReply → written (hexLine d) (replicate 64 0) ≡ atStart (hexLine d) (replicate 64 0)
 unfolding written
 laid d h = rw (le-ltb 64 (length (hexLine d)) (omega (arith, line-short d h)))
 
@@ -79,7 +80,7 @@ module _ (d l : List ℕ) (b : Built) (p : Lending builtNumber b l (written (hex
       let k : length l ≡ 64 = ap (λ (x : List ℕ). length x) (p .leaves) ∙ written-long (hexLine d) (replicate 64 0) in
       rw e (omega (arith, length-take n l))
 
-  module _ (h : length d ≤ 19) where
+  module _ (h : length d ≤ mostReply) where
     pub reply-done : (n at r : ℕ) (part out left : List ℕ) → b ≡ built.Bytes n → part ≡ take n l → Wrote part at out r left → WroteLine (hexLine d) at out r left
     reply-done n at r part out left e f w =
         let a : built.Bytes n ≡ built.Bytes (length (hexLine d)) = sym e ∙ p .answer ∙ ap (λ o. o .answer) (laid d h) in
@@ -96,7 +97,7 @@ module _ (d l : List ℕ) (b : Built) (p : Lending builtNumber b l (written (hex
 
 -- ---- by the answer
 
-pub part-short : (n : ℕ) (d b : List ℕ) → length b ≤ 19 → d ≡ take n b → length d ≤ 19
+pub part-short : (n : ℕ) (d b : List ℕ) → length b ≤ mostReply → d ≡ take n b → length d ≤ mostReply
 part-short n d b k e = rw e (omega (arith, length-take n b))
 
 module _ {at r : ℕ} {out left : List ℕ} (a : Delivery) (b : List ℕ) where

@@ -7,11 +7,12 @@ use lib.ListN.{length, replicate}
 use Rattle.wire.specs.Promise.{Outcome}
 use Rattle.wire.specs.Numbers.{mostNodes}
 use Rattle.wire.specs.declared.refusal.Refusal.the-variants.{Range}
+use Rattle.status.specs.Status.{mostReply}
 use Rattle.node.specs.declared.state.Bench.{Bench}
 use Rattle.node.specs.Node.{powerUp}
 use Rattle.table.specs.declared.Table.{Table}
 use Rattle.table.specs.declared.Delivered.{Delivered}
-use Rattle.table.specs.Table.{tableDeliver}
+use Rattle.table.specs.Table.{tableRoom, tableDeliver}
 use Rattle.text.specs.declared.digits.Decimal.{Decimal}
 use Rattle.text.specs.declared.digits.Decimal.the-variants.{Value, Malformed}
 use Rattle.text.specs.Lines.{linesOf}
@@ -25,7 +26,7 @@ zeros = record { inputs = 0; counter = 0; analog0 = 0; analog1 = 0; analog2 = 0;
 
 -- "All nodes start in power-up state"
 unfoldable pub startOf : ℕ → Table
-startOf k = record { nodes = replicate 33 (powerUp zeros); count = k }
+startOf k = record { nodes = replicate tableRoom (powerUp zeros); count = k }
 
 -- ---- a line
 
@@ -34,7 +35,7 @@ pub record Stepped : Type 0 where
   pub table : Table
   pub line : List ℕ
 
--- the chain's answer to a packet; a reply has room in 19 bytes
+-- the chain's answer to a packet; it has room for the longest reply
 abbrev pub answerStep : Outcome Delivered (List ℕ) → Stepped
 answerStep o = record { table = o .answer .table; line = answerLine (o .answer .answer) (o .left) }
 
@@ -43,7 +44,7 @@ abbrev pub refuseStep : Table → Stepped
 refuseStep t = record { table = t; line = refusedLine Range }
 
 abbrev pub onContent : Table → Content → Stepped
-onContent t (bytes p) = answerStep (tableDeliver t p (replicate 19 0))
+onContent t (bytes p) = answerStep (tableDeliver t p (replicate mostReply 0))
 onContent t malformed = refuseStep t
 
 unfoldable pub playOf : Table → List ℕ → Stepped

@@ -5,6 +5,7 @@ use chain::Delivery;
 use wire::Refusal;
 ghost use Prim.Native.Nat.{_+_, _≤_, _<_};
 ghost use lib.ListN.{length};
+ghost use Rattle.status.specs.Status.{mostReply};
 ghost use Rattle.hex.specs.Hex.{hexLine};
 ghost use Rattle.script.specs.Answers.{numberEnd, refusedLine, answerLine};
 ghost use Rattle.buffer.specs.Wrote.{Wrote};
@@ -39,9 +40,9 @@ pub(crate) fn put_refused_line(out: &mut [u8], at: usize, why: Refusal) -> usize
     put_number_end(out, p, why.number())
 }
 
-// A reply has at most 19 bytes, so that its line has room in 64.
+// The longest reply has 19 bytes, so that its line has room in 64.
 fn put_hex_line(out: &mut [u8], at: usize, reply: &[u8]) -> usize
-    requires { ⌜ (at ≤ far) × (length (now reply) ≤ 19) ⌝ }
+    requires { ⌜ (at ≤ far) × (length (now reply) ≤ mostReply) ⌝ }
     ensures { λ r. ⌜ WroteLine (hexLine (now (reply .entry))) at (now (out .entry)) r (now (out .exit)) ⌝ }
 {
     let mut line = [0; 64];
@@ -54,7 +55,7 @@ fn put_hex_line(out: &mut [u8], at: usize, reply: &[u8]) -> usize
 
 // The line for an answer, whose reply stands at the start of `reply`.
 pub(crate) fn put_answer_line(out: &mut [u8], at: usize, answer: Delivery, reply: &[u8]) -> usize
-    requires { ⌜ (at ≤ far) × (length (now reply) ≤ 19) ⌝ }
+    requires { ⌜ (at ≤ far) × (length (now reply) ≤ mostReply) ⌝ }
     ensures { λ r. ⌜ WroteLine (answerLine answer (now (reply .entry))) at (now (out .entry)) r (now (out .exit)) ⌝ }
 {
     match answer {

@@ -15,6 +15,7 @@ ghost use lib.ListN.{length, replicate};
 ghost use lib.Dec.{ltb};
 ghost use Rattle.wire.specs.Promise.{Lending};
 ghost use Rattle.buffer.specs.Buffer.{builtNumber, written};
+ghost use Rattle.status.specs.Status.{mostReply};
 ghost use Rattle.table.specs.Table.{tableDeliver};
 ghost use Rattle.text.specs.Lines.{linesOf};
 ghost use Rattle.buffer.specs.Wrote.{Wrote};
@@ -49,8 +50,7 @@ fn start(count: usize) -> Table
     };
     let fresh = Node::power_up(bench);
     Table {
-        // `table::Table` says why 33.
-        nodes: [fresh; 33],
+        nodes: [fresh; table::ROOM],
         count,
     }
 }
@@ -58,9 +58,9 @@ fn start(count: usize) -> Table
 // A packet to the chain; its answer as a line.
 fn answer_step(table: Table, packet: &[u8], out: &mut [u8], at: usize) -> Step
     requires { ⌜ at ≤ far ⌝ }
-    ensures { λ r. ⌜ Played (answerStep (tableDeliver table (now (packet .entry)) (replicate 19 0))) at (now (out .entry)) r (now (out .exit)) ⌝ }
+    ensures { λ r. ⌜ Played (answerStep (tableDeliver table (now (packet .entry)) (replicate mostReply 0))) at (now (out .entry)) r (now (out .exit)) ⌝ }
 {
-    let mut reply = [0; 19];
+    let mut reply = [0; status::MOST_REPLY];
     let d = table::deliver(table, packet, &mut reply);
     let answer = d.answer;
     let after = d.table;

@@ -9,7 +9,7 @@ use lib.ListN.{length, getD, take, drop}
 use lib.Seq.{take-append-seam}
 use borrow.Author.Tests.{le-ltb, ltb-false}
 use Rattle.buffer.specs.Sum.{sumOf, withSum, endsInSum}
-use Rattle.status.specs.Status.{statusPacket, statusBuild, statusRead, itemsPart, T, cleared, judgeOf}
+use Rattle.status.specs.Status.{statusPacket, statusBuild, statusRead, itemsPart, T, mostReply, cleared, judgeOf}
 use Rattle.buffer.specs.Buffer.{atStart}
 use Rattle.buffer.specs.Change.{Altered}
 use Rattle.wire.specs.declared.refusal.Refusal.{Refusal}
@@ -102,7 +102,7 @@ pub judged-built : (b : ℕ) (d : List ℕ) → length d ≤ T → judgeOf (stat
 unfolding judgeOf
 judged-built b d h =
     let n = status-length b d in
-    simp (le-ltb (length (statusPacket b d)) 2 (omega arith), le-ltb (T + 2) (length (statusPacket b d)) (omega arith), with-sum-ends (b ∷ d))
+    simp (le-ltb (length (statusPacket b d)) 2 (omega arith), le-ltb mostReply (length (statusPacket b d)) (omega arith), with-sum-ends (b ∷ d))
 
 silent-unless : (s t : Bool) → cond s Silent (cond t Silent Silent) ≡ Silent
 silent-unless true t = refl
@@ -112,7 +112,7 @@ silent-unless false false = refl
 -- what doesn't end in its sum is silence
 pub judged-broken : (s : List ℕ) → endsInSum s ≡ false → judgeOf s ≡ Silent
 unfolding judgeOf
-judged-broken s e = rw e (silent-unless (ltb (length s) 2) (ltb (T + 2) (length s)))
+judged-broken s e = rw e (silent-unless (ltb (length s) 2) (ltb mostReply (length s)))
 
 -- a reply with one byte changed is never good
 pub judged-altered : (b : ℕ) (d t : List ℕ) → Altered (statusPacket b d) t → judgeOf t ≡ Silent

@@ -58,6 +58,10 @@ allOf (n ∷ ns) = n + allOf ns
 abbrev pub T : ℕ
 T = allOf counts
 
+-- "2 to T + 2 bytes": the longest good reply
+abbrev pub mostReply : ℕ
+mostReply = T + 2
+
 -- "clear if bit 1 is 0"
 abbrev pub cleared : ℕ → Answer
 cleared b = cond (eqb (b / 2 % 2) 0) Clear Marked
@@ -66,6 +70,6 @@ cleared b = cond (eqb (b / 2 % 2) 0) Clear Marked
 unfoldable pub judgeOf : List ℕ → Answer
 judgeOf s =
     cond (ltb (length s) 2) Silent
-    (cond (ltb (T + 2) (length s)) Silent
+    (cond (ltb mostReply (length s)) Silent
     (cond (endsInSum s) (cleared (getD s 0 0))
     Silent))

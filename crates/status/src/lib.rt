@@ -22,6 +22,9 @@ pub const T: usize = COUNTS[0]
     + COUNTS[6]
     + COUNTS[7];
 
+// The longest good reply: status byte, all items, sum.
+pub const MOST_REPLY: usize = T + 2;
+
 // What reading a status packet finds: its status byte, or the refusal. The items are `items_part`.
 pub enum Status {
     Whole(u8),
@@ -107,7 +110,7 @@ pub fn judge(s: &[u8]) -> Answer
     if s.len() < 2 {
         return Answer::Silent;
     }
-    if T + 2 < s.len() {
+    if MOST_REPLY < s.len() {
         return Answer::Silent;
     }
     if buffer::ends_in_sum(s) {

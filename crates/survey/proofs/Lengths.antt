@@ -19,6 +19,7 @@ use Rattle.buffer.proofs.Writing.{written-long}
 use Rattle.packet.specs.Packet.{endOf, partsOf, frontOf, alone, frameOf}
 use Rattle.packet.specs.declared.Framed.{Framed}
 use Rattle.packet.specs.declared.Framed.the-variants as framed
+use Rattle.status.specs.Status.{mostReply}
 use Rattle.node.specs.declared.state.Node.{Node}
 use Rattle.message.specs.declared.Message.{Message}
 use Rattle.reply.specs.Reply.{maskFor}
@@ -98,7 +99,7 @@ deliver-left ns p out = go (valid ns)
     go true = frame-left (frameOf p) p ns out
     go false = refl
 
--- ---- 5 never comes up over 19 bytes of reply buffer, T + 2
+-- ---- 5 never comes up over a reply buffer as long as the longest reply
 
 -- reading refuses a frame for its length or its header
 frame-whys : (p : List ℕ) → frameOf p ≡ framed.Refused Room → ⊥
@@ -118,7 +119,7 @@ frame-whys p = go (ltb (length p) 1) (not (eqb (getD p 0 0) 0xAA)) (ltb (length 
     go false false false true x = impossible cc
     go false false false false x = ends (ltb (endOf p) (length p)) x
 
-module _ (ns : List Node) (out : List ℕ) (room : 19 ≤ length out) where
+module _ (ns : List Node) (out : List ℕ) (room : mostReply ≤ length out) where
   reply-fits : (to : Address) (h : Message) (r : List ℕ) → said to h ns ≡ reply r → length r ≤ length out
   reply-fits to h r e =
       let q = said-says to h ns r e in

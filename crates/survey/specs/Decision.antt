@@ -21,6 +21,7 @@ use Rattle.survey.specs.declared.plan.Survey.{Survey}
 use Rattle.survey.specs.declared.decision.Decided.{Decided}
 use Rattle.survey.specs.declared.decision.Delivery.{Delivery}
 use Rattle.survey.specs.declared.decision.Delivery.the-variants.{Silent, Replied, Collision, Refused}
+use Rattle.survey.specs.Sets.{setWidth}
 
 -- a refusal: nobody acts
 abbrev pub decideRefusal : Refusal → Decided
@@ -50,9 +51,9 @@ decidePlan (Deliver r acting h) n out = decideBy r n acting h out
 abbrev pub decideOf : Survey → List ℕ → Outcome Decided (List ℕ)
 decideOf s out = decidePlan (s .plan) (s .speaker) out
 
--- a set has 32 nodes at most
+-- a set reaches no further along a table of n than it is wide
 abbrev pub spanOf : ℕ → ℕ
-spanOf n = cond (ltb 32 n) 32 n
+spanOf n = cond (ltb setWidth n) setWidth n
 
 -- the nodes of a set take the packet; the others stay
 abbrev pub actAll : Message → ℕ → List Node → List Node

@@ -5,13 +5,17 @@ use mathlib.Core.List.{List, [], _∷_}
 use lib.Count.{trailingZeros}
 use lib.Dec.{eqb}
 
--- the node of digit `weight` joins, in 32 digits
-abbrev pub joinOf : ℕ → ℕ → Bool → ℕ
-joinOf s weight joins = cond joins ((s + weight) % 2 ^ 32) s
+-- how many nodes a set has digits for
+abbrev pub setWidth : ℕ
+setWidth = 32
 
--- the first of a set of 32 digits; 32 if it is empty
+-- the node of digit `weight` joins, in so many digits
+abbrev pub joinOf : ℕ → ℕ → Bool → ℕ
+joinOf s weight joins = cond joins ((s + weight) % 2 ^ setWidth) s
+
+-- the first of a set; its width, past every chain, if it is empty
 abbrev pub firstOf : ℕ → ℕ
-firstOf s = trailingZeros 32 s
+firstOf s = trailingZeros setWidth s
 
 -- the set without it
 abbrev pub withoutFirst : ℕ → ℕ

@@ -25,7 +25,7 @@ use Rattle.survey.specs.declared.plan.Plan.the-variants.{Refuse, Deliver
 use Rattle.survey.specs.declared.plan.Survey.{Survey}
 use Rattle.survey.specs.One.{doesAct, doesReply, isRanged, messageAs}
 use Rattle.survey.specs.Chain.{searchOf}
-use Rattle.survey.specs.Sets.{joinOf, members}
+use Rattle.survey.specs.Sets.{setWidth, joinOf, members}
 
 -- a packet as it comes in
 abbrev pub receiveBy : Framed → List ℕ → Incoming
@@ -52,7 +52,7 @@ isStillRanged b p = b && isRanged p
 unfoldable pub glanceFor : Address → Seen → Node → Seen
 glanceFor to s n = record {
   near = n .addressed;
-  weight = (s .weight + s .weight) % 2 ^ 32;
+  weight = (s .weight + s .weight) % 2 ^ setWidth;
   acting = joinOf (s .acting) (s .weight) (doesAct to (s .near) n);
   replying = joinOf (s .replying) (s .weight) (doesReply to (s .near) n);
   ranged = isStillRanged (s .ranged) (n .settings .place);
@@ -91,14 +91,14 @@ planNumber (Refuse why) = numberOf why
 unfoldable pub planOf : Incoming → Seen → ℕ → Plan
 planOf c s n = cond (leb 1 n && leb n mostNodes && s .ranged) (planBy c s n) (Refuse Range)
 
--- the index of the one that replies
+-- the index of the one that replies; past every chain where none does alone
 abbrev pub speakerIn : Replier → ℕ
-speakerIn None = 32
+speakerIn None = setWidth
 speakerIn (One i) = i
-speakerIn Several = 32
+speakerIn Several = setWidth
 
 abbrev pub speakerOf : Plan → ℕ
-speakerOf (Refuse why) = 32
+speakerOf (Refuse why) = setWidth
 speakerOf (Deliver r acting h) = speakerIn r
 
 abbrev pub surveyWith : Plan → Node → Survey

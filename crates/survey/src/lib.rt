@@ -19,5 +19,6 @@ pub use plan::plan_of;
 pub use plan::receive;
 pub use plan::speaker;
 pub use sets::Replier;
+pub use sets::SET_WIDTH;
 pub use sets::first;
 pub use sets::without_first;

@@ -3,6 +3,7 @@ use crate::one::does_act;
 use crate::one::does_reply;
 use crate::one::is_ranged;
 use crate::sets::Replier;
+use crate::sets::SET_WIDTH;
 use crate::sets::join;
 use crate::sets::search;
 use command::Place;
@@ -148,13 +149,13 @@ pub fn plan_of(incoming: Incoming, seen: Seen, n: usize) -> Plan
     Plan::Refuse(Refusal::Range)
 }
 
-// The index of the node that replies; 32, past every chain, where none does alone.
+// The index of the node that replies; `SET_WIDTH`, past every chain, where none does alone.
 // A number and no enum: the walk over the lent table takes it as an index in its next statement.
 pub fn speaker(p: Plan) -> usize
     ensures { λ r. ⌜ r ≡ speakerOf p ⌝ }
 {
     match p {
-        Plan::Refuse(_) => 32,
+        Plan::Refuse(_) => SET_WIDTH,
         Plan::Deliver {
             replier,
             acting: _,
@@ -168,8 +169,8 @@ fn speaker_in(r: Replier) -> usize
     ensures { λ i. ⌜ i ≡ speakerIn r ⌝ }
 {
     match r {
-        Replier::None => 32,
+        Replier::None => SET_WIDTH,
         Replier::One(i) => i,
-        Replier::Several => 32,
+        Replier::Several => SET_WIDTH,
     }
 }

@@ -3,6 +3,9 @@ ghost use mathlib.Core.Path.{_≡_};
 ghost use Rattle.survey.specs.Sets.{joinOf, firstOf, withoutFirst, members};
 ghost use Rattle.survey.specs.Chain.{searchOf};
 
+// How many nodes a set has digits for. More than any chain has, so that as an index it is nobody's.
+pub const SET_WIDTH: usize = 32;
+
 // Who replies: nobody, the node of an index, or several.
 pub enum Replier {
     None,
@@ -20,8 +23,7 @@ pub(crate) fn join(set: u32, weight: u32, joins: bool) -> u32
     set
 }
 
-// The first node of the set; 32 if it has none.
-// 32 is past every chain, so that the walk over the lent table needs no second test.
+// The first node of the set; `SET_WIDTH` if it has none, which is past every chain, so that the walk over the lent table needs no second test.
 pub fn first(set: u32) -> usize
     ensures { λ r. ⌜ r ≡ firstOf set ⌝ }
 {

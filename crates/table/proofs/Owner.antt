@@ -15,7 +15,7 @@ use Rattle.survey.specs.declared.decision.Delivery.{Delivery}
 use Rattle.survey.specs.Delivery.{deliverOf, deliveryNumber}
 use Rattle.table.specs.declared.Table.{Table}
 use Rattle.table.specs.declared.Delivered.{Delivered}
-use Rattle.table.specs.Table.{keptBy, deliveredNumber, tableDeliver}
+use Rattle.table.specs.Table.{tableRoom, keptBy, deliveredNumber, tableDeliver}
 use Rattle.table.specs.Lending.{tableLeast, deliveredWith}
 
 -- the records that were lent, and those behind them
@@ -28,32 +28,32 @@ together xs n p out r zs ws d e is =
     ∙ (λ i. keptBy (record { nodes = xs; count = n }) (record { answer = e .answer i; left = e .leaves i })))
 
 -- by the test that `least` makes
-by-least : {A : Type 0} (n count : ℕ) → n ≡ tableLeast count → (n ≡ 33 → 33 < count → A) → (n ≡ count → count ≤ 33 → A) → A
-by-least {A} n count e over within = at (ltb 33 count) refl
+by-least : {A : Type 0} (n count : ℕ) → n ≡ tableLeast count → (n ≡ tableRoom → tableRoom < count → A) → (n ≡ count → count ≤ tableRoom → A) → A
+by-least {A} n count e over within = at (ltb tableRoom count) refl
   where
-    at : (b : Bool) → ltb 33 count ≡ b → A
-    at true h = over (e ∙ ap (λ (b : Bool). cond b 33 count) h) (ltb-true 33 count h)
-    at false h = within (e ∙ ap (λ (b : Bool). cond b 33 count) h) (ltb-false 33 count h)
+    at : (b : Bool) → ltb tableRoom count ≡ b → A
+    at true h = over (e ∙ ap (λ (b : Bool). cond b tableRoom count) h) (ltb-true tableRoom count h)
+    at false h = within (e ∙ ap (λ (b : Bool). cond b tableRoom count) h) (ltb-false tableRoom count h)
 
--- at most 33 records are lent
-pub least-small : (n count : ℕ) → n ≡ tableLeast count → n < 34
+-- no more records are lent than there are
+pub least-small : (n count : ℕ) → n ≡ tableLeast count → n ≤ tableRoom
 least-small n count e = by-least n count e (λ is more. omega arith) (λ is few. omega arith)
 
--- and a count over 33 counts no more of them than 33 does
-same-taken : (l : List Node) (n count : ℕ) → length l ≡ 33 → n ≡ tableLeast count → take n l ≡ take count l
+-- and a count over these counts no more of them
+same-taken : (l : List Node) (n count : ℕ) → length l ≡ tableRoom → n ≡ tableLeast count → take n l ≡ take count l
 same-taken l n count long e =
     by-least n count e (λ is more. take-all n l (omega arith) ∙ sym (take-all count l (omega arith))) (λ is few. ap (λ (k : ℕ). take k l) is)
 
-same-left : (l : List Node) (n count : ℕ) → length l ≡ 33 → n ≡ tableLeast count → drop n l ≡ drop count l
+same-left : (l : List Node) (n count : ℕ) → length l ≡ tableRoom → n ≡ tableLeast count → drop n l ≡ drop count l
 same-left l n count long e =
     by-least n count e (λ is more. drop-of-length-le l {i = n} (omega arith) ∙ sym (drop-of-length-le l {i = count} (omega arith))) (λ is few. ap (λ (k : ℕ). drop k l) is)
 
 -- what owning a table tells of its list of nodes
-pub long : (t : Table) → length (map (the-field .into) (t .nodes)) ≡ 33 → length (t .nodes) ≡ 33
+pub long : (t : Table) → length (map (the-field .into) (t .nodes)) ≡ tableRoom → length (t .nodes) ≡ tableRoom
 long t e = sym (length-map (t .nodes) (the-field .into)) ∙ e
 
 -- the count that was handed in is handed back
-pub recounted : (t : Table) (p out : List ℕ) (n : ℕ) (d r : Delivered) (ws : List ℕ) → length (t .nodes) ≡ 33 → n ≡ tableLeast (t .count)
+pub recounted : (t : Table) (p out : List ℕ) (n : ℕ) (d r : Delivered) (ws : List ℕ) → length (t .nodes) ≡ tableRoom → n ≡ tableLeast (t .count)
     → Lending deliveredNumber d ws (tableDeliver (record { nodes = t .nodes; count = n }) p out) → r ≡ deliveredWith (d .table .nodes) (t .count) (d .answer)
     → Lending deliveredNumber r ws (tableDeliver t p out)
 unfolding tableDeliver

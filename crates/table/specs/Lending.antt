@@ -6,10 +6,11 @@ use lib.Dec.{ltb}
 use Rattle.node.specs.declared.state.Node.{Node}
 use Rattle.survey.specs.declared.decision.Delivery.{Delivery}
 use Rattle.table.specs.declared.Delivered.{Delivered}
+use Rattle.table.specs.Table.{tableRoom}
 
--- how many of the 33 records n counts
+-- how many records of a table n counts
 abbrev pub tableLeast : ℕ → ℕ
-tableLeast n = cond (ltb 33 n) 33 n
+tableLeast n = cond (ltb tableRoom n) tableRoom n
 
 -- the parts of what is handed back, as one
 abbrev pub deliveredWith : List Node → ℕ → Delivery → Delivered

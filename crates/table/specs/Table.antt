@@ -1,13 +1,18 @@
 -- The chain's table as its owner keeps it: "an array with a count", of which the first `count` nodes are the chain.
-use Prim.Native.Nat.{ℕ}
+use Prim.Native.Nat.{ℕ, _+_}
 use mathlib.Core.List.{List, _++_}
 use lib.ListN.{take, drop}
 use Rattle.wire.specs.Promise.{Outcome}
+use Rattle.wire.specs.Numbers.{mostNodes}
 use Rattle.node.specs.declared.state.Node.{Node}
 use Rattle.survey.specs.declared.decision.Delivery.{Delivery}
 use Rattle.survey.specs.Delivery.{Lent, deliverOf, deliveryNumber}
 use Rattle.table.specs.declared.Table.{Table}
 use Rattle.table.specs.declared.Delivered.{Delivered}
+
+-- how many nodes a table has room for: two more than a chain may have
+abbrev pub tableRoom : ℕ
+tableRoom = mostNodes + 2
 
 -- the chain that a table holds
 abbrev pub nodesOf : Table → List Node

@@ -3,16 +3,20 @@
 // Left to others: every rule of the chain (chain).
 use chain::Delivery;
 use node::Node;
+use wire::MOST_NODES;
 ghost use mathlib.Core.Path.{_≡_};
-ghost use Prim.Native.Nat.{_<_};
+ghost use Prim.Native.Nat.{_≤_};
 ghost use Rattle.wire.specs.Promise.{Lending};
-ghost use Rattle.table.specs.Table.{deliveredNumber, tableDeliver};
+ghost use Rattle.table.specs.Table.{tableRoom, deliveredNumber, tableDeliver};
 ghost use Rattle.table.specs.Lending.{tableLeast, deliveredWith};
 
-// The first `count` nodes, in the order of the cable, are the chain. There is room for two more than a chain may have,
+// How many nodes a table has room for: two more than a chain may have,
 // so that a table that is too long can be lent as well, and is refused.
+pub const ROOM: usize = MOST_NODES + 2;
+
+// The first `count` nodes, in the order of the cable, are the chain.
 pub struct Table {
-    pub nodes: [Node; 33],
+    pub nodes: [Node; ROOM],
     pub count: usize,
 }
 
@@ -21,20 +25,20 @@ pub struct Delivered {
     pub table: Table,
 }
 
-// n, or 33 where n is more: how many records n counts.
+// n, or the table's room where n is more: how many records n counts.
 // So the part that is lent lies within the array, for every count.
 fn least(n: usize) -> usize
     ensures { λ r. ⌜ r ≡ tableLeast n ⌝ }
 {
-    if 33 < n {
-        return 33;
+    if ROOM < n {
+        return ROOM;
     }
     n
 }
 
 // The nodes, their count and the answer, as one.
 // A function of its own, since `lend` is walked by hand, and a literal of a large struct is the costly part of a check.
-fn delivered_with(nodes: [Node; 33], count: usize, answer: Delivery) -> Delivered
+fn delivered_with(nodes: [Node; ROOM], count: usize, answer: Delivery) -> Delivered
     ensures { λ r. ⌜ r ≡ deliveredWith nodes count answer ⌝ }
 {
     let table = Table { nodes, count };
@@ -42,8 +46,8 @@ fn delivered_with(nodes: [Node; 33], count: usize, answer: Delivery) -> Delivere
 }
 
 // The first n records are lent to the chain, and come back.
-fn lend(nodes: [Node; 33], n: usize, packet: &[u8], reply: &mut [u8]) -> Delivered
-    requires { ⌜ n < 34 ⌝ }
+fn lend(nodes: [Node; ROOM], n: usize, packet: &[u8], reply: &mut [u8]) -> Delivered
+    requires { ⌜ n ≤ tableRoom ⌝ }
     ensures { λ r. ⌜ Lending deliveredNumber r (now (reply .exit)) (tableDeliver (record { nodes = nodes; count = n }) (now (packet .entry)) (now (reply .entry))) ⌝ }
 {
     let mut held = nodes;
@@ -51,7 +55,7 @@ fn lend(nodes: [Node; 33], n: usize, packet: &[u8], reply: &mut [u8]) -> Deliver
     delivered_with(held, n, answer)
 }
 
-// A packet to the chain that the table holds. A count over 33 is lent as 33 records, and refused; the count stays.
+// A packet to the chain that the table holds. Where the count is more than there is room for, all records are lent, and refused; the count stays.
 pub fn deliver(t: Table, packet: &[u8], reply: &mut [u8]) -> Delivered
     ensures { λ r. ⌜ Lending deliveredNumber r (now (reply .exit)) (tableDeliver t (now (packet .entry)) (now (reply .entry))) ⌝ }
 {

@@ -5,6 +5,7 @@ use mathlib.Core.Path.{_≡_, refl}
 use native.Mathlib.Omega.{arith}
 use Rattle.wire.specs.Numbers.{done}
 use Rattle.command.specs.declared.Command.the-variants.{SetAddress, Nop}
+use Rattle.node.specs.Effect.{addressUp}
 use Rattle.session.specs.declared.Session.{Session}
 use Rattle.session.specs.Session.{nodeAt, stepNumber, givenPlace}
 use Rattle.sending.specs.declared.Check.the-variants.{Passed}
@@ -13,7 +14,7 @@ use Rattle.sending.proofs.Sent.{Sends, transmitted-sends, by-passed, node-fits,
 use Rattle.walk.proofs.Passing.{next-says, ask-says}
 
 pub next-sent : (s : Session) (out : List ℕ) → nextCheck s ≡ Passed
-    → Sends s (nodeAt 0x00) (nodeAt (s .walk + 1)) (SetAddress (givenPlace (s .walk + 1))) out (nextOf s out)
+    → Sends s (nodeAt addressUp) (nodeAt (s .walk + 1)) (SetAddress (givenPlace (s .walk + 1))) out (nextOf s out)
 unfolding nextOf
 next-sent s out h =
     let t = next-says s h in
@@ -31,7 +32,7 @@ ask-sent s out h =
 
 module _ (s : Session) (out : List ℕ) where
   pub next-went : stepNumber (nextOf s out .answer) ≡ done
-      → Went (nextCheck s) s (nodeAt 0x00) (nodeAt (s .walk + 1)) (SetAddress (givenPlace (s .walk + 1))) out (nextOf s out)
+      → Went (nextCheck s) s (nodeAt addressUp) (nodeAt (s .walk + 1)) (SetAddress (givenPlace (s .walk + 1))) out (nextOf s out)
   unfolding nextOf
   next-went d = went (nextCheck s) s _ _ _ out _ (next-sent s out) d
 

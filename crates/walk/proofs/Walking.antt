@@ -6,6 +6,7 @@ use Rattle.wire.specs.Promise.{Lending}
 use Rattle.wire.specs.declared.refusal.Refusal.{Refusal}
 use Rattle.command.specs.declared.Command.the-variants.{SetAddress, Nop}
 use Rattle.command.specs.declared.Place.{Place}
+use Rattle.node.specs.Effect.{addressUp}
 use Rattle.session.specs.declared.Session.{Session}
 use Rattle.session.specs.declared.Step.{Step}
 use Rattle.session.specs.Session.{stepNumber, refuseOf, nodeAt, givenPlace}
@@ -26,7 +27,7 @@ module _ (k : Check) (s : Session) (out : List ℕ) (why : Refusal) (r : Step) (
 
 module _ (k : Check) (s : Session) (out o : List ℕ) (r : Step) (by : k ≡ Passed) where
   pub next-sends : (x : Place) → k ≡ nextCheck s → x ≡ givenPlace (s .walk + 1)
-      → Lending stepNumber r o (transmitOf s (nodeAt 0x00) (nodeAt (s .walk + 1)) (SetAddress x) out) → Lending stepNumber r o (nextOf s out)
+      → Lending stepNumber r o (transmitOf s (nodeAt addressUp) (nodeAt (s .walk + 1)) (SetAddress x) out) → Lending stepNumber r o (nextOf s out)
   unfolding nextOf
   next-sends x p q l = rw (← p, by, ← q) l
 

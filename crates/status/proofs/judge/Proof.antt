@@ -12,7 +12,6 @@ judge-spec =
     tie.close
     (tie.spec
     (λ c. search tests)
-    (λ c. search needs)
     (λ c. search tests)
     (λ c κs. search needs)
     (λ c. search needs)

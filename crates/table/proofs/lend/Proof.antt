@@ -1,7 +1,7 @@
 -- `table::lend` meets its contract: a walk of its MIR, by hand. The array is copied into a local, whose first n elements are lent to `chain::deliver` and come back.
 -- Assumes nothing.
 use mathlib.Core.Path.{_≡_, refl, sym}
-use Prim.Native.Nat.{ℕ, _+_, _*_, _<_, _^_}
+use Prim.Native.Nat.{ℕ, _+_, _*_, _<_, _≤_, _^_}
 use native.Mathlib.Omega.{arith}
 use mathlib.Core.List.{List, [], _∷_, _++_}
 use lib.ListN.{length, take, drop, length-append, length-drop}
@@ -32,7 +32,7 @@ use Rattle.chain.proofs.deliver.Symbol as deliver-def
 use Rattle.chain.proofs.deliver.Symbol.{name as #chain·deliver}
 use Rattle.chain.proofs.deliver.Met as deliver-thm
 use Rattle.table.specs.declared.Delivered.{Delivered}
-use Rattle.table.specs.Table.{deliveredNumber, tableDeliver}
+use Rattle.table.specs.Table.{tableRoom, deliveredNumber, tableDeliver}
 use Rattle.table.specs.Lending.{deliveredWith}
 use Rattle.table.proofs.Delivered as D
 use Rattle.table.proofs.Delivered.Laws as D′
@@ -49,14 +49,14 @@ use Rattle.table.proofs.lend.Code as code
 use Rattle.table.proofs.lend.Code.Mir as body
 
 abbrev stayed : Stays (lend.ended .signature .params) (lend.ended .kept)
-stayed = (stay-dropped (arrayOf (plain (λ _. T.the-row)) 33) yes, (stay-none (λ _. usize) yes, (stay-none-slice (0 ∷ []) tt (plain (λ _. u8)) yes, (gave-slice (1 ∷ []) tt (plain (λ _. u8)), tt))))
+stayed = (stay-dropped (arrayOf (plain (λ _. T.the-row)) tableRoom) yes, (stay-none (λ _. usize) yes, (stay-none-slice (0 ∷ []) tt (plain (λ _. u8)) yes, (gave-slice (1 ∷ []) tt (plain (λ _. u8)), tt))))
 
 -- the types of the locals, as the MIR has them
 abbrev Nd : Ty
 Nd = T.pointed
 
 abbrev Ar : Ty
-Ar = spell body.table (pointee (Array T.the-row 33 .written))
+Ar = spell body.table (pointee (Array T.the-row tableRoom .written))
 
 abbrev De : Ty
 De = spell body.table (pointee (D.the-row .written))
@@ -73,8 +73,8 @@ module _ {M : Type 1} (𝓤 : URA M) (H : Heap 𝓤) (A : Atoms 𝓤) (mem : Mem
   DeliveredOf = tripleOf 𝓤 H A delivered-with′.signature (delivered-with′.spec 𝓤 H A mem run)
 
 module _ {M : Type 1} (𝓤 : URA M) (H : Heap 𝓤) (A : Atoms 𝓤) (W : Given 𝓤 H A) (mem : Memory → SProp 𝓤) (run : Routine → Fun 𝓤) (κ₁ κ₂ : Lft) (q₁ q₂ : Share)
-    (xs : List Node) (av : Val) (n : ℕ) (pk rp : RefT (List ℕ)) (ga : Is (Array T.the-row 33) xs (av ∷ [])) (n-small : n < 34) (room₁ : Room u8 (length (pk .now))) (room₂ : Room u8 (length (rp .now))) where
-  long : length xs ≡ 33
+    (xs : List Node) (av : Val) (n : ℕ) (pk rp : RefT (List ℕ)) (ga : Is (Array T.the-row tableRoom) xs (av ∷ [])) (n-small : n ≤ tableRoom) (room₁ : Room u8 (length (pk .now))) (room₂ : Room u8 (length (rp .now))) where
+  long : length xs ≡ tableRoom
   long = ga .1 .0 .1
 
   taken : length (take n xs) ≡ n
@@ -121,10 +121,10 @@ module _ {M : Type 1} (𝓤 : URA M) (H : Heap 𝓤) (A : Atoms 𝓤) (W : Given
 
   module _ (𝓣 : Tables 𝓤 H) (known-deliver : Triple 𝓤 (𝓣 .C #chain·deliver) (Deliver 𝓤 H A mem run)) (known-whole : Triple 𝓤 (𝓣 .C #table·delivered-with) (DeliveredOf 𝓤 H A mem run)) (l₀ l₁ l₂ l₃ l₄ l₅ l₆ l₇ l₈ l₉ l₁₀ l₁₁ : ℕ) where
     abbrev En : Env 𝓤 H
-    En = (De, l₀) ∷ (Ar, l₁) ∷ (word, l₂) ∷ ((sliceIn 0 imm byte), l₃) ∷ ((sliceIn 1 mut byte), l₄) ∷ (Ar, l₅) ∷ (Dy, l₆) ∷ ((tyRef erased mut (pointee (Array T.the-row 33 .written))), l₇) ∷ ((sliceHere mut Nd), l₈) ∷ ((tyRef erased mut byte), l₉) ∷ ((sliceHere mut byte), l₁₀) ∷ (Ar, l₁₁) ∷ []
+    En = (De, l₀) ∷ (Ar, l₁) ∷ (word, l₂) ∷ ((sliceIn 0 imm byte), l₃) ∷ ((sliceIn 1 mut byte), l₄) ∷ (Ar, l₅) ∷ (Dy, l₆) ∷ ((tyRef erased mut (pointee (Array T.the-row tableRoom .written))), l₇) ∷ ((sliceHere mut Nd), l₈) ∷ ((tyRef erased mut byte), l₉) ∷ ((sliceHere mut byte), l₁₀) ∷ (Ar, l₁₁) ∷ []
 
     abbrev Locs : Item 𝓤 → Item 𝓤 → Item 𝓤 → Item 𝓤 → Item 𝓤 → Item 𝓤 → Item 𝓤 → List (Item 𝓤) → List (Item 𝓤)
-    Locs i₅ i₆ i₇ i₈ i₉ i₁₀ i₁₁ G = i₁₁ ∷ dies Ar l₁₁ ∷ i₁₀ ∷ dies (sliceHere mut byte) l₁₀ ∷ i₉ ∷ dies (tyRef erased mut byte) l₉ ∷ i₈ ∷ dies (sliceHere mut Nd) l₈ ∷ i₇ ∷ dies (tyRef erased mut (pointee (Array T.the-row 33 .written))) l₇ ∷ i₆ ∷ dies Dy l₆ ∷ i₅ ∷ dies Ar l₅
+    Locs i₅ i₆ i₇ i₈ i₉ i₁₀ i₁₁ G = i₁₁ ∷ dies Ar l₁₁ ∷ i₁₀ ∷ dies (sliceHere mut byte) l₁₀ ∷ i₉ ∷ dies (tyRef erased mut byte) l₉ ∷ i₈ ∷ dies (sliceHere mut Nd) l₈ ∷ i₇ ∷ dies (tyRef erased mut (pointee (Array T.the-row tableRoom .written))) l₇ ∷ i₆ ∷ dies Dy l₆ ∷ i₅ ∷ dies Ar l₅
         ∷ has (sliceIn 1 mut byte) l₄ v₄ ∷ dies (sliceIn 1 mut byte) l₄ ∷ has (sliceIn 0 imm byte) l₃ v₃ ∷ dies (sliceIn 0 imm byte) l₃ ∷ has word l₂ (vint w64 n) ∷ dies word l₂ ∷ has Ar l₁ av ∷ dies Ar l₁ ∷ room De l₀ ∷ dies De l₀ ∷ G
 
     -- the slice's value in its local, and the table's reference
@@ -132,7 +132,7 @@ module _ {M : Type 1} (𝓤 : URA M) (H : Heap 𝓤) (A : Atoms 𝓤) (W : Given
     v₈ = sliceVal (l₅, 0) (length (take n xs))
 
     abbrev x : GName → RefT (List Node)
-    x δ = front T.the-row 33 [] l₅ xs n δ
+    x δ = front T.the-row tableRoom [] l₅ xs n δ
 
     abbrev to-deliver : ℕ → GName → Deliver 𝓤 H A mem run .Ghost
     to-deliver ν δ = (((ν ∷ [], (κ₁, (κ₂, tt))), (fullShare, (q₁, (q₂, tt))), tt, (x δ, (pk, (rp, tt))), (v₈ ∷ [], (v₃ ∷ [], (v₄ ∷ [], tt)))), tt)
@@ -147,10 +147,10 @@ module _ {M : Type 1} (𝓤 : URA M) (H : Heap 𝓤) (A : Atoms 𝓤) (W : Given
     abbrev to-whole : List Node → Val → Delivery → Val → DeliveredOf 𝓤 H A mem run .Ghost
     to-whole ys ay r mr = ((tt, tt, tt, (ys, (n, (r, tt))), (ay ∷ [], (vint w64 n ∷ [], (mr ∷ [], tt)))), tt)
 
-    goes-whole : (ys : List Node) (ay : Val) (r : Delivery) (mr : Val) → Is (Array T.the-row 33) ys (ay ∷ []) → Is Y.the-row r (mr ∷ []) → ent 𝓤 (emp 𝓤) (DeliveredOf 𝓤 H A mem run .pre (to-whole ys ay r mr))
+    goes-whole : (ys : List Node) (ay : Val) (r : Delivery) (mr : Val) → Is (Array T.the-row tableRoom) ys (ay ∷ []) → Is Y.the-row r (mr ∷ []) → ent 𝓤 (emp 𝓤) (DeliveredOf 𝓤 H A mem run .pre (to-whole ys ay r mr))
     goes-whole ys ay r mr gy gr =
         qed W [] ∵ nothing ! $ owned ! Y.the-row (Is Y.the-row) (EL.makes Y.the-type Y′.the-plain 𝓤 H A) r _ gr $ fjoin ! $ owned ! usize (Is usize) (uint-makes 𝓤 H A W w64) n _ (refl, n-fits) $ fjoin ! $
-        owned ! (Array T.the-row 33) (Is (Array T.the-row 33)) (array-makes 𝓤 H A W T.the-row (T.makes 𝓤 H A) 33) ys _ gy $ fjoin ! $ nothing ! $ join ! $ frame ! $ done !
+        owned ! (Array T.the-row tableRoom) (Is (Array T.the-row tableRoom)) (array-makes 𝓤 H A W T.the-row (T.makes 𝓤 H A) tableRoom) ys _ gy $ fjoin ! $ nothing ! $ join ! $ frame ! $ done !
 
     delivered-of-of : (ys : List Node) (r : Delivery) (s : Delivered) → ent 𝓤 (ensured 𝓤 H A delivered-with′.ended (delivered-with′.clauses 𝓤 H A mem run) tt (ys, (n, (r, tt))) tt s) (fact 𝓤 (s ≡ deliveredWith ys n r))
     delivered-of-of ys r s = tells 𝓤 H A (lasts delivered-with′.ended tt (ys, (n, (r, tt)))) (s ≡ deliveredWith ys n r)
@@ -163,15 +163,15 @@ module _ {M : Type 1} (𝓤 : URA M) (H : Heap 𝓤) (A : Atoms 𝓤) (W : Given
     abbrev Told : Delivery → List Node → List ℕ → Type 0
     Told r zs ws = Lending deliveryNumber r (record { nodes = zs; reply = ws }) (deliverOf (take n xs) (pk .now) (rp .now))
 
-    typed : (ys : List Node) (ay : Val) → Is (Array T.the-row 33) ys (ay ∷ []) → Holds (hasTy Ar ay) × WT ay
-    typed ys ay g = array-lawful 𝓤 H A W T.the-row (T.lawful 𝓤 H A W) 33 .typed ys (ay ∷ []) g .0
+    typed : (ys : List Node) (ay : Val) → Is (Array T.the-row tableRoom) ys (ay ∷ []) → Holds (hasTy Ar ay) × WT ay
+    typed ys ay g = array-lawful 𝓤 H A W T.the-row (T.lawful 𝓤 H A W) tableRoom .typed ys (ay ∷ []) g .0
 
     -- the call of `delivered_with`, and the rest
-    second : (ys : List Node) (ay : Val) (r : Delivery) (mr : Val) (ws : List ℕ) → Is (Array T.the-row 33) ys (ay ∷ []) → Is Y.the-row r (mr ∷ []) → length ws ≡ length (rp .now)
+    second : (ys : List Node) (ay : Val) (r : Delivery) (mr : Val) (ws : List ℕ) → Is (Array T.the-row tableRoom) ys (ay ∷ []) → Is Y.the-row r (mr ∷ []) → length ws ≡ length (rp .now)
         → ((s : Delivered) → s ≡ deliveredWith ys n r → Lends s ws)
-        → ent 𝓤 (⋆ 𝓤 H A (Locs (has Ar l₅ ay) (has Dy l₆ mr) (has (tyRef erased mut (pointee (Array T.the-row 33 .written))) l₇ (vptr l₅ 0)) (has (sliceHere mut Nd) l₈ v₈) (has (tyRef erased mut byte) l₉ (vptr (rp .ptr .0) (rp .ptr .1))) (has (sliceHere mut byte) l₁₀ v₄) (room Ar l₁₁) (Toks ∷ ‵ (finally u8 (rp .name) ws) ∷ Packet ∷ []))) (Wp 𝓤 H (𝓣 .C) (𝓣 .Λ) En body.t-7 (atReturn 𝓤 H En Post))
+        → ent 𝓤 (⋆ 𝓤 H A (Locs (has Ar l₅ ay) (has Dy l₆ mr) (has (tyRef erased mut (pointee (Array T.the-row tableRoom .written))) l₇ (vptr l₅ 0)) (has (sliceHere mut Nd) l₈ v₈) (has (tyRef erased mut byte) l₉ (vptr (rp .ptr .0) (rp .ptr .1))) (has (sliceHere mut byte) l₁₀ v₄) (room Ar l₁₁) (Toks ∷ ‵ (finally u8 (rp .name) ws) ∷ Packet ∷ []))) (Wp 𝓤 H (𝓣 .C) (𝓣 .Λ) En body.t-7 (atReturn 𝓤 H En Post))
     second ys ay r mr ws gy gr l told =
-        qed W (Locs (has Ar l₅ ay) (has Dy l₆ mr) (has (tyRef erased mut (pointee (Array T.the-row 33 .written))) l₇ (vptr l₅ 0)) (has (sliceHere mut Nd) l₈ v₈) (has (tyRef erased mut byte) l₉ (vptr (rp .ptr .0) (rp .ptr .1))) (has (sliceHere mut byte) l₁₀ v₄) (room Ar l₁₁) (Toks ∷ ‵ (finally u8 (rp .name) ws) ∷ Packet ∷ [])) ∵ exec ! (𝓣 .C) (𝓣 .Λ) En body.t-7 (atRet En Post) $
+        qed W (Locs (has Ar l₅ ay) (has Dy l₆ mr) (has (tyRef erased mut (pointee (Array T.the-row tableRoom .written))) l₇ (vptr l₅ 0)) (has (sliceHere mut Nd) l₈ v₈) (has (tyRef erased mut byte) l₉ (vptr (rp .ptr .0) (rp .ptr .1))) (has (sliceHere mut byte) l₁₀ v₄) (room Ar l₁₁) (Toks ∷ ‵ (finally u8 (rp .name) ws) ∷ Packet ∷ [])) ∵ exec ! (𝓣 .C) (𝓣 .Λ) En body.t-7 (atRet En Post) $
         assigns ! (of-opd ! (load ! (from ! (stop !)) (look ! 12 refl))) (from ! (stop !)) (init ! 0 refl (typed ys ay gy)) $
         use0 W (raw (DeliveredOf 𝓤 H A mem run .pre (to-whole ys ay r mr))) (goes-whole ys ay r mr gy gr) $
         calls-at ! (fmOf 𝓤 H (W .laws) 𝓣) (DeliveredOf 𝓤 H A mem run) known-whole (to-whole ys ay r mr) (and-then ! (load ! (from ! (stop !)) (look ! 1 refl)) (and-then ! (load ! (from ! (stop !)) (look ! 19 refl)) (and-then ! (load ! (from ! (stop !)) (look ! 11 refl)) (no-more !)))) (λ w.
@@ -184,9 +184,9 @@ module _ {M : Type 1} (𝓤 : URA M) (H : Heap 𝓤) (A : Atoms 𝓤) (W : Given
         keep ! (0 ∷ 2 ∷ 1 ∷ []) $ by ! (exits s w ws is l (told s es))))))
 
     -- from the start
-    first : ent 𝓤 (⋆ 𝓤 H A (Locs (room Ar l₅) (room Dy l₆) (room (tyRef erased mut (pointee (Array T.the-row 33 .written))) l₇) (room (sliceHere mut Nd) l₈) (room (tyRef erased mut byte) l₉) (room (sliceHere mut byte) l₁₀) (room Ar l₁₁) (Toks ∷ ‵ (owns (Array T.the-row 33 ∷ usize ∷ ShrSlice (named 0) κ₁ u8 ∷ MutSlice (named 1) κ₂ u8 ∷ []) a vals) ∷ []))) (Wp 𝓤 H (𝓣 .C) (𝓣 .Λ) En body.t-1 (atReturn 𝓤 H En Post))
+    first : ent 𝓤 (⋆ 𝓤 H A (Locs (room Ar l₅) (room Dy l₆) (room (tyRef erased mut (pointee (Array T.the-row tableRoom .written))) l₇) (room (sliceHere mut Nd) l₈) (room (tyRef erased mut byte) l₉) (room (sliceHere mut byte) l₁₀) (room Ar l₁₁) (Toks ∷ ‵ (owns (Array T.the-row tableRoom ∷ usize ∷ ShrSlice (named 0) κ₁ u8 ∷ MutSlice (named 1) κ₂ u8 ∷ []) a vals) ∷ []))) (Wp 𝓤 H (𝓣 .C) (𝓣 .Λ) En body.t-1 (atReturn 𝓤 H En Post))
     first =
-        qed W (Locs (room Ar l₅) (room Dy l₆) (room (tyRef erased mut (pointee (Array T.the-row 33 .written))) l₇) (room (sliceHere mut Nd) l₈) (room (tyRef erased mut byte) l₉) (room (sliceHere mut byte) l₁₀) (room Ar l₁₁) (Toks ∷ ‵ (owns (Array T.the-row 33 ∷ usize ∷ ShrSlice (named 0) κ₁ u8 ∷ MutSlice (named 1) κ₂ u8 ∷ []) a vals) ∷ [])) ∵ exec ! (𝓣 .C) (𝓣 .Λ) En body.t-1 (atRet En Post) $
+        qed W (Locs (room Ar l₅) (room Dy l₆) (room (tyRef erased mut (pointee (Array T.the-row tableRoom .written))) l₇) (room (sliceHere mut Nd) l₈) (room (tyRef erased mut byte) l₉) (room (sliceHere mut byte) l₁₀) (room Ar l₁₁) (Toks ∷ ‵ (owns (Array T.the-row tableRoom ∷ usize ∷ ShrSlice (named 0) κ₁ u8 ∷ MutSlice (named 1) κ₂ u8 ∷ []) a vals) ∷ [])) ∵ exec ! (𝓣 .C) (𝓣 .Λ) En body.t-1 (atRet En Post) $
         assigns ! (of-opd ! (load ! (from ! (stop !)) (look ! 20 refl))) (from ! (stop !)) (init ! 12 refl (typed xs av ga)) $
         assigns ! (addr ! (from ! (stop !))) (from ! (stop !)) (init ! 8 refl (tt, tt)) $
         assigns ! (agg ! (and-then ! (load ! (from ! (stop !)) (look ! 8 refl)) (and-then ! (load ! (from ! (stop !)) (look ! 18 refl)) (no-more !)))) (from ! (stop !)) (init ! 6 refl (tt, (tt, (record { fits = n-fits }, tt)))) $
@@ -196,7 +196,7 @@ module _ {M : Type 1} (𝓤 : URA M) (H : Heap 𝓤) (A : Atoms 𝓤) (W : Given
         move ! (25 ∷ []) $ fsplit ! $ move ! (1 ∷ []) $ fsplit ! $ move ! (1 ∷ []) $ fsplit ! $ move ! (1 ∷ []) $ fsplit ! $
         -- [Reply; true; Packet; n's; nodes'; _11; …; Toks]: the array is lent for a lifetime ν of the call
         lft-new ! tt (λ ν. move ! (18 ∷ []) $
-        use1 W (later (some (λ (δ : GName). Table ν δ ⊛ ‵ (LentFront T.the-row 33 (ν ∷ []) l₅ xs n δ)))) (lends-front T.the-row 33 (ν ∷ []) l₅ xs n 𝓤 H A W (named 0) tt (T.makes 𝓤 H A) av ga (T.few-fit (length (take n xs)) n taken n-small)) $ await ! tt $ pick ! (λ δ. split ! $
+        use1 W (later (some (λ (δ : GName). Table ν δ ⊛ ‵ (LentFront T.the-row tableRoom (ν ∷ []) l₅ xs n δ)))) (lends-front T.the-row tableRoom (ν ∷ []) l₅ xs n 𝓤 H A W (named 0) tt (T.makes 𝓤 H A) av ga (T.few-fit (length (take n xs)) n taken (omega (arith, n-small)))) $ await ! tt $ pick ! (λ δ. split ! $
         -- [Table; what is kept; ν's token; Reply; true; Packet; n's; nodes'; _11; …]
         move ! (5 ∷ []) $ use1 W (Packet ⊛ Packet) (shr-slice-copy 𝓤 H A W (named 0) κ₁ u8 .twice pk (v₃ ∷ [])) $ split ! $ move ! (0 ∷ 5 ∷ []) $ join ! $ move ! (2 ∷ 0 ∷ []) $ join ! $ move ! (3 ∷ 30 ∷ 0 ∷ []) $
         use3 W (raw (Deliver 𝓤 H A mem run .pre (to-deliver ν δ))) (goes-deliver ν δ) $
@@ -209,32 +209,32 @@ module _ {M : Type 1} (𝓤 : URA M) (H : Heap 𝓤) (A : Atoms 𝓤) (W : Given
         move ! (4 ∷ []) $ split ! $ move ! (1 ∷ []) $ facts ! Y.the-row (Is Y.the-row) (shows 𝓤 H A Y.the-row) r (v ∷ []) (λ is.
         land ! (from ! (stop !)) (init ! 20 refl (EL.lawful Y.the-type Y′.the-laws 𝓤 H A W tt .typed r _ is .0)) $
         split ! $ lft-end ! tt $ move ! (0 ∷ 7 ∷ 5 ∷ []) $
-        use3 W (later (has Ar l₅ (only (after (ws .0))) ⊛ ‵ (Array T.the-row 33 .own (ws .0 ++ drop n xs) (after (ws .0))))) (front-back T.the-row 33 (ν ∷ []) l₅ xs n 𝓤 H A W (named 0) tt (T.makes 𝓤 H A) T.vals T.tells δ (ws .0) e₀ (all-long (ws .0) e₀)) $ await ! tt $ split ! $
-        move ! (1 ∷ []) $ facts ! (Array T.the-row 33) (Is (Array T.the-row 33)) (shows 𝓤 H A (Array T.the-row 33)) (ws .0 ++ drop n xs) (after (ws .0)) (λ gy.
+        use3 W (later (has Ar l₅ (only (after (ws .0))) ⊛ ‵ (Array T.the-row tableRoom .own (ws .0 ++ drop n xs) (after (ws .0))))) (front-back T.the-row tableRoom (ν ∷ []) l₅ xs n 𝓤 H A W (named 0) tt (T.makes 𝓤 H A) T.vals T.tells δ (ws .0) e₀ (all-long (ws .0) e₀)) $ await ! tt $ split ! $
+        move ! (1 ∷ []) $ facts ! (Array T.the-row tableRoom) (Is (Array T.the-row tableRoom)) (shows 𝓤 H A (Array T.the-row tableRoom)) (ws .0 ++ drop n xs) (after (ws .0)) (λ gy.
         -- [_5; Toks; the reply's last list; true; true; Packet; true; n's; nodes'; _11 at 9; …]
         keep ! (9 ∷ 10 ∷ 11 ∷ 12 ∷ 13 ∷ 14 ∷ 15 ∷ 16 ∷ 17 ∷ 18 ∷ 19 ∷ 20 ∷ 0 ∷ 21 ∷ 22 ∷ 23 ∷ 24 ∷ 25 ∷ 26 ∷ 27 ∷ 28 ∷ 29 ∷ 30 ∷ 31 ∷ 1 ∷ 2 ∷ 5 ∷ []) $ by ! (second (ws .0 ++ drop n xs) (only (after (ws .0))) r v (ws .1 .1 .0) gy is e₂ (λ s. together xs n (pk .now) (rp .now) r (ws .0) (ws .1 .1 .0) s e))))))))))))
       where
-        all-long : (zs : List Node) → length zs ≡ length (take n xs) → length (zs ++ drop n xs) ≡ 33
+        all-long : (zs : List Node) → length zs ≡ length (take n xs) → length (zs ++ drop n xs) ≡ tableRoom
         all-long zs e = omega (arith, length-append zs (drop n xs), e, taken, length-drop n xs, long, n-small)
 
   walk : (𝓣 : Tables 𝓤 H) → Triple 𝓤 (𝓣 .C #chain·deliver) (Deliver 𝓤 H A mem run) → Triple 𝓤 (𝓣 .C #table·delivered-with) (DeliveredOf 𝓤 H A mem run)
       → ent 𝓤 (onEntry 𝓤 H A lend.signature (κ₁, (κ₂, tt)) (q₁, (q₂, tt)) a vals) (WpFn 𝓤 H (𝓣 .C) (𝓣 .Λ) code.function (av ∷ vint w64 n ∷ v₃ ∷ v₄ ∷ []) Post)
   walk 𝓣 known-deliver known-whole =
-      qed W (Toks ∷ ‵ (owns (Array T.the-row 33 ∷ usize ∷ ShrSlice (named 0) κ₁ u8 ∷ MutSlice (named 1) κ₂ u8 ∷ []) a vals) ∷ []) ∵ enter ! (𝓣 .C) (𝓣 .Λ) code.function (av ∷ vint w64 n ∷ v₃ ∷ v₄ ∷ []) _ $
+      qed W (Toks ∷ ‵ (owns (Array T.the-row tableRoom ∷ usize ∷ ShrSlice (named 0) κ₁ u8 ∷ MutSlice (named 1) κ₂ u8 ∷ []) a vals) ∷ []) ∵ enter ! (𝓣 .C) (𝓣 .Λ) code.function (av ∷ vint w64 n ∷ v₃ ∷ v₄ ∷ []) _ $
       alloc1 ! (λ l₀. alloc1 ! (λ l₁. alloc1 ! (λ l₂. alloc1 ! (λ l₃. alloc1 ! (λ l₄. alloc1 ! (λ l₅. alloc1 ! (λ l₆. alloc1 ! (λ l₇. alloc1 ! (λ l₈. alloc1 ! (λ l₉. alloc1 ! (λ l₁₀. alloc1 ! (λ l₁₁. alloc0 ! $ params1 ! $
-      pass1 ! (init ! 20 refl (array-lawful 𝓤 H A W T.the-row (T.lawful 𝓤 H A W) 33 .typed xs (av ∷ []) ga .0)) $ pass1 ! (init ! 18 refl (tt, record { fits = n-fits })) $ pass1 ! (init ! 16 refl (tt, (tt, (record { fits = room₁ .0 }, tt)))) $ pass1 ! (init ! 14 refl (tt, (tt, (record { fits = room₂ .0 }, tt)))) $ pass0 ! $
+      pass1 ! (init ! 20 refl (array-lawful 𝓤 H A W T.the-row (T.lawful 𝓤 H A W) tableRoom .typed xs (av ∷ []) ga .0)) $ pass1 ! (init ! 18 refl (tt, record { fits = n-fits })) $ pass1 ! (init ! 16 refl (tt, (tt, (record { fits = room₁ .0 }, tt)))) $ pass1 ! (init ! 14 refl (tt, (tt, (record { fits = room₂ .0 }, tt)))) $ pass0 ! $
       by ! (first 𝓣 known-deliver known-whole l₀ l₁ l₂ l₃ l₄ l₅ l₆ l₇ l₈ l₉ l₁₀ l₁₁)))))))))))))
 
 module _ {M : Type 1} (𝓤 : URA M) (H : Heap 𝓤) (A : Atoms 𝓤) (W : Given 𝓤 H A) (mem : Memory → SProp 𝓤) (run : Routine → Fun 𝓤) (𝓣 : Tables 𝓤 H) (known-deliver : Triple 𝓤 (𝓣 .C #chain·deliver) (Deliver 𝓤 H A mem run)) (known-whole : Triple 𝓤 (𝓣 .C #table·delivered-with) (DeliveredOf 𝓤 H A mem run)) where
   lend-walks : Walks 𝓤 H A lend.ended stayed (WpFn 𝓤 H (𝓣 .C) (𝓣 .Λ) code.function) (lend.clauses 𝓤 H A mem run)
   lend-walks = walked 𝓤 H A lend.ended stayed (lend.clauses 𝓤 H A mem run) (WpFn 𝓤 H (𝓣 .C) (𝓣 .Λ) code.function)
-      (λ κs. (array-vals T.vals, (uint-vals w64, (slice-vals, (slice-vals, tt))))) (λ κs. (array-tells T.the-row T.vals T.tells 33, (uint-tells w64, (shr-slice-tells (named 0) (κs .0) u8, (mut-slice-tells (named 1) (κs .1 .0) u8, tt)))))
-      (λ κs qs bounds a g are. needs 𝓤 (a .1 .0 < 34) _ (λ small.
+      (λ κs. (array-vals T.vals, (uint-vals w64, (slice-vals, (slice-vals, tt))))) (λ κs. (array-tells T.the-row T.vals T.tells tableRoom, (uint-tells w64, (shr-slice-tells (named 0) (κs .0) u8, (mut-slice-tells (named 1) (κs .1 .0) u8, tt)))))
+      (λ κs qs bounds a g are. needs 𝓤 (a .1 .0 ≤ tableRoom) _ (λ small.
       walk 𝓤 H A W mem run (κs .0) (κs .1 .0) (qs .0) (qs .1 .0) (a .0) _ (a .1 .0) (a .1 .1 .0) (a .1 .1 .1 .0) (are .0) small (are .1 .1 .0 .0 .1) (are .1 .1 .1 .0 .0 .1) 𝓣 known-deliver known-whole))
 
   lend-meets : Meets 𝓤 H A lend.signature (WpFn 𝓤 H (𝓣 .C) (𝓣 .Λ) code.function) (lend.spec 𝓤 H A mem run)
   lend-meets =
-      walk-meets 𝓤 H A lend.ended stayed W (goes-dropped 𝓤 H A W 2 (arrayOf (plain (λ _. T.the-row)) 33) yes (λ κs x f. refl), (goes-none 𝓤 H A W 2 (λ _. usize) yes (λ κs x f. refl), (goes-none-slice 𝓤 H A W 2 (0 ∷ []) tt (plain (λ _. u8)) yes, (goes-gave-slice 𝓤 H A W 2 1 tt (plain (λ _. u8)), tt)))) (lend.clauses 𝓤 H A mem run)
+      walk-meets 𝓤 H A lend.ended stayed W (goes-dropped 𝓤 H A W 2 (arrayOf (plain (λ _. T.the-row)) tableRoom) yes (λ κs x f. refl), (goes-none 𝓤 H A W 2 (λ _. usize) yes (λ κs x f. refl), (goes-none-slice 𝓤 H A W 2 (0 ∷ []) tt (plain (λ _. u8)) yes, (goes-gave-slice 𝓤 H A W 2 1 tt (plain (λ _. u8)), tt)))) (lend.clauses 𝓤 H A mem run)
       (WpFn 𝓤 H (𝓣 .C) (𝓣 .Λ) code.function) (WpFn-mono 𝓤 H (W .laws) 𝓣 code.function) lend-walks
 
 pub lend-spec : {M : Type 1} → stated.statement M

@@ -1,5 +1,5 @@
 -- The bytes that a line of the program `trials` is answered: those put so far, in their order; "what is put past their room is not written".
-use Prim.Native.Nat.{ℕ, _+_, _*_, _/_, _%_}
+use Prim.Native.Nat.{ℕ, _+_, _/_, _%_}
 use mathlib.Core.Bool.{Bool, cond}
 use mathlib.Core.List.{List, _∷_, []}
 use lib.Dec.{ltb}

@@ -1,4 +1,6 @@
 // The lines of `trials` that try packets: 10 builds one, 11 reads one, 12 reads a status packet.
+// Promised: each shows what the call that it tries answers and leaves, as docs/TRIALS.md has it.
+// Left to others: what the calls answer (packet, mask, status), and the other lines (trychain, tryhost).
 use fields::Answer;
 use fields::MOST_ROOM;
 use fields::byte;
@@ -11,21 +13,33 @@ use fields::room;
 use packet::Framed;
 use status::Status;
 use text::rest;
+ghost use mathlib.Core.Path.{_≡_};
+ghost use Rattle.trypacket.specs.Trial.{buildInto, trypacketBuild, trypacketRead, readUnder, readStatus};
 
-// `room address command data..`: `NN buffer`.
-pub fn build(args: &[u8]) -> Answer {
-    if !is_lending(args, 3) {
-        return malformed();
-    }
-    let mut buffer = filled();
-    let room = room(args, MOST_ROOM);
-    let lent = &mut buffer[0..room];
+// Builds a packet in what a line lends, and shows all of that.
+fn build_into(args: &[u8], lent: &mut [u8]) -> Answer
+    ensures { λ r. ⌜ r ≡ buildInto (now (args .entry)) (now (lent .entry)) ⌝ }
+{
     let built = packet::build(byte(args, 1), byte(args, 2), rest(args, 3), lent);
     numbered(built.number(), lent)
 }
 
+// `room address command data..`: `NN buffer`.
+pub fn build(args: &[u8]) -> Answer
+    ensures { λ r. ⌜ r ≡ trypacketBuild (now (args .entry)) ⌝ }
+{
+    if is_lending(args, 3) {
+        let mut buffer = filled();
+        let room = room(args, MOST_ROOM);
+        return build_into(args, &mut buffer[0..room]);
+    }
+    malformed()
+}
+
 // `bytes..`: `00 address command data..`, else `NN`.
-pub fn read(args: &[u8]) -> Answer {
+pub fn read(args: &[u8]) -> Answer
+    ensures { λ r. ⌜ r ≡ trypacketRead (now (args .entry)) ⌝ }
+{
     let found = packet::read(args);
     let answer = nothing().put(found.number());
     match found {
@@ -41,16 +55,24 @@ pub fn read(args: &[u8]) -> Answer {
     }
 }
 
+// A status packet under a mask: `00 status items..`, else `NN`.
+fn read_under(mask: u8, s: &[u8]) -> Answer
+    ensures { λ r. ⌜ r ≡ readUnder mask (now (s .entry)) ⌝ }
+{
+    let found = mask::read(s, mask);
+    let answer = nothing().put(found.number());
+    match found {
+        Status::Whole(first) => answer.put(first).put_all(status::items_part(s)),
+        Status::Refused(_) => answer,
+    }
+}
+
 // `mask bytes..`: `00 status items..`, else `NN`.
-pub fn read_status(args: &[u8]) -> Answer {
+pub fn read_status(args: &[u8]) -> Answer
+    ensures { λ r. ⌜ r ≡ readStatus (now (args .entry)) ⌝ }
+{
     if args.len() < 1 {
         return malformed();
     }
-    let bytes = rest(args, 1);
-    let found = mask::read(bytes, byte(args, 0));
-    let answer = nothing().put(found.number());
-    match found {
-        Status::Whole(first) => answer.put(first).put_all(status::items_part(bytes)),
-        Status::Refused(_) => answer,
-    }
+    read_under(byte(args, 0), rest(args, 1))
 }

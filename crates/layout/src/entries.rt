@@ -8,7 +8,9 @@ use entry::Known;
 use fields::Answer;
 use fields::byte;
 use text::rest;
+ghost use mathlib.Core.Path.{_≡_};
 ghost use Prim.Native.Nat.{_≤_};
+ghost use Rattle.layout.specs.Entries.{isEntry, areEntries, readKnown, readEntry, readEntries};
 
 // How many bytes an entry has.
 const ENTRY: usize = 14;
@@ -17,7 +19,9 @@ const ENTRY: usize = 14;
 const ENTRIES: usize = 31;
 
 // Whether an entry is of its form: leader is a flag, 00 or 01, and bits 6 and 7 of known are 0.
-fn is_entry(s: &[u8]) -> bool {
+fn is_entry(s: &[u8]) -> bool
+    ensures { λ r. ⌜ r ≡ isEntry (now (s .entry)) ⌝ }
+{
     if byte(s, 2) < 2 {
         return byte(s, 13) < 64;
     }
@@ -25,7 +29,9 @@ fn is_entry(s: &[u8]) -> bool {
 }
 
 // Whether s is the 31 entries of a session.
-pub fn are_entries(s: &[u8]) -> bool {
+pub fn are_entries(s: &[u8]) -> bool
+    ensures { λ r. ⌜ r ≡ areEntries (now (s .entry)) ⌝ }
+{
     if s.len() != ENTRIES * ENTRY {
         return false;
     }
@@ -40,7 +46,9 @@ pub fn are_entries(s: &[u8]) -> bool {
 }
 
 // Bits 0 to 5: place, mask, outputs, PWM pair, held set, timer mode.
-fn read_known(bits: u8) -> Known {
+fn read_known(bits: u8) -> Known
+    ensures { λ r. ⌜ r ≡ readKnown bits ⌝ }
+{
     Known {
         place: bits % 2 == 1,
         mask: bits / 2 % 2 == 1,
@@ -52,14 +60,18 @@ fn read_known(bits: u8) -> Known {
 }
 
 // The entry at the start of s.
-fn read_entry(s: &[u8]) -> Entry {
+fn read_entry(s: &[u8]) -> Entry
+    ensures { λ r. ⌜ r ≡ readEntry (now (s .entry)) ⌝ }
+{
     let settings = read_settings(read_place(s), rest(s, 3));
     let known = read_known(byte(s, 13));
     Entry { settings, known }
 }
 
 // The 31 entries of s.
-pub fn read_entries(s: &[u8]) -> [Entry; ENTRIES] {
+pub fn read_entries(s: &[u8]) -> [Entry; ENTRIES]
+    ensures { λ r. ⌜ r ≡ readEntries (now (s .entry)) ⌝ }
+{
     let e = read_entry(s);
     let mut entries = [e; ENTRIES];
     let mut i = 0;

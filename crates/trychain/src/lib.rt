@@ -8,7 +8,7 @@ use fields::lent;
 use fields::malformed;
 use fields::nothing;
 use layout::are_nodes;
-use layout::behind_nodes;
+use layout::nodes_length;
 use layout::put_nodes;
 use layout::read_nodes;
 use table::Delivered;
@@ -40,7 +40,7 @@ fn put_delivered(d: Delivered, lent: &[u8], count: usize) -> Answer {
 // A packet behind so many node records.
 fn deliver_to(records: &[u8], count: usize, lent: &mut [u8]) -> Answer {
     let nodes = read_nodes(records);
-    let packet = behind_nodes(records, count);
+    let packet = rest(records, nodes_length(count));
     let delivered = table::deliver(Table { nodes, count }, packet, lent);
     put_delivered(delivered, lent, count)
 }

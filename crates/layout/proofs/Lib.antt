@@ -1,0 +1,3 @@
+mod Fields
+mod Turns
+pub mod Unique

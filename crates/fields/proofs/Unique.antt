@@ -1,9 +1,20 @@
--- A second result that meets a contract is equal to the first, for each public function that has one.
+-- A second result that meets a contract is equal to the first, for each public function.
 use mathlib.Core.Path.{sym, _∙_}
 use Rattle.wire.proofs.OneResult.{OneResult}
 use Rattle.fields.proofs.read.byte.Reads as byte
 use Rattle.fields.proofs.read.word.Reads as word
 use Rattle.fields.proofs.read.long.Reads as long
+use Rattle.fields.proofs.answer.nothing.Reads as nothing
+use Rattle.fields.proofs.answer.Answer.put.Reads as put
+use Rattle.fields.proofs.answer.Answer.put_flag.Reads as put-flag
+use Rattle.fields.proofs.answer.Answer.put_word.Reads as put-word
+use Rattle.fields.proofs.answer.Answer.put_long.Reads as put-long
+use Rattle.fields.proofs.answer.Answer.put_all.Reads as put-all
+use Rattle.fields.proofs.answer.malformed.Reads as malformed
+use Rattle.fields.proofs.answer.numbered.Reads as numbered
+use Rattle.fields.proofs.read.filled.Reads as filled
+use Rattle.fields.proofs.read.room.Reads as room
+use Rattle.fields.proofs.read.is_lending.Reads as is-lending
 
 pub byte-unique : OneResult byte.Post
 byte-unique κs a r r′ s s′ p q = p ∙ sym q
@@ -13,3 +24,36 @@ word-unique κs a r r′ s s′ p q = p ∙ sym q
 
 pub long-unique : OneResult long.Post
 long-unique κs a r r′ s s′ p q = p ∙ sym q
+
+pub nothing-unique : OneResult nothing.Post
+nothing-unique κs a r r′ s s′ p q = p ∙ sym q
+
+pub put-unique : OneResult put.Post
+put-unique κs a r r′ s s′ p q = p ∙ sym q
+
+pub put-flag-unique : OneResult put-flag.Post
+put-flag-unique κs a r r′ s s′ p q = p ∙ sym q
+
+pub put-word-unique : OneResult put-word.Post
+put-word-unique κs a r r′ s s′ p q = p ∙ sym q
+
+pub put-long-unique : OneResult put-long.Post
+put-long-unique κs a r r′ s s′ p q = p ∙ sym q
+
+pub put-all-unique : OneResult put-all.Post
+put-all-unique κs a r r′ s s′ p q = p ∙ sym q
+
+pub malformed-unique : OneResult malformed.Post
+malformed-unique κs a r r′ s s′ p q = p ∙ sym q
+
+pub numbered-unique : OneResult numbered.Post
+numbered-unique κs a r r′ s s′ p q = p ∙ sym q
+
+pub filled-unique : OneResult filled.Post
+filled-unique κs a r r′ s s′ p q = p ∙ sym q
+
+pub room-unique : OneResult room.Post
+room-unique κs a r r′ s s′ p q = p ∙ sym q
+
+pub is-lending-unique : OneResult is-lending.Post
+is-lending-unique κs a r r′ s s′ p q = p ∙ sym q

@@ -1,5 +1,5 @@
 // A line of `trials`: its fields, and the bytes of its answer.
-// Promised: the byte, word or long at a place of a line; all else ends without a fault and is held by the stored cases of `trials`.
+// Promised: the byte, word or long at a place of a line; what it lends; each byte put into an answer, in its place, and nothing past its room.
 // Left to others: what the fields mean (layout, state, and the crates whose names start with try), and how bytes are written as text (hex).
 mod answer;
 mod read;
@@ -9,9 +9,10 @@ pub use answer::MOST_BYTES;
 pub use answer::malformed;
 pub use answer::nothing;
 pub use answer::numbered;
+pub use read::MOST_ROOM;
 pub use read::byte;
 pub use read::filled;
 pub use read::is_lending;
-pub use read::lent;
 pub use read::long;
+pub use read::room;
 pub use read::word;

@@ -1,8 +1,8 @@
 // Fields of a line's bytes. Every place may be asked for: past the end is a 0.
-ghost use Prim.Native.Nat.{_≤_};
 ghost use mathlib.Core.Path.{_≡_};
-ghost use lib.ListN.{length, drop};
+ghost use lib.ListN.{drop};
 ghost use Rattle.fields.specs.Field.{fieldsByte, fieldsWord, longOf};
+ghost use Rattle.fields.specs.Lending.{filledOf, roomOf, isLending};
 
 // The byte at a position.
 pub fn byte(s: &[u8], at: usize) -> u8
@@ -35,18 +35,18 @@ pub fn long(s: &[u8], at: usize) -> u32
 }
 
 // The most that a line may lend.
-const MOST_ROOM: usize = 0x40;
+pub const MOST_ROOM: usize = 0x40;
 
-// The largest lent buffer. It is filled with 55.
-pub fn filled() -> [u8; 64]
-    ensures { λ r. ⌜ 64 ≡ length r ⌝ }
+// The largest buffer that a line lends, filled with 55.
+pub fn filled() -> [u8; MOST_ROOM]
+    ensures { λ r. ⌜ r ≡ filledOf ⌝ }
 {
-    [0x55; 64]
+    [0x55; MOST_ROOM]
 }
 
 // The room that a line lends, its first byte; none where it is above the most.
-fn room(args: &[u8], most: usize) -> usize
-    ensures { λ r. ⌜ r ≤ most ⌝ }
+pub fn room(args: &[u8], most: usize) -> usize
+    ensures { λ r. ⌜ r ≡ roomOf (now (args .entry)) most ⌝ }
 {
     let room = byte(args, 0) as usize;
     if room <= most {
@@ -55,14 +55,10 @@ fn room(args: &[u8], most: usize) -> usize
     0
 }
 
-// The part of a buffer that a line lends.
-pub fn lent<'a>(args: &[u8], buffer: &'a mut [u8]) -> &'a mut [u8] {
-    let room = room(args, buffer.len());
-    &mut buffer[0..room]
-}
-
 // Whether a line has so many bytes, the first of them a room.
-pub fn is_lending(args: &[u8], least: usize) -> bool {
+pub fn is_lending(args: &[u8], least: usize) -> bool
+    ensures { λ r. ⌜ r ≡ isLending (now (args .entry)) least ⌝ }
+{
     if args.len() < least {
         return false;
     }

@@ -1,12 +1,13 @@
 // The line of `trials` that tries the chain: 20 delivers a packet to node records that are lent for that line alone.
 use chain::Delivery;
 use fields::Answer;
+use fields::MOST_ROOM;
 use fields::byte;
 use fields::filled;
 use fields::is_lending;
-use fields::lent;
 use fields::malformed;
 use fields::nothing;
+use fields::room;
 use layout::are_nodes;
 use layout::nodes_length;
 use layout::put_nodes;
@@ -52,7 +53,8 @@ pub fn deliver(args: &[u8]) -> Answer {
     if is_lending(args, 2) {
         if are_nodes(records, count) {
             let mut buffer = filled();
-            return deliver_to(records, count, lent(args, &mut buffer));
+            let room = room(args, MOST_ROOM);
+            return deliver_to(records, count, &mut buffer[0..room]);
         }
     }
     malformed()

@@ -5,10 +5,10 @@ use fields::Answer;
 use fields::byte;
 use fields::filled;
 use fields::is_lending;
-use fields::lent;
 use fields::malformed;
 use fields::nothing;
 use fields::numbered;
+use fields::room;
 use session::End;
 use session::Session;
 use session::Step;
@@ -122,7 +122,10 @@ fn called(s: Session, kind: u8, args: &[u8], lent: &mut [u8]) -> Tried {
 // Makes it with what it lends: only the calls that send have a room.
 fn call_lending(s: Session, kind: u8, args: &[u8], buffer: &mut [u8]) -> Tried {
     match kind {
-        0x31..=0x34 => called(s, kind, args, lent(args, buffer)),
+        0x31..=0x34 => {
+            let room = room(args, buffer.len());
+            called(s, kind, args, &mut buffer[0..room])
+        }
         _ => called(s, kind, args, &mut buffer[0..0]),
     }
 }

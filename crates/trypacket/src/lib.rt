@@ -1,12 +1,13 @@
 // The lines of `trials` that try packets: 10 builds one, 11 reads one, 12 reads a status packet.
 use fields::Answer;
+use fields::MOST_ROOM;
 use fields::byte;
 use fields::filled;
 use fields::is_lending;
-use fields::lent;
 use fields::malformed;
 use fields::nothing;
 use fields::numbered;
+use fields::room;
 use packet::Framed;
 use status::Status;
 use text::rest;
@@ -17,7 +18,8 @@ pub fn build(args: &[u8]) -> Answer {
         return malformed();
     }
     let mut buffer = filled();
-    let lent = lent(args, &mut buffer);
+    let room = room(args, MOST_ROOM);
+    let lent = &mut buffer[0..room];
     let built = packet::build(byte(args, 1), byte(args, 2), rest(args, 3), lent);
     numbered(built.number(), lent)
 }

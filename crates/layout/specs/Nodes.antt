@@ -1,15 +1,17 @@
 -- NODE, 31 bytes: what a node of the chain holds.
 use Prim.Native.Nat.{ℕ, _*_}
 use mathlib.Core.Bool.{Bool, false, cond, _&&_}
-use mathlib.Core.List.{List, map}
+use mathlib.Core.List.{List, [], _∷_, map}
 use lib.Dec.{eqb, ltb, leb}
-use lib.ListN.{length, drop}
+use lib.ListN.{length, take, drop}
+use Rattle.fields.specs.declared.answer.Answer.{Answer}
+use Rattle.fields.specs.Answer.{answerPutFlag, answerPutWord, answerPutLong, answerPutAll}
 use Rattle.fields.specs.Field.{fieldsByte, fieldsWord, longOf}
 use Rattle.node.specs.declared.state.Bench.{Bench}
 use Rattle.node.specs.declared.state.Captured.{Captured}
 use Rattle.node.specs.declared.state.Node.{Node}
-use Rattle.layout.specs.Record.{recordsFrom, allAre}
-use Rattle.layout.specs.Settings.{readPlace, readSettings}
+use Rattle.layout.specs.Record.{recordsFrom, allAre, putEach}
+use Rattle.layout.specs.Settings.{readPlace, readSettings, putPlace, putSettings}
 
 -- a record is there, and its flags, leader and addressed, are 00 or 01
 unfoldable pub isNode : List ℕ → Bool
@@ -51,3 +53,20 @@ readNode s = record {
 -- as many as a table has room for; past the line's end all is 0
 unfoldable pub readNodes : List ℕ → List Node
 readNodes s = map readNode (recordsFrom 31 0 33 s)
+
+-- bench values more in an answer
+unfoldable pub putBench : Answer → Bench → Answer
+putBench a b =
+    answerPutAll (answerPutLong (answerPutWord a (b .inputs)) (b .counter)) (b .analog0 ∷ b .analog1 ∷ b .analog2 ∷ b .id ∷ b .version ∷ [])
+
+-- captured ones
+unfoldable pub putCaptured : Answer → Captured → Answer
+putCaptured a k = answerPutLong (answerPutWord a (k .inputs)) (k .counter)
+
+-- a record
+unfoldable pub putNode : Answer → Node → Answer
+putNode a n = putCaptured (putBench (putSettings (answerPutFlag (putPlace a (n .settings .place)) (n .addressed)) (n .settings)) (n .bench)) (n .captured)
+
+-- "NODE*n"
+unfoldable pub putNodes : Answer → List Node → ℕ → Answer
+putNodes a ns n = putEach putNode a (take n ns)

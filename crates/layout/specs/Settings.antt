@@ -5,6 +5,8 @@ use lib.Dec.{eqb}
 use lib.ListN.{drop}
 use Rattle.command.specs.declared.Held.{Held}
 use Rattle.command.specs.declared.Place.{Place}
+use Rattle.fields.specs.declared.answer.Answer.{Answer}
+use Rattle.fields.specs.Answer.{answerPut, answerPutFlag, answerPutWord}
 use Rattle.fields.specs.Field.{fieldsByte, fieldsWord}
 use Rattle.node.specs.declared.state.Settings.{Settings}
 
@@ -26,3 +28,13 @@ readSettings p s = record {
   held = readHeld (drop 5 s);
   timer = fieldsByte s 9;
 }
+
+-- the same, more in an answer
+unfoldable pub putPlace : Answer → Place → Answer
+putPlace a p = answerPutFlag (answerPut (answerPut a (p .address .0)) (p .group .0)) (p .leader)
+
+unfoldable pub putHeld : Answer → Held → Answer
+putHeld a h = answerPut (answerPut (answerPutWord a (h .outputs)) (h .pwm .first)) (h .pwm .second)
+
+unfoldable pub putSettings : Answer → Settings → Answer
+putSettings a s = answerPut (putHeld (putHeld (answerPut a (s .mask)) (record { outputs = s .outputs; pwm = s .pwm })) (s .held)) (s .timer)

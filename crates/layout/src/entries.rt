@@ -9,8 +9,9 @@ use fields::Answer;
 use fields::byte;
 use text::rest;
 ghost use mathlib.Core.Path.{_≡_};
+ghost use mathlib.Core.Bool.{cond};
 ghost use Prim.Native.Nat.{_≤_};
-ghost use Rattle.layout.specs.Entries.{isEntry, areEntries, readKnown, readEntry, readEntries};
+ghost use Rattle.layout.specs.Entries.{isEntry, areEntries, readKnown, readEntry, readEntries, knownBits, putEntry, putEntries};
 
 // How many bytes an entry has.
 const ENTRY: usize = 14;
@@ -85,26 +86,33 @@ pub fn read_entries(s: &[u8]) -> [Entry; ENTRIES]
 
 // A bit of this value, if set.
 fn bit(set: bool, value: u8) -> u8
-    ensures { λ r. ⌜ r ≤ value ⌝ }
+    ensures { λ r. ⌜ r ≡ cond set value 0 ⌝ }
+    ensures within { λ r. ⌜ r ≤ value ⌝ }
 {
     if set { value } else { 0 }
 }
 
 // The bits of what is known.
-fn known_bits(k: Known) -> u8 {
+fn known_bits(k: Known) -> u8
+    ensures { λ r. ⌜ r ≡ knownBits k ⌝ }
+{
     let low = bit(k.place, 1) + bit(k.mask, 2) + bit(k.outputs, 4);
     let high = bit(k.pwm, 8) + bit(k.held, 16) + bit(k.timer, 32);
     low + high
 }
 
 // With an entry more.
-fn put_entry(a: Answer, e: Entry) -> Answer {
+fn put_entry(a: Answer, e: Entry) -> Answer
+    ensures { λ r. ⌜ r ≡ putEntry a e ⌝ }
+{
     let s = e.settings;
     put_settings(put_place(a, s.place), s).put(known_bits(e.known))
 }
 
 // With ENTRY*31 more.
-pub fn put_entries(a: Answer, entries: [Entry; ENTRIES]) -> Answer {
+pub fn put_entries(a: Answer, entries: [Entry; ENTRIES]) -> Answer
+    ensures { λ r. ⌜ r ≡ putEntries a entries ⌝ }
+{
     let mut all = a;
     let mut i = 0;
     while i < ENTRIES {

@@ -12,7 +12,7 @@ use node::Captured;
 use node::Node;
 use text::rest;
 ghost use mathlib.Core.Path.{_≡_};
-ghost use Rattle.layout.specs.Nodes.{isNode, areNodes, nodesLength, readBench, readCaptured, readNode, readNodes};
+ghost use Rattle.layout.specs.Nodes.{isNode, areNodes, nodesLength, readBench, readCaptured, readNode, readNodes, putBench, putCaptured, putNode, putNodes};
 
 // How many bytes a record has.
 const NODE: usize = 31;
@@ -118,22 +118,34 @@ pub fn read_nodes(s: &[u8]) -> [Node; MOST_LENT]
 }
 
 // With bench values more.
-fn put_bench(a: Answer, b: Bench) -> Answer {
+fn put_bench(a: Answer, b: Bench) -> Answer
+    ensures { λ r. ⌜ r ≡ putBench a b ⌝ }
+{
     a.put_word(b.inputs)
         .put_long(b.counter)
         .put_all(&[b.analog0, b.analog1, b.analog2, b.id, b.version])
 }
 
+// With captured ones more.
+fn put_captured(a: Answer, k: Captured) -> Answer
+    ensures { λ r. ⌜ r ≡ putCaptured a k ⌝ }
+{
+    a.put_word(k.inputs).put_long(k.counter)
+}
+
 // With a node more.
-fn put_node(a: Answer, n: Node) -> Answer {
+fn put_node(a: Answer, n: Node) -> Answer
+    ensures { λ r. ⌜ r ≡ putNode a n ⌝ }
+{
     let s = n.settings;
-    let c = n.captured;
     let a = put_settings(put_place(a, s.place).put_flag(n.addressed), s);
-    put_bench(a, n.bench).put_word(c.inputs).put_long(c.counter)
+    put_captured(put_bench(a, n.bench), n.captured)
 }
 
 // With the first `count` nodes more.
-pub fn put_nodes(a: Answer, nodes: [Node; MOST_LENT], count: usize) -> Answer {
+pub fn put_nodes(a: Answer, nodes: [Node; MOST_LENT], count: usize) -> Answer
+    ensures { λ r. ⌜ r ≡ putNodes a nodes count ⌝ }
+{
     let mut all = a;
     let mut i = 0;
     while i < MOST_LENT {

@@ -10,7 +10,7 @@ use text::rest;
 use wire::Group;
 use wire::Individual;
 ghost use mathlib.Core.Path.{_≡_};
-ghost use Rattle.layout.specs.Settings.{readPlace, readHeld, readSettings};
+ghost use Rattle.layout.specs.Settings.{readPlace, readHeld, readSettings, putPlace, putHeld, putSettings};
 
 // Address, group, leader.
 pub(crate) fn read_place(s: &[u8]) -> Place
@@ -54,18 +54,24 @@ pub(crate) fn read_settings(place: Place, s: &[u8]) -> Settings
 }
 
 // With a place more.
-pub(crate) fn put_place(a: Answer, p: Place) -> Answer {
+pub(crate) fn put_place(a: Answer, p: Place) -> Answer
+    ensures { λ r. ⌜ r ≡ putPlace a p ⌝ }
+{
     a.put(p.address.0).put(p.group.0).put_flag(p.leader)
 }
 
 // With outputs and a PWM pair more.
-fn put_held(a: Answer, h: Held) -> Answer {
+fn put_held(a: Answer, h: Held) -> Answer
+    ensures { λ r. ⌜ r ≡ putHeld a h ⌝ }
+{
     let pwm = h.pwm;
     a.put_word(h.outputs).put(pwm.first).put(pwm.second)
 }
 
 // With the settings behind the place more.
-pub(crate) fn put_settings(a: Answer, s: Settings) -> Answer {
+pub(crate) fn put_settings(a: Answer, s: Settings) -> Answer
+    ensures { λ r. ⌜ r ≡ putSettings a s ⌝ }
+{
     let outputs = s.outputs;
     let pwm = s.pwm;
     let live = Held { outputs, pwm };

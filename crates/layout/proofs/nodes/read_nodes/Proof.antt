@@ -2,7 +2,7 @@
 use Prim.Native.Nat.{_≤_, _-_}
 use mathlib.Core.Path.{_≡_, refl}
 use native.Mathlib.Omega.{arith}
-use lib.ListN.{length, length-set}
+use lib.ListN.{length}
 use borrow.Author.Needs.{needs}
 use Rattle.layout.specs.Nodes.{readNode}
 use Rattle.layout.proofs.Fields.{nodes-end}
@@ -20,7 +20,7 @@ again : tie.Need-loop-again Inv-loop μ-loop
 again c =
     let w : _ = c .before .before .before .loop .inv in (
       omega arith,
-      search (length-set, needs),
+      search needs,
       one-read readNode 31 33 _ _ _ _ _ (w .2) (c .before .before .loop-test .taken) (omega arith) (c .before .rest .ensures .holds) (c .read-node2 .ensures),
     )
 

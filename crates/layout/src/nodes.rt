@@ -11,6 +11,8 @@ use node::Bench;
 use node::Captured;
 use node::Node;
 use text::rest;
+ghost use mathlib.Core.Path.{_≡_};
+ghost use Rattle.layout.specs.Nodes.{isNode, areNodes, nodesLength, readBench, readCaptured, readNode, readNodes, putBench, putCaptured, putNode, putNodes};
 
 // How many bytes a record has.
 const NODE: usize = 31;
@@ -19,7 +21,9 @@ const NODE: usize = 31;
 const MOST_LENT: usize = 33;
 
 // Whether s starts with a record: leader and addressed are flags, 00 or 01.
-fn is_node(s: &[u8]) -> bool {
+fn is_node(s: &[u8]) -> bool
+    ensures { λ r. ⌜ r ≡ isNode (now (s .entry)) ⌝ }
+{
     if s.len() < NODE {
         return false;
     }
@@ -30,7 +34,9 @@ fn is_node(s: &[u8]) -> bool {
 }
 
 // Whether s starts with so many records, and a line may lend them.
-pub fn are_nodes(s: &[u8], count: usize) -> bool {
+pub fn are_nodes(s: &[u8], count: usize) -> bool
+    ensures { λ r. ⌜ r ≡ areNodes (now (s .entry)) count ⌝ }
+{
     if MOST_LENT < count {
         return false;
     }
@@ -44,16 +50,20 @@ pub fn are_nodes(s: &[u8], count: usize) -> bool {
     true
 }
 
-// What stands behind so many records.
-pub fn behind_nodes(s: &[u8], count: usize) -> &[u8] {
-    if MOST_LENT < count {
-        return s;
+// How many bytes so many records have, where a line may lend them.
+pub fn nodes_length(count: usize) -> usize
+    ensures { λ r. ⌜ r ≡ nodesLength count ⌝ }
+{
+    if count <= MOST_LENT {
+        return count * NODE;
     }
-    rest(s, count * NODE)
+    0
 }
 
 // Inputs (2), counter (4), analog 0, 1, 2, device ID, version.
-fn read_bench(s: &[u8]) -> Bench {
+fn read_bench(s: &[u8]) -> Bench
+    ensures { λ r. ⌜ r ≡ readBench (now (s .entry)) ⌝ }
+{
     let inputs = word(s, 0);
     let counter = long(s, 2);
     Bench {
@@ -68,14 +78,18 @@ fn read_bench(s: &[u8]) -> Bench {
 }
 
 // Inputs (2), counter (4).
-fn read_captured(s: &[u8]) -> Captured {
+fn read_captured(s: &[u8]) -> Captured
+    ensures { λ r. ⌜ r ≡ readCaptured (now (s .entry)) ⌝ }
+{
     let inputs = word(s, 0);
     let counter = long(s, 2);
     Captured { inputs, counter }
 }
 
 // The record at the start of s.
-fn read_node(s: &[u8]) -> Node {
+fn read_node(s: &[u8]) -> Node
+    ensures { λ r. ⌜ r ≡ readNode (now (s .entry)) ⌝ }
+{
     let addressed = byte(s, 3) == 1;
     let settings = read_settings(read_place(s), rest(s, 4));
     let bench = read_bench(rest(s, 14));
@@ -89,7 +103,9 @@ fn read_node(s: &[u8]) -> Node {
 }
 
 // The records at the start of s, as many as a table has room for.
-pub fn read_nodes(s: &[u8]) -> [Node; MOST_LENT] {
+pub fn read_nodes(s: &[u8]) -> [Node; MOST_LENT]
+    ensures { λ r. ⌜ r ≡ readNodes (now (s .entry)) ⌝ }
+{
     let n = read_node(s);
     let mut nodes = [n; MOST_LENT];
     let mut i = 0;
@@ -102,22 +118,34 @@ pub fn read_nodes(s: &[u8]) -> [Node; MOST_LENT] {
 }
 
 // With bench values more.
-fn put_bench(a: Answer, b: Bench) -> Answer {
+fn put_bench(a: Answer, b: Bench) -> Answer
+    ensures { λ r. ⌜ r ≡ putBench a b ⌝ }
+{
     a.put_word(b.inputs)
         .put_long(b.counter)
         .put_all(&[b.analog0, b.analog1, b.analog2, b.id, b.version])
 }
 
+// With captured ones more.
+fn put_captured(a: Answer, k: Captured) -> Answer
+    ensures { λ r. ⌜ r ≡ putCaptured a k ⌝ }
+{
+    a.put_word(k.inputs).put_long(k.counter)
+}
+
 // With a node more.
-fn put_node(a: Answer, n: Node) -> Answer {
+fn put_node(a: Answer, n: Node) -> Answer
+    ensures { λ r. ⌜ r ≡ putNode a n ⌝ }
+{
     let s = n.settings;
-    let c = n.captured;
     let a = put_settings(put_place(a, s.place).put_flag(n.addressed), s);
-    put_bench(a, n.bench).put_word(c.inputs).put_long(c.counter)
+    put_captured(put_bench(a, n.bench), n.captured)
 }
 
 // With the first `count` nodes more.
-pub fn put_nodes(a: Answer, nodes: [Node; MOST_LENT], count: usize) -> Answer {
+pub fn put_nodes(a: Answer, nodes: [Node; MOST_LENT], count: usize) -> Answer
+    ensures { λ r. ⌜ r ≡ putNodes a nodes count ⌝ }
+{
     let mut all = a;
     let mut i = 0;
     while i < MOST_LENT {

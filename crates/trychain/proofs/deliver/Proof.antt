@@ -1,6 +1,6 @@
--- The room is within the buffer.
+-- By the tests, in order.
 use borrow.Author.Needs.{needs}
-use Rattle.fields.proofs.Fields.{room-fits}
+use Rattle.trychain.proofs.Exits.{not-lending, no-nodes, all-there}
 use Rattle.trychain.proofs.deliver.Statement.{statement}
 use Rattle.trychain.proofs.deliver.Tie as tie
 
@@ -13,12 +13,9 @@ deliver-spec =
     (λ c κs. search needs)
     (λ c κs. search needs)
     (λ c κs. search needs)
+    (λ c. search not-lending)
     (λ c κs. search needs)
     (λ c κs. search needs)
-    (λ c. search needs)
-    (λ c. search needs)
-    (λ c. search room-fits)
+    (λ c. search no-nodes)
     (λ c κs. search needs)
-    (λ c. search needs)
-    (λ c κs. search needs)
-    (λ c. search needs))
+    (λ c. search all-there))

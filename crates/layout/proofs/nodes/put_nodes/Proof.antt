@@ -1,11 +1,17 @@
--- At most 33 turns.
+-- Invariant: what is put, and then what the nodes that are left will give, is the answer.
 use Prim.Native.Nat.{_≤_, _-_}
+use mathlib.Core.Path.{_≡_}
+use native.Mathlib.Omega.{arith}
+use lib.ListN.{length, take, drop}
 use borrow.Author.Needs.{needs}
+use Rattle.layout.specs.Record.{putEach}
+use Rattle.layout.specs.Nodes.{putNode, putNodes}
+use Rattle.layout.proofs.Answers.{nodes-begin, node-more, nodes-counted, nodes-all}
 use Rattle.layout.proofs.nodes.put_nodes.Statement.{statement}
 use Rattle.layout.proofs.nodes.put_nodes.Tie as tie
 
 abbrev Inv-loop : tie.InvT-loop
-Inv-loop count nodes all₀ i₀ all i = i ≤ 33
+Inv-loop count nodes all₀ i₀ all i = (i ≤ 33) × (length nodes ≡ 33) × (putEach putNode all (drop i (take count nodes)) ≡ putNodes all₀ nodes count)
 
 abbrev μ-loop : tie.MeasureT-loop
 μ-loop count nodes all₀ i₀ all i = 33 - i
@@ -16,12 +22,12 @@ put-nodes-spec =
     (tie.spec
     Inv-loop
     μ-loop
-    (λ c. search needs)
-    (λ c. search needs)
+    (λ c. (omega arith, search needs, nodes-begin _ _ _))
+    (λ c. search nodes-counted)
     (λ c. search needs)
     (λ c. search needs)
     (λ c κs. search needs)
     (λ c. search needs)
     (λ c. search needs)
-    (λ c. search needs)
-    (λ c. search needs))
+    (λ c. (omega arith, search needs, search (node-more, needs)))
+    (λ c. search nodes-all))

@@ -1,0 +1,4 @@
+mod Fields
+mod Turns
+mod Answers
+pub mod Unique

@@ -1,0 +1,4 @@
+pub mod Record
+pub mod Settings
+pub mod Nodes
+pub mod Entries

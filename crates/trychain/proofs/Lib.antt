@@ -1,0 +1,2 @@
+mod Exits
+pub mod Unique

@@ -19,9 +19,13 @@ pub use order::read_target;
 use session::Session;
 use text::first;
 use text::rest;
+ghost use mathlib.Core.Path.{_≡_};
+ghost use Rattle.state.specs.State.{isState, readState, putState};
 
 // Whether s is a STATE.
-pub fn is_state(s: &[u8]) -> bool {
+pub fn is_state(s: &[u8]) -> bool
+    ensures { λ r. ⌜ r ≡ isState (now (s .entry)) ⌝ }
+{
     if 1 < byte(s, 0) {
         return false;
     }
@@ -34,7 +38,9 @@ pub fn is_state(s: &[u8]) -> bool {
 }
 
 // The session of a STATE.
-pub fn read_state(s: &[u8]) -> Session {
+pub fn read_state(s: &[u8]) -> Session
+    ensures { λ r. ⌜ r ≡ readState (now (s .entry)) ⌝ }
+{
     let started = byte(s, 0) == 1;
     let n = byte(s, 1);
     let walk = byte(s, 2);
@@ -52,7 +58,9 @@ pub fn read_state(s: &[u8]) -> Session {
 }
 
 // With STATE more.
-pub fn put_state(a: Answer, s: Session) -> Answer {
+pub fn put_state(a: Answer, s: Session) -> Answer
+    ensures { λ r. ⌜ r ≡ putState a s ⌝ }
+{
     let a = a.put_flag(s.started).put(s.n).put(s.walk);
     let x = s.exchange;
     let entries = s.entries;

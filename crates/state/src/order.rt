@@ -7,21 +7,24 @@ use text::rest;
 use wire::Address;
 use wire::Group;
 use wire::Individual;
-ghost use Prim.Native.Nat.{_≤_};
+ghost use mathlib.Core.Path.{_≡_};
+ghost use Rattle.state.specs.Order.{dataCount, readOrder, isOrder, readCommand, readTarget, targetKind, putOrder};
 
-// How many bytes the order at the start of s has.
-pub(crate) fn order_length(s: &[u8]) -> usize
-    ensures { λ r. ⌜ r ≤ 18 ⌝ }
+// How many data bytes the command byte of the order at the start of s counts.
+pub(crate) fn data_count(s: &[u8]) -> u8
+    ensures { λ r. ⌜ r ≡ dataCount (now (s .entry)) ⌝ }
 {
-    3 + (byte(s, 2) / 16) as usize
+    byte(s, 2) / 16
 }
 
 // The command of s, where it is an order.
-fn read_order(s: &[u8]) -> Reading {
+fn read_order(s: &[u8]) -> Reading
+    ensures { λ r. ⌜ r ≡ readOrder (now (s .entry)) ⌝ }
+{
     if s.len() < 3 {
         return Reading::Other;
     }
-    if s.len() != order_length(s) {
+    if s.len() != 3 + data_count(s) as usize {
         return Reading::Other;
     }
     if 1 < byte(s, 0) {
@@ -31,7 +34,9 @@ fn read_order(s: &[u8]) -> Reading {
 }
 
 // Whether s is an order.
-pub fn is_order(s: &[u8]) -> bool {
+pub fn is_order(s: &[u8]) -> bool
+    ensures { λ r. ⌜ r ≡ isOrder (now (s .entry)) ⌝ }
+{
     match read_order(s) {
         Reading::Known(_) => true,
         Reading::Other => false,
@@ -39,7 +44,9 @@ pub fn is_order(s: &[u8]) -> bool {
 }
 
 // The command of an order.
-pub fn read_command(s: &[u8]) -> Command {
+pub fn read_command(s: &[u8]) -> Command
+    ensures { λ r. ⌜ r ≡ readCommand (now (s .entry)) ⌝ }
+{
     match read_order(s) {
         Reading::Known(command) => command,
         Reading::Other => Command::Nop,
@@ -47,7 +54,9 @@ pub fn read_command(s: &[u8]) -> Command {
 }
 
 // Whom it is for: a node (kind 00) or a group (kind 01).
-pub fn read_target(s: &[u8]) -> Address {
+pub fn read_target(s: &[u8]) -> Address
+    ensures { λ r. ⌜ r ≡ readTarget (now (s .entry)) ⌝ }
+{
     let number = byte(s, 1);
     if byte(s, 0) < 1 {
         return Address::Individual(Individual(number));
@@ -56,7 +65,9 @@ pub fn read_target(s: &[u8]) -> Address {
 }
 
 // 00 for a node, 01 for a group.
-fn target_kind(to: Address) -> u8 {
+fn target_kind(to: Address) -> u8
+    ensures { λ r. ⌜ r ≡ targetKind to ⌝ }
+{
     match to {
         Address::Individual(_) => 0,
         Address::Group(_) => 1,
@@ -64,7 +75,9 @@ fn target_kind(to: Address) -> u8 {
 }
 
 // With an order more: the command byte is a packet's third, and its data bytes follow. The packet's address is no part of what is shown.
-pub(crate) fn put_order(a: Answer, to: Address, c: Command) -> Answer {
+pub(crate) fn put_order(a: Answer, to: Address, c: Command) -> Answer
+    ensures { λ r. ⌜ r ≡ putOrder a to c ⌝ }
+{
     let mut packet = [0; 19];
     command::build(Address::Individual(Individual(0)), c, &mut packet);
     a.put_all(&[target_kind(to), to.byte(), packet[2]])

@@ -1,0 +1,4 @@
+mod Orders
+mod Exchanges
+mod States
+pub mod Unique

@@ -1,0 +1,3 @@
+pub mod Order
+pub mod Exchange
+pub mod State

@@ -35,13 +35,13 @@ unfoldable pub trypacketBuild : List ℕ → Answer
 trypacketBuild s = cond (isLending s 3) (buildInto s (take (roomOf s mostRoom) filledOf)) malformedOf
 
 -- what reading a packet shows: its parts, or the refusal
-abbrev pub packetShown : List ℕ → Framed → Answer
-packetShown s (framed.Whole a c e) = numberedOf done (byteOf a ∷ c ∷ dataPart s)
-packetShown s (framed.Refused why) = numberedOf (numberOf why) []
+abbrev pub partsShown : List ℕ → Framed → Answer
+partsShown s (framed.Whole a c e) = numberedOf done (byteOf a ∷ c ∷ dataPart s)
+partsShown s (framed.Refused why) = numberedOf (numberOf why) []
 
 -- "`11 bytes..` read a packet: `00 address command data..`, else `NN`"
 unfoldable pub trypacketRead : List ℕ → Answer
-trypacketRead s = packetShown s (readOf s)
+trypacketRead s = partsShown s (readOf s)
 
 -- what reading a status packet shows: its status byte and items, or the refusal
 abbrev pub statusShown : List ℕ → Status → Answer

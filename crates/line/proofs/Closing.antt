@@ -6,7 +6,7 @@ use mathlib.Core.Option.{Option, none, some}
 use mathlib.Core.Path.{_≡_, refl, ap, _∙_}
 use native.Mathlib.Omega.{arith}
 use lib.ListN.{length, getD}
-use borrow.Author.Tests.{lt-ltb, le-ltb, eq-eqb}
+use borrow.Author.Tests.{lt-ltb, le-ltb, lt-leb, eq-eqb}
 use Rattle.wire.specs.declared.address.Address.{Address}
 use Rattle.wire.specs.declared.address.Address.the-variants as address
 use Rattle.command.specs.declared.Command.{Command}
@@ -112,7 +112,7 @@ module _ (h : Session) (few : h .n ≤ 31) (l : h .walk < h .n) where
 
   asks-it : knows (entryOf h (h .walk + 1)) place ≡ false → isAsking (waitingAt h (nodeAt (h .walk + 1)) Nop) (nodeAt (h .walk + 1)) Nop ≡ true
   unfolding isAsking isAskDue
-  asks-it k = rw (on-walk, le-ltb 30 (h .walk) (omega arith), k) refl
+  asks-it k = rw (on-walk, lt-leb 31 (h .walk) (omega arith), k) refl
 
 -- once the walk has ended
 module _ (h : Session) (w : h .walk ≡ h .n) (c : Command) where

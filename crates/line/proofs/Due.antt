@@ -19,7 +19,7 @@ use Rattle.command.specs.Role.{roleOf, isPlacing, isReset}
 use Rattle.command.proofs.Roles.{ordinary-fits}
 use Rattle.command.specs.Build.{fitsOf, Typed, packetFor}
 use Rattle.node.specs.Setting.{place}
-use Rattle.node.specs.Effect.{effect, writes}
+use Rattle.node.specs.Effect.{addressUp, effect, writes}
 use Rattle.node.proofs.Laws.{place-writes}
 use Rattle.entry.specs.Entry.{knows}
 use Rattle.ledger.specs.Ledger.{isLed}
@@ -45,7 +45,7 @@ use Rattle.line.specs.Call.{Call, callOutcome, whatOf, resets}
 -- all but a Hard Reset, which opens no exchange
 pub data Due (h : Session) : Sending → Address → Address → Command → Type 0 where
   next : h .walk < h .n → knows (entryOf h (h .walk + 1)) place ≡ true
-      → Due h (gives (h .walk + 1)) (nodeAt 0) (nodeAt (h .walk + 1)) (SetAddress (givenPlace (h .walk + 1)))
+      → Due h (gives (h .walk + 1)) (nodeAt addressUp) (nodeAt (h .walk + 1)) (SetAddress (givenPlace (h .walk + 1)))
   ask : h .walk < h .n → knows (entryOf h (h .walk + 1)) place ≡ false
       → Due h (asks (h .walk + 1)) (nodeAt (h .walk + 1)) (nodeAt (h .walk + 1)) Nop
   order : {to : Address} {c : Command} → h .walk ≡ h .n → offChain (h .n) to ≡ false → writes (effect c place) ≡ false → Due h (sends to c) to to c
@@ -93,7 +93,7 @@ call-sends calls.next t o s out n e =
     let f = node-fits (s .n) (s .walk + 1) (k .session .valid .few) (omega arith) in
     let g = goes s _ _ _ out _ n (w .result) e refl (rw f refl) in
     record {
-      called = nodeAt 0x00;
+      called = nodeAt addressUp;
       to = nodeAt (s .walk + 1);
       command = SetAddress (givenPlace (s .walk + 1));
       free = k .session;

@@ -18,7 +18,7 @@ use Rattle.status.specs.declared.Answer.the-variants.{Clear, Marked, Silent}
 use Rattle.node.specs.declared.state.Settings.{Settings}
 use Rattle.node.specs.declared.state.Node.{Node}
 use Rattle.node.specs.Setting.{place}
-use Rattle.node.specs.Effect.{settingsAfter}
+use Rattle.node.specs.Effect.{addressUp, settingsAfter}
 use Rattle.survey.specs.One.{isMeant, isAnswering}
 use Rattle.survey.specs.Chain.{hearsAt}
 use Rattle.entry.specs.declared.Entry.{Entry}
@@ -68,11 +68,11 @@ module _ (h : Session) (ns : List Node) (inv : Invariant h ns) (l : h .walk < h 
       deaf ns j (unplaced j (omega arith) (omega arith) (eqb (h .walk) j) refl .0) (unplaced (suc j) (omega arith) p (eqb (h .walk) (suc j)) refl .0)
 
   -- so nobody else acts on "next": those before it have their addresses
-  only : (i : ℕ) → i < h .n → acts (nodeAt 0) ns i ≡ true → h .walk ≡ i
+  only : (i : ℕ) → i < h .n → acts (nodeAt addressUp) ns i ≡ true → h .walk ≡ i
   only i p e = go (ltb i (h .walk)) (eqb (h .walk) i) refl refl
     where
-      hears-and-meant : (hearsAt ns i ≡ true) × (isMeant (nodeAt 0) (at ns i .settings .place) ≡ true)
-      hears-and-meant = both (hearsAt ns i) (isMeant (nodeAt 0) (at ns i .settings .place)) e
+      hears-and-meant : (hearsAt ns i ≡ true) × (isMeant (nodeAt addressUp) (at ns i .settings .place) ≡ true)
+      hears-and-meant = both (hearsAt ns i) (isMeant (nodeAt addressUp) (at ns i .settings .place)) e
 
       go : (b c : Bool) → ltb i (h .walk) ≡ b → eqb (h .walk) i ≡ c → h .walk ≡ i
       go true c f k = absurd (omega (arith, inv .front i (ltb-true i (h .walk) f) .1, eqb-true 0 (at ns i .settings .place .address .0) (hears-and-meant .1)))
@@ -81,7 +81,7 @@ module _ (h : Session) (ns : List Node) (inv : Invariant h ns) (l : h .walk < h 
           let d = eqb-false (h .walk) i k in
           absurd (false≢true (sym (last i (omega (arith, ltb-false i (h .walk) f)) p) ∙ hears-and-meant .0))
 
-  module _ (ms : List Node) (t : Session) (a : Answer) (x : Exchanged (nodeAt 0) (given h) ns ms a) where
+  module _ (ms : List Node) (t : Session) (a : Answer) (x : Exchanged (nodeAt addressUp) (given h) ns ms a) where
     at-walk : (i : ℕ) → i < h .n → x .did i ≡ true → h .walk ≡ i
     at-walk i p e = only i p (x .acting i e)
 
@@ -112,11 +112,11 @@ module _ (h : Session) (ns : List Node) (inv : Invariant h ns) (l : h .walk < h 
 
     -- nobody comes to lead
     alone-next : Alone (h .n) ms
-    alone-next = shrinks h ns ms inv (nodeAt 0) (given h) a x (λ g i e. absurd (false≢true e))
+    alone-next = shrinks h ns ms inv (nodeAt addressUp) (given h) a x (λ g i e. absurd (false≢true e))
 
     held-next : (i : ℕ) → i < h .n → Sound (noteOf a (reachOf (nodeAt (h .walk + 1)) (suc i) (entryAt h i)) (given h) (entryAt h i)) (at ms i .settings)
     held-next i p =
-        held-step h ns ms inv (nodeAt 0) (given h) a x (nodeAt (h .walk + 1)) i p
+        held-step h ns ms inv (nodeAt addressUp) (given h) a x (nodeAt (h .walk + 1)) i p
         (fits-test (eqb (h .walk + 1) (suc i)) (x .did i) (λ e. eq-eqb (h .walk + 1) (suc i) (omega (arith, at-walk i p e))))
         (λ e r. let j : i ≡ h .walk = omega (arith, eqb-true (h .walk + 1) (suc i) (hits-test (eqb (h .walk + 1) (suc i)) r)) in ap (x .did) j ∙ did-walk e)
 
@@ -131,7 +131,7 @@ module _ (h : Session) (ns : List Node) (inv : Invariant h ns) (l : h .walk < h 
 
     next-clear : a ≡ Clear → fitsOf (given h) ≡ true → Concluded h a (nodeAt (h .walk + 1)) (given h) (h .walk + 1) t → Invariant t ms
     next-clear e fits k =
-        stepped h ns ms inv (nodeAt 0) (given h) a x t (nodeAt (h .walk + 1)) (given h) (h .walk + 1) k fits (omega arith) held-next
+        stepped h ns ms inv (nodeAt addressUp) (given h) a x t (nodeAt (h .walk + 1)) (given h) (h .walk + 1) k fits (omega arith) held-next
         (λ i p. front-next e i p (eqb (h .walk) i) refl)
         (λ i p q. rw (settings-other i q (λ z. omega arith), addressed-other i q (λ z. omega arith)) (inv .back i (omega arith) q))
         (λ p. inl (rw (settings-other (h .walk + 1) p (λ z. omega arith), addressed-other (h .walk + 1) p (λ z. omega arith)) (inv .back (h .walk + 1) (omega arith) p)))
@@ -139,7 +139,7 @@ module _ (h : Session) (ns : List Node) (inv : Invariant h ns) (l : h .walk < h 
 
     next-marked : a ≡ Marked → fitsOf (given h) ≡ true → Concluded h a (nodeAt (h .walk + 1)) (given h) (h .walk) t → Invariant t ms
     next-marked e fits k =
-        still-step h t ns ms inv (nodeAt 0) (nodeAt (h .walk + 1)) (given h) a x k (λ i. rw e refl)
+        still-step h t ns ms inv (nodeAt addressUp) (nodeAt (h .walk + 1)) (given h) a x k (λ i. rw e refl)
         (λ i p. rw (x .settings i (omega (arith, inv .long)), x .marked e i) refl) (λ i p. rw (x .addressed i (omega (arith, inv .long)), x .marked e i) refl) fits
 
     -- unconfirmed: it may have it, and the host is in doubt
@@ -149,7 +149,7 @@ module _ (h : Session) (ns : List Node) (inv : Invariant h ns) (l : h .walk < h 
 
     next-silent : a ≡ Silent → fitsOf (given h) ≡ true → Concluded h a (nodeAt (h .walk + 1)) (given h) (h .walk) t → Invariant t ms
     next-silent e fits k =
-        stepped h ns ms inv (nodeAt 0) (given h) a x t (nodeAt (h .walk + 1)) (given h) (h .walk) k fits (inv .walked) held-next
+        stepped h ns ms inv (nodeAt addressUp) (given h) a x t (nodeAt (h .walk + 1)) (given h) (h .walk) k fits (inv .walked) held-next
         (λ i p. rw (settings-other i (omega arith) (λ z. omega arith), addressed-other i (omega arith) (λ z. omega arith)) (inv .front i p))
         (λ i p q. rw (settings-other i q (λ z. omega arith), addressed-other i q (λ z. omega arith)) (inv .back i p q))
         (λ p. rw (e, eq-eqb (h .walk + 1) (suc (h .walk)) (omega arith)) (edge-if (x .did (h .walk)) refl))
@@ -161,14 +161,14 @@ not-come e x b n (inl u) k = u
 not-come e x b n (inr p) k = absurd (false≢true (sym (p .0) ∙ k))
 
 pub next-step : (h t : Session) (ns ms : List Node) (inv : Invariant h ns) → (l : h .walk < h .n) → knows (entryAt h (h .walk)) place ≡ true
-    → (a : Answer) → Exchanged (nodeAt 0) (given h) ns ms a → fitsOf (given h) ≡ true
+    → (a : Answer) → Exchanged (nodeAt addressUp) (given h) ns ms a → fitsOf (given h) ≡ true
     → Concluded h a (nodeAt (h .walk + 1)) (given h) (walkOn (gives (h .walk + 1)) a (h .walk)) t → Invariant t ms
 next-step h t ns ms inv l known a x fits k = go a x k
   where
     u : UnplacedAt ns (h .walk)
     u = not-come (entryAt h (h .walk)) (at ns (h .walk) .settings) (at ns (h .walk) .addressed) (h .walk + 1) (inv .edge l) known
 
-    go : (a : Answer) → Exchanged (nodeAt 0) (given h) ns ms a
+    go : (a : Answer) → Exchanged (nodeAt addressUp) (given h) ns ms a
         → Concluded h a (nodeAt (h .walk + 1)) (given h) (walkOn (gives (h .walk + 1)) a (h .walk)) t → Invariant t ms
     go Clear x k = next-clear h ns inv l u ms t Clear x refl fits k
     go Marked x k = next-marked h ns inv l u ms t Marked x refl fits k

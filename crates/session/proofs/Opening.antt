@@ -7,6 +7,7 @@ use lib.Dec.{ltb}
 use lib.ListN.{getD}
 use borrow.Author.Tests.{lt-ltb, le-ltb, lt-leb, le-leb}
 use Rattle.wire.specs.Promise.{Promise, promised}
+use Rattle.wire.specs.Numbers.{mostNodes}
 use Rattle.wire.specs.declared.address.Individual.{Individual}
 use Rattle.wire.specs.declared.address.Address.{Address}
 use Rattle.wire.specs.declared.address.Address.the-variants as address
@@ -65,12 +66,12 @@ module _ (s : Session) where
   unfolding isClosed
   closed-invalid v p q = rw (← p, q)
 
-  pub walk-ended : 30 < s .walk → false ≡ isAskDue s
+  pub walk-ended : mostNodes ≤ s .walk → false ≡ isAskDue s
   unfolding isAskDue
-  walk-ended p = rw (lt-ltb 30 (s .walk) p)
+  walk-ended p = rw (le-leb mostNodes (s .walk) p)
 
-  pub due-by-place : s .walk ≤ 30 → not (getD (s .entries) (s .walk) blankEntry .known .place) ≡ isAskDue s
+  pub due-by-place : s .walk < mostNodes → not (getD (s .entries) (s .walk) blankEntry .known .place) ≡ isAskDue s
   unfolding isAskDue
   due-by-place p =
       let e : s .walk ≡ s .walk + 1 - 1 = omega arith in
-      rw (le-ltb 30 (s .walk) p) (ap (λ (i : ℕ). not (getD (s .entries) i blankEntry .known .place)) e)
+      rw (lt-leb mostNodes (s .walk) p) (ap (λ (i : ℕ). not (getD (s .entries) i blankEntry .known .place)) e)

@@ -1,11 +1,11 @@
 -- What a valid session and a session that isn't closed are, in plain words; what any step of it comes to.
-use Prim.Native.Nat.{ℕ, _+_, _≤_}
+use Prim.Native.Nat.{ℕ, _+_, _<_, _≤_}
 use mathlib.Core.Bool.{Bool, true, false, cond, not, _&&_, true≢false}
 use mathlib.Core.Path.{_≡_, refl}
 use lib.Dec.{ltb, leb}
-use borrow.Author.Tests.{le-ltb, le-leb, ltb-false, leb-true, not-true, not-false}
+use borrow.Author.Tests.{le-leb, lt-leb, ltb-false, leb-true, not-true, not-false}
 use Rattle.wire.proofs.Choice.{both, neither}
-use Rattle.wire.specs.Numbers.{done}
+use Rattle.wire.specs.Numbers.{done, mostNodes}
 use Rattle.wire.specs.declared.address.Individual.{Individual}
 use Rattle.wire.specs.declared.address.Address.the-variants as address
 use Rattle.wire.specs.declared.refusal.Refusal.{Refusal}
@@ -37,9 +37,9 @@ unfolding isClosed
 closed-not s h = open-says (isValid s) (s .started) h
 
 -- whether the place of the walk's next node is in doubt
-pub due-says : (s : Session) → s .walk ≤ 30 → isAskDue s ≡ not (knows (entryOf s (s .walk + 1)) place)
+pub due-says : (s : Session) → s .walk < mostNodes → isAskDue s ≡ not (knows (entryOf s (s .walk + 1)) place)
 unfolding isAskDue
-due-says s h = rw (le-ltb 30 (s .walk) h)
+due-says s h = rw (lt-leb mostNodes (s .walk) h)
 
 -- a node 1 to n
 pub record OnChain (n : ℕ) (i : Individual) : Type 0 where

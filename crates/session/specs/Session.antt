@@ -80,7 +80,7 @@ givenPlace k = record { address = record { 0 = k }; group = record { 0 = groupUp
 
 -- the place of the walk's next node is in doubt: its Set Address is unconfirmed
 unfoldable pub isAskDue : Session → Bool
-isAskDue s = cond (ltb 30 (s .walk)) false (not (knows (entryOf s (s .walk + 1)) place))
+isAskDue s = cond (leb mostNodes (s .walk)) false (not (knows (entryOf s (s .walk + 1)) place))
 
 -- the node of number k
 abbrev pub nodeAt : ℕ → Address

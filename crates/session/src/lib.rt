@@ -161,12 +161,12 @@ pub fn given_place(k: u8) -> Place
 }
 
 // Whether the walk's next node has its place in doubt, so that "ask" is due and "next" is not.
-// The test for 30 keeps the index within the record: of a walk of 31 there is no next node.
+// The first test keeps the index within the record: behind the last of the most nodes there is no next one.
 pub fn is_ask_due(s: Session) -> bool
     ensures { λ r. ⌜ r ≡ isAskDue s ⌝ }
 {
     let at = s.walk as usize;
-    if 30 < at {
+    if MOST_NODES <= at {
         return false;
     }
     let e = s.entries[at];

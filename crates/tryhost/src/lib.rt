@@ -2,6 +2,7 @@
 // 37 shows the session, 38 hands in one made by hand.
 // Whether a line is of its form is asked first, and then the call is made.
 use fields::Answer;
+use fields::MOST_ROOM;
 use fields::byte;
 use fields::filled;
 use fields::is_lending;
@@ -21,6 +22,11 @@ use state::read_target;
 use text::rest;
 use wire::Group;
 use wire::Individual;
+ghost use mathlib.Core.Path.{_≡_};
+ghost use Rattle.wire.specs.Promise.{Promise, Lending};
+ghost use Rattle.session.specs.Session.{stepNumber};
+ghost use Rattle.tryhost.specs.Form.{isReadyOrder, isRegroup, isFormed, isSending, isCall};
+ghost use Rattle.tryhost.specs.Trying.{withSession, triedBy, tryhostRegroup, sendOf, sendLent, lendOf, handedIn, callOf, showOf, answerTo, attemptOf};
 
 // What a line makes: its answer, and the session after it.
 pub struct Tried {
@@ -29,12 +35,16 @@ pub struct Tried {
 }
 
 // Both in one: a literal of structs so large is dear to check, so it stands here alone.
-pub fn with_session(answer: Answer, session: Session) -> Tried {
+pub fn with_session(answer: Answer, session: Session) -> Tried
+    ensures { λ r. ⌜ r ≡ withSession answer session ⌝ }
+{
     Tried { answer, session }
 }
 
 // Whether s is an ORDER of a ready session: Set Address is not among its ten commands.
-fn is_ready_order(s: &[u8]) -> bool {
+fn is_ready_order(s: &[u8]) -> bool
+    ensures { λ r. ⌜ r ≡ isReadyOrder (now (s .entry)) ⌝ }
+{
     if is_order(s) {
         return !read_command(s).role().is_placing();
     }
@@ -42,31 +52,44 @@ fn is_ready_order(s: &[u8]) -> bool {
 }
 
 // `k group leader`.
-fn is_regroup(s: &[u8]) -> bool {
+fn is_regroup(s: &[u8]) -> bool
+    ensures { λ r. ⌜ r ≡ isRegroup (now (s .entry)) ⌝ }
+{
     if s.len() != 3 {
         return false;
     }
     byte(s, 2) < 2
 }
 
-// `room ..`: whether a call that sends is of its form.
-fn is_sending(kind: u8, args: &[u8]) -> bool {
+// What stands behind the room of a call that sends.
+fn is_formed(kind: u8, s: &[u8]) -> bool
+    ensures { λ r. ⌜ r ≡ isFormed kind (now (s .entry)) ⌝ }
+{
+    match kind {
+        0x31 => s.len() < 1,
+        0x32 => s.len() < 1,
+        0x33 => is_ready_order(s),
+        0x34 => is_regroup(s),
+        _ => false,
+    }
+}
+
+// `room ..`: whether a line is a call that sends, of its form.
+fn is_sending(kind: u8, args: &[u8]) -> bool
+    ensures { λ r. ⌜ r ≡ isSending kind (now (args .entry)) ⌝ }
+{
     if is_lending(args, 1) {
-        let behind = rest(args, 1);
-        return match kind {
-            0x33 => is_ready_order(behind),
-            0x34 => is_regroup(behind),
-            _ => behind.len() < 1,
-        };
+        return is_formed(kind, rest(args, 1));
     }
     false
 }
 
-// Whether a line is a call of its form.
-fn is_call(kind: u8, args: &[u8]) -> bool {
+// Whether a line is a call that lends nothing, of its form.
+fn is_call(kind: u8, args: &[u8]) -> bool
+    ensures { λ r. ⌜ r ≡ isCall kind (now (args .entry)) ⌝ }
+{
     match kind {
         0x30 => args.len() == 1,
-        0x31..=0x34 => is_sending(kind, args),
         0x35 => true,
         0x36 => args.len() < 1,
         0x38 => is_state(args),
@@ -74,8 +97,18 @@ fn is_call(kind: u8, args: &[u8]) -> bool {
     }
 }
 
+// What a call makes: its number and the lent buffer.
+fn tried_by(step: Step, lent: &[u8]) -> Tried
+    ensures { λ r. ⌜ r ≡ triedBy step (now (lent .entry)) ⌝ }
+{
+    let end = step.end;
+    with_session(numbered(end.number(), lent), step.session)
+}
+
 // `k group leader`.
-fn regroup(s: Session, args: &[u8], lent: &mut [u8]) -> Step {
+fn regroup(s: Session, args: &[u8], lent: &mut [u8]) -> Step
+    ensures { λ r. ⌜ Lending stepNumber r (now (lent .exit)) (tryhostRegroup s (now (args .entry)) (now (lent .entry))) ⌝ }
+{
     let node = Individual(byte(args, 0));
     let group = Group(byte(args, 1));
     let leader = byte(args, 2) == 1;
@@ -83,7 +116,9 @@ fn regroup(s: Session, args: &[u8], lent: &mut [u8]) -> Step {
 }
 
 // Makes a call that sends, by what stands behind its room.
-fn send(s: Session, kind: u8, args: &[u8], lent: &mut [u8]) -> Step {
+fn send(s: Session, kind: u8, args: &[u8], lent: &mut [u8]) -> Step
+    ensures { λ r. ⌜ Lending stepNumber r (now (lent .exit)) (sendOf s kind (now (args .entry)) (now (lent .entry))) ⌝ }
+{
     match kind {
         0x31 => walk::next(s, lent),
         0x32 => walk::ask(s, lent),
@@ -92,8 +127,27 @@ fn send(s: Session, kind: u8, args: &[u8], lent: &mut [u8]) -> Step {
     }
 }
 
+// Makes it, and shows the lent buffer.
+fn send_lent(s: Session, kind: u8, args: &[u8], lent: &mut [u8]) -> Tried
+    ensures { λ r. ⌜ r ≡ sendLent s kind (now (args .entry)) (now (lent .entry)) ⌝ }
+{
+    let step = send(s, kind, args, lent);
+    tried_by(step, lent)
+}
+
+// Makes it with the room that its line lends.
+fn lend(s: Session, kind: u8, args: &[u8]) -> Tried
+    ensures { λ r. ⌜ r ≡ lendOf s kind (now (args .entry)) ⌝ }
+{
+    let mut buffer = filled();
+    let room = room(args, MOST_ROOM);
+    send_lent(s, kind, rest(args, 1), &mut buffer[0..room])
+}
+
 // The session that is handed in.
-fn handed_in(args: &[u8]) -> Step {
+fn handed_in(args: &[u8]) -> Step
+    ensures { λ r. ⌜ Promise stepNumber r (handedIn (now (args .entry))) ⌝ }
+{
     let session = read_state(args);
     Step {
         end: End::Done,
@@ -101,52 +155,47 @@ fn handed_in(args: &[u8]) -> Step {
     }
 }
 
-// Makes the call of a line that is of its form.
-fn call(s: Session, kind: u8, args: &[u8], lent: &mut [u8]) -> Step {
+// Makes a call that lends nothing.
+fn call(s: Session, kind: u8, args: &[u8]) -> Step
+    ensures { λ r. ⌜ Promise stepNumber r (callOf s kind (now (args .entry))) ⌝ }
+{
     match kind {
         0x30 => start::power_up(s, byte(args, 0)),
         0x35 => reports::report(s, args),
         0x36 => reports::silence(s),
-        0x38 => handed_in(args),
-        _ => send(s, kind, rest(args, 1), lent),
-    }
-}
-
-// Makes the call of a line and shows its number and the lent buffer.
-fn called(s: Session, kind: u8, args: &[u8], lent: &mut [u8]) -> Tried {
-    let step = call(s, kind, args, lent);
-    let end = step.end;
-    with_session(numbered(end.number(), lent), step.session)
-}
-
-// Makes it with what it lends: only the calls that send have a room.
-fn call_lending(s: Session, kind: u8, args: &[u8], buffer: &mut [u8]) -> Tried {
-    match kind {
-        0x31..=0x34 => {
-            let room = room(args, buffer.len());
-            called(s, kind, args, &mut buffer[0..room])
-        }
-        _ => called(s, kind, args, &mut buffer[0..0]),
+        _ => handed_in(args),
     }
 }
 
 // Nothing: `00 STATE`.
-fn show(s: Session, args: &[u8]) -> Answer {
+fn show(s: Session, args: &[u8]) -> Answer
+    ensures { λ r. ⌜ r ≡ showOf s (now (args .entry)) ⌝ }
+{
     if 0 < args.len() {
         return malformed();
     }
     put_state(nothing().put(wire::DONE), s)
 }
 
-// What a line of the host's calls makes, by its first byte and those behind it.
-pub fn attempt(s: Session, kind: u8, args: &[u8]) -> Tried {
-    if is_call(kind, args) {
-        let mut buffer = filled();
-        return call_lending(s, kind, args, &mut buffer);
-    }
-    let answer = match kind {
+// What a line that is no call is answered.
+fn answer_to(s: Session, kind: u8, args: &[u8]) -> Answer
+    ensures { λ r. ⌜ r ≡ answerTo s kind (now (args .entry)) ⌝ }
+{
+    match kind {
         0x37 => show(s, args),
         _ => malformed(),
-    };
-    with_session(answer, s)
+    }
+}
+
+// What a line of the host's calls makes, by its first byte and those behind it.
+pub fn attempt(s: Session, kind: u8, args: &[u8]) -> Tried
+    ensures { λ r. ⌜ r ≡ attemptOf s kind (now (args .entry)) ⌝ }
+{
+    if is_call(kind, args) {
+        return tried_by(call(s, kind, args), &[]);
+    }
+    if is_sending(kind, args) {
+        return lend(s, kind, args);
+    }
+    with_session(answer_to(s, kind, args), s)
 }

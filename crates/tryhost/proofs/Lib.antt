@@ -1,0 +1,4 @@
+mod Forms
+mod Sends
+mod Tries
+pub mod Unique

@@ -1,0 +1,39 @@
+-- Whether a line of the host's calls is of its form; "a line that is not of its form .. answers `FF` and changes nothing".
+use Prim.Native.Nat.{ℕ}
+use mathlib.Core.Bool.{Bool, true, false, cond, not, _&&_}
+use mathlib.Core.List.{List}
+use lib.Dec.{ltb, eqb}
+use lib.ListN.{length, drop}
+use Rattle.command.specs.Role.{roleOf, isPlacing}
+use Rattle.fields.specs.Field.{fieldsByte}
+use Rattle.fields.specs.Lending.{isLending}
+use Rattle.state.specs.Order.{isOrder, readCommand}
+use Rattle.state.specs.State.{isState}
+
+-- "Only the ten commands that a ready session takes": not Set Address
+unfoldable pub isReadyOrder : List ℕ → Bool
+isReadyOrder s = isOrder s && not (isPlacing (roleOf (readCommand s)))
+
+-- "k group leader", a flag
+unfoldable pub isRegroup : List ℕ → Bool
+isRegroup s = eqb (length s) 3 && ltb (fieldsByte s 2) 2
+
+-- what stands behind the room: nothing for "next" and "ask", an order, "k group leader"
+unfoldable pub isFormed : ℕ → List ℕ → Bool
+isFormed kind s =
+    cond (eqb kind 0x31) (ltb (length s) 1)
+    (cond (eqb kind 0x32) (ltb (length s) 1)
+    (cond (eqb kind 0x33) (isReadyOrder s)
+    (cond (eqb kind 0x34) (isRegroup s) false)))
+
+-- a call that sends: "room .."
+unfoldable pub isSending : ℕ → List ℕ → Bool
+isSending kind s = isLending s 1 && isFormed kind (drop 1 s)
+
+-- a call that lends nothing: "30 n", "35 bytes..", "36", "38 STATE"
+unfoldable pub isCall : ℕ → List ℕ → Bool
+isCall kind s =
+    cond (eqb kind 0x30) (eqb (length s) 1)
+    (cond (eqb kind 0x35) true
+    (cond (eqb kind 0x36) (ltb (length s) 1)
+    (cond (eqb kind 0x38) (isState s) false)))

@@ -1,0 +1,79 @@
+-- What a line of the host's calls makes: its answer, and the session that is kept for the next line.
+use Prim.Native.Nat.{ℕ}
+use mathlib.Core.Bool.{cond}
+use mathlib.Core.List.{List, []}
+use lib.Dec.{ltb, eqb}
+use lib.ListN.{length, take, drop}
+use Rattle.wire.specs.Promise.{Outcome}
+use Rattle.wire.specs.Numbers.{done}
+use Rattle.fields.specs.declared.answer.Answer.{Answer}
+use Rattle.fields.specs.Field.{fieldsByte}
+use Rattle.fields.specs.Answer.{fieldsNothing, answerPut, malformedOf, numberedOf}
+use Rattle.fields.specs.Lending.{mostRoom, filledOf, roomOf}
+use Rattle.session.specs.declared.Session.{Session}
+use Rattle.session.specs.declared.Step.{Step}
+use Rattle.session.specs.declared.End.the-variants.{Done}
+use Rattle.session.specs.Session.{stepNumber}
+use Rattle.start.specs.Start.{startPowerUp}
+use Rattle.walk.specs.Walk.{nextOf, askOf}
+use Rattle.host.specs.Calls.{orderOf, regroupOf}
+use Rattle.reports.specs.Report.{reportOf, silenceOf}
+use Rattle.state.specs.Order.{readTarget, readCommand}
+use Rattle.state.specs.State.{readState, putState}
+use Rattle.tryhost.specs.declared.Tried.{Tried}
+use Rattle.tryhost.specs.Form.{isCall, isSending}
+
+-- an answer, and the session after it
+unfoldable pub withSession : Answer → Session → Tried
+withSession a s = record { answer = a; session = s }
+
+-- "NN buffer"; "NN is the call's number"
+unfoldable pub triedBy : Step → List ℕ → Tried
+triedBy step lent = withSession (numberedOf (stepNumber step) lent) (step .session)
+
+-- "34 room k group leader": regroup, by what stands behind the room
+abbrev pub tryhostRegroup : Session → List ℕ → List ℕ → Outcome Step (List ℕ)
+tryhostRegroup s args = regroupOf s (record { 0 = fieldsByte args 0 }) (record { 0 = fieldsByte args 1 }) (eqb (fieldsByte args 2) 1)
+
+-- 31 next, 32 ask, 33 a command, 34 regroup, by what stands behind the room
+unfoldable pub sendOf : Session → ℕ → List ℕ → List ℕ → Outcome Step (List ℕ)
+sendOf s kind args out =
+    cond (eqb kind 0x31) (nextOf s out)
+    (cond (eqb kind 0x32) (askOf s out)
+    (cond (eqb kind 0x33) (orderOf s (readTarget args) (readCommand args) out)
+    (tryhostRegroup s args out)))
+
+-- "the answer shows all of it afterwards"
+unfoldable pub sendLent : Session → ℕ → List ℕ → List ℕ → Tried
+sendLent s kind args out = triedBy (sendOf s kind args out .answer) (sendOf s kind args out .left)
+
+-- "A lent buffer of `room` bytes .. is filled with 55 before the call"
+unfoldable pub lendOf : Session → ℕ → List ℕ → Tried
+lendOf s kind args = sendLent s kind (drop 1 args) (take (roomOf args mostRoom) filledOf)
+
+-- "38 STATE": hand in a session made by hand
+abbrev pub handedIn : List ℕ → Step
+handedIn args = record { end = Done; session = readState args }
+
+-- 30 power-up, 35 report, 36 silence, 38 hand in: these lend nothing
+unfoldable pub callOf : Session → ℕ → List ℕ → Step
+callOf s kind args =
+    cond (eqb kind 0x30) (startPowerUp s (fieldsByte args 0))
+    (cond (eqb kind 0x35) (reportOf s args)
+    (cond (eqb kind 0x36) (silenceOf s)
+    (handedIn args)))
+
+-- "37": "00 STATE"
+unfoldable pub showOf : Session → List ℕ → Answer
+showOf s args = cond (ltb 0 (length args)) malformedOf (putState (answerPut fieldsNothing done) s)
+
+-- what a line that is no call is answered
+unfoldable pub answerTo : Session → ℕ → List ℕ → Answer
+answerTo s kind args = cond (eqb kind 0x37) (showOf s args) malformedOf
+
+-- what a line makes, by its first byte and those behind it
+unfoldable pub attemptOf : Session → ℕ → List ℕ → Tried
+attemptOf s kind args =
+    cond (isCall kind args) (triedBy (callOf s kind args) [])
+    (cond (isSending kind args) (lendOf s kind args)
+    (withSession (answerTo s kind args) s))

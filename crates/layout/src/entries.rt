@@ -17,7 +17,7 @@ ghost use Rattle.layout.specs.Entries.{isEntry, areEntries, readKnown, r
 const ENTRY: usize = 14;
 
 // How many entries a session has.
-const ENTRIES: usize = 31;
+const ENTRIES: usize = wire::MOST_NODES;
 
 // Whether an entry is of its form: leader is a flag, 00 or 01, and bits 6 and 7 of known are 0.
 fn is_entry(s: &[u8]) -> bool

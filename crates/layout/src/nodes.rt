@@ -18,7 +18,7 @@ ghost use Rattle.layout.specs.Nodes.{isNode, areNodes, nodesLength, read
 const NODE: usize = 31;
 
 // How many records a line may lend, and a table has room for.
-const MOST_LENT: usize = 33;
+const MOST_LENT: usize = wire::MOST_NODES + 2;
 
 // Whether s starts with a record: leader and addressed are flags, 00 or 01.
 fn is_node(s: &[u8]) -> bool

@@ -1,5 +1,6 @@
 // STATE, the host's session as the lines of `trials` show it and hand it in: open, n, walk, EXCHANGE, ENTRY*31.
 // In it, and in a line of its own, ORDER: a command with whom it is for.
+// Promised: which bytes are a STATE or an ORDER, what each reads as, and the bytes that show it.
 // Left to others: which lines have them (tryhost), and the entries (layout).
 mod exchange;
 mod order;

@@ -1,6 +1,7 @@
 // The lines of `trials` that try the host, on the one session: 30 power-up, 31 next, 32 ask, 33 a command, 34 regroup, 35 report, 36 silence,
 // 37 shows the session, 38 hands in one made by hand.
-// Whether a line is of its form is asked first, and then the call is made.
+// Promised: whether a line is of its form, which is asked first, and what its call answers, leaves and makes of the session.
+// Left to others: what the calls do (start, walk, host, reports), and how a session is written (state).
 use fields::Answer;
 use fields::MOST_ROOM;
 use fields::byte;

@@ -1,4 +1,5 @@
 pub mod Puts
+pub mod Storing
 mod Pairing
 pub mod Meaning
 pub mod Unique

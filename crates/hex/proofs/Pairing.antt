@@ -15,6 +15,7 @@ use Rattle.wire.proofs.Impossible.{impossible}
 use Rattle.hex.specs.Digits.{digitOf}
 use Rattle.hex.specs.Hex.{space, Content, bytes, malformed, pairBy, readPair, before, onPair, packetIn, bytesIn, over, readBytes, parsedNumber}
 use Rattle.hex.specs.Gathering.{Gathered, whole, none, gathered, readPairs}
+use Rattle.hex.proofs.Storing.{laid-before}
 use Rattle.hex.specs.declared.pairs.Pair.{Pair}
 use Rattle.hex.specs.declared.pairs.Pair.the-variants.{Last, More, Bad}
 use Rattle.hex.specs.declared.pairs.Parsed.{Parsed}
@@ -32,10 +33,6 @@ packet-step [] = refl
 packet-step (a ∷ []) = refl
 packet-step (a ∷ b ∷ []) = refl
 packet-step (a ∷ b ∷ c ∷ s) = refl
-
-laid-before : (v i : ℕ) (out : List ℕ) (c : Content) → readPairs (before v c) i out ≡ readPairs c (i + 1) (set out i v)
-laid-before v i out (bytes d) = rw (add-one i, add-suc i (length d), suc-add i (length d))
-laid-before v i out malformed = refl
 
 module _ (line : List ℕ) (at i : ℕ) (r out : List ℕ) (p : Pair) (w : Gathered) (e : r ≡ drop at line) (f : p ≡ readPair r)
     (inv : readPairs (packetIn (drop at line)) i out ≡ w) where
@@ -79,9 +76,6 @@ pub more-fits : (line : List ℕ) (at v : ℕ) (r : List ℕ) (p : Pair) → r �
 more-fits line at v r p e f g =
     let k : 3 ≤ length (drop at line) = more-long (drop at line) (rw (← e, ← f, g)) in
     omega (arith, length-drop at line)
-
-pub store-long : (out left : List ℕ) (i b n : ℕ) → left ≡ set out i b → length out ≡ n → length left ≡ n
-store-long out left i b n e f = ap (λ (l : List ℕ). length l) e ∙ length-set out i b ∙ f
 
 -- ---- the whole line
 

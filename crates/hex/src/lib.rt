@@ -5,6 +5,8 @@ mod digits;
 mod pairs;
 mod writing;
 
+pub use digits::digit;
 pub use pairs::Parsed;
+pub use pairs::SPACE;
 pub use pairs::read_bytes;
 pub use writing::write_line;

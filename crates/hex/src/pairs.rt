@@ -8,7 +8,7 @@ ghost use Rattle.hex.specs.Hex.{pairBy, readPair, packetIn, bytesIn, rea
 ghost use Rattle.hex.specs.Gathering.{gathered, readPairs};
 
 // Between two bytes.
-pub(crate) const SPACE: u8 = 32;
+pub const SPACE: u8 = 32;
 
 // How many bytes a line holds, or that it isn't of its form.
 pub enum Parsed {

@@ -15,7 +15,7 @@ ghost use Rattle.buffer.specs.Buffer.{builtNumber};
 ghost use Rattle.packet.specs.Build.{packetWith, buildOf};
 
 // The first byte of every command packet.
-const HEADER: u8 = 0xAA;
+pub const HEADER: u8 = 0xAA;
 
 // What reading a command packet finds: its parts and where it ends, or the refusal. The data bytes are `data_part`.
 pub enum Framed {

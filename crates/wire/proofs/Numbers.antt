@@ -27,6 +27,7 @@ in-range refusal.NotDue = refl
 in-range refusal.NoNode = refl
 in-range refusal.Led = refl
 in-range refusal.Closed = refl
+in-range refusal.Line = refl
 
 -- each of its tests holds
 module _ (n : ℕ) (h : refuses n ≡ true) where

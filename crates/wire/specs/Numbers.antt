@@ -1,4 +1,4 @@
--- Document 01, "Numbers returned": a refusal's number stands only here.
+-- Document 01, "Numbers returned", and the later numbers of document 02: a refusal's number stands only here.
 use Prim.Native.Nat.{ℕ}
 use Rattle.wire.specs.declared.refusal.Refusal.{Refusal}
 use Rattle.wire.specs.declared.refusal.Refusal.the-variants as refusal
@@ -7,7 +7,7 @@ use Rattle.wire.specs.declared.refusal.Refusal.the-variants as refusal
 abbrev pub done : ℕ
 done = 0
 
--- the refusals of the table
+-- the refusals of the table; from 14 on those of document 02, request by request
 abbrev pub numberOf : Refusal → ℕ
 numberOf refusal.Short = 1
 numberOf refusal.Header = 2
@@ -21,6 +21,7 @@ numberOf refusal.NotDue = 9
 numberOf refusal.NoNode = 10
 numberOf refusal.Led = 11
 numberOf refusal.Closed = 12
+numberOf refusal.Line = 14
 
 -- "several nodes replied (not a refusal)"
 abbrev pub collision : ℕ

@@ -1,4 +1,4 @@
-// Document 01, "Numbers returned". specs/Numbers.antt has the number of each case.
+// Document 01, "Numbers returned", and document 02's later numbers. specs/Numbers.antt has the number of each case.
 ghost use mathlib.Core.Path.{_≡_};
 ghost use mathlib.Core.List.{[], _∷_};
 ghost use Rattle.wire.specs.Numbers.{done, numberOf, collision};
@@ -29,6 +29,8 @@ pub enum Refusal {
     Led,
     // Session closed.
     Closed,
+    // A sheet's line is not of its form or count.
+    Line,
 }
 
 // A call that is done.
@@ -61,6 +63,7 @@ impl Refusal {
             Refusal::NoNode => 10,
             Refusal::Led => 11,
             Refusal::Closed => 12,
+            Refusal::Line => 14,
         }
     }
 }

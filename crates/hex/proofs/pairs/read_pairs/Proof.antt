@@ -6,7 +6,8 @@ use native.Mathlib.Omega.{arith}
 use lib.ListN.{length, drop}
 use Rattle.hex.specs.Hex.{packetIn}
 use Rattle.hex.specs.Gathering.{readPairs}
-use Rattle.hex.proofs.Pairing.{pairs-bad, pairs-last, pairs-more, more-fits, store-long}
+use Rattle.hex.proofs.Storing.{store-long}
+use Rattle.hex.proofs.Pairing.{pairs-bad, pairs-last, pairs-more, more-fits}
 use Rattle.hex.proofs.pairs.read_pairs.Statement.{statement}
 use Rattle.hex.proofs.pairs.read_pairs.Tie as tie
 

@@ -1,0 +1,5 @@
+pub mod Line
+pub mod Sheet
+pub mod Packets
+pub mod Form
+pub mod Reading

@@ -1,0 +1,106 @@
+// Packets in, their sheet out.
+use buffer::Built;
+use packet::Framed;
+use text::first;
+use text::rest;
+use wire::Refusal;
+ghost use mathlib.Core.Path.{_≡_};
+ghost use Prim.Native.Nat.{_+_, _≤_};
+ghost use lib.ListN.{length};
+ghost use lib.Seq.{sets};
+ghost use Rattle.wire.specs.Promise.{Lending};
+ghost use Rattle.wire.specs.Part.{Part};
+ghost use Rattle.buffer.specs.Buffer.{builtNumber};
+ghost use Rattle.sheet.specs.Packets.{firstPacket, packetsOf, lineFor, sheetOf, exportOf};
+ghost use Rattle.sheet.specs.Reading.{countPackets, HasRoom, sheetLines};
+
+// What a list of packets is found to be: so many that read, or why the first that doesn't is refused.
+pub(crate) enum Listed {
+    Packets(usize),
+    Refused(Refusal),
+}
+
+// The first of some packets, up to the end that its count gives; all that is there where it is cut short.
+fn first_packet(s: &[u8]) -> &[u8]
+    ensures { λ r. ⌜ Part (s .entry) 0 (firstPacket (now (s .entry))) r ⌝ }
+{
+    if s.len() < 3 {
+        return s;
+    }
+    let end = 4 + (s[2] / 16) as usize;
+    first(s, end)
+}
+
+// How many packets there are, each of them read: one pass over the list.
+fn count_packets(packets: &[u8]) -> Listed
+    ensures { λ r. ⌜ r ≡ countPackets (sheetOf (packetsOf (now (packets .entry)))) (length (packetsOf (now (packets .entry)))) ⌝ }
+{
+    let mut at = 0;
+    let mut count = 0;
+    while at < packets.len() {
+        let packet = first_packet(rest(packets, at));
+        match packet::read(packet) {
+            Framed::Refused(why) => {
+                return Listed::Refused(why);
+            }
+            Framed::Whole {
+                address: _,
+                command: _,
+                end,
+            } => {
+                count += 1;
+                at += end;
+            }
+        }
+    }
+    Listed::Packets(count)
+}
+
+// The line of a packet, from `at` on; the position behind it.
+fn put_line_for(out: &mut [u8], at: usize, packet: &[u8]) -> usize
+    requires { ⌜ (4 ≤ length (now packet)) × (at + length (lineFor (now packet)) ≤ length (now out)) ⌝ }
+    ensures { λ r. ⌜ (r ≡ at + length (lineFor (now (packet .entry)))) × (now (out .exit) ≡ sets (now (out .entry)) at (lineFor (now (packet .entry)))) ⌝ }
+{
+    let n = packet.len() - 1;
+    buffer::put(out, at, b"HEX ");
+    hex::write_line(&packet[1..n], &mut out[at + 4..]);
+    at + 4 + 3 * (n - 1)
+}
+
+// The lines of packets that all read and whose lines have room.
+fn put_lines(packets: &[u8], out: &mut [u8])
+    requires { ⌜ HasRoom (sheetOf (packetsOf (now packets))) 0 (length (now out)) ⌝ }
+    ensures { λ _. ⌜ now (out .exit) ≡ sheetLines (now (packets .entry)) (now (out .entry)) ⌝ }
+{
+    let mut at = 0;
+    let mut to = 0;
+    while at < packets.len() {
+        let packet = first_packet(rest(packets, at));
+        to = put_line_for(out, to, packet);
+        at += packet.len();
+    }
+}
+
+// The lines of some packets, at the start of `out`, whose rest stays. A refusal leaves it as it stood.
+pub fn export(packets: &[u8], out: &mut [u8]) -> Built
+    ensures { λ r. ⌜ Lending builtNumber r (now (out .exit)) (exportOf (now (packets .entry)) (now (out .entry))) ⌝ }
+{
+    match count_packets(packets) {
+        Listed::Refused(why) => Built::Refused(why),
+        Listed::Packets(count) => {
+            // Each line has three characters for each byte of its packet but two: `HEX` and a space for header and sum.
+            // So a sheet has one for each byte, and twice as many again but for the packets.
+            let room = out.len();
+            let length = packets.len();
+            let more = length - count;
+            if room < length {
+                return Built::Refused(Refusal::Room);
+            }
+            if (room - length) / 2 < more {
+                return Built::Refused(Refusal::Room);
+            }
+            put_lines(packets, out);
+            Built::Bytes(length + 2 * more)
+        }
+    }
+}

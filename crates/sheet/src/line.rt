@@ -1,0 +1,148 @@
+// A line of a sheet: `HEX`, then address, command byte and data bytes, each of one or two hex digits.
+use hex::Parsed;
+use hex::SPACE;
+use text::rest;
+ghost use mathlib.Core.Path.{_≡_};
+ghost use Prim.Native.Nat.{_<_};
+ghost use lib.ListN.{set};
+ghost use Rattle.hex.specs.Gathering.{gathered};
+ghost use Rattle.sheet.specs.Line.{startsHex, eitherDigit};
+ghost use Rattle.sheet.specs.Reading.{twoNumeral, numeralBy, readNumeral, readNumerals, readLine};
+
+// The most bytes of a line: address, command byte, 15 data bytes.
+pub(crate) const MOST_LINE: usize = 17;
+
+// What some text starts with: one or two digits and the line's end, or one or two digits and a space, which are so many characters.
+pub(crate) enum Numeral {
+    Last(u8),
+    More(u8, usize),
+    Bad,
+}
+
+// Whether a line begins with the word and a space.
+fn starts_hex(line: &[u8]) -> bool
+    ensures { λ r. ⌜ r ≡ startsHex (now (line .entry)) ⌝ }
+{
+    if line.len() < 4 {
+        return false;
+    }
+    if line[0] != b'H' {
+        return false;
+    }
+    if line[1] != b'E' {
+        return false;
+    }
+    if line[2] != b'X' {
+        return false;
+    }
+    line[3] == SPACE
+}
+
+// The value of a hex digit of either case; 16 where b is none.
+fn either_digit(b: u8) -> u8
+    ensures { λ r. ⌜ r ≡ eitherDigit b ⌝ }
+{
+    if b < 97 {
+        return hex::digit(b);
+    }
+    hex::digit(b - 32)
+}
+
+// s starts with two digits of these values.
+fn two_numeral(high: u8, low: u8, s: &[u8]) -> Numeral
+    requires { ⌜ high < 16 ⌝ }
+    ensures { λ r. ⌜ r ≡ twoNumeral high low (now (s .entry)) ⌝ }
+{
+    if 15 < low {
+        return Numeral::Bad;
+    }
+    let value = high * 16 + low;
+    if s.len() < 3 {
+        return Numeral::Last(value);
+    }
+    if s[2] != SPACE {
+        return Numeral::Bad;
+    }
+    Numeral::More(value, 3)
+}
+
+// s starts with a digit of this value.
+fn numeral_by(high: u8, s: &[u8]) -> Numeral
+    ensures { λ r. ⌜ r ≡ numeralBy high (now (s .entry)) ⌝ }
+{
+    if 15 < high {
+        return Numeral::Bad;
+    }
+    if s.len() < 2 {
+        return Numeral::Last(high);
+    }
+    if s[1] == SPACE {
+        return Numeral::More(high, 2);
+    }
+    let low = either_digit(s[1]);
+    two_numeral(high, low, s)
+}
+
+fn read_numeral(s: &[u8]) -> Numeral
+    ensures { λ r. ⌜ r ≡ readNumeral (now (s .entry)) ⌝ }
+{
+    if s.len() < 1 {
+        return Numeral::Bad;
+    }
+    let high = either_digit(s[0]);
+    numeral_by(high, s)
+}
+
+// Stores b, if there is room.
+fn store(out: &mut [u8], at: usize, b: u8)
+    ensures { λ _. ⌜ now (out .exit) ≡ set (now (out .entry)) at b ⌝ }
+{
+    if at < out.len() {
+        out[at] = b;
+    }
+}
+
+// The bytes that numerals say go to the start of `out`, as many as it has room for.
+fn read_numerals(s: &[u8], out: &mut [u8]) -> Parsed
+    ensures { λ r. ⌜ gathered r (now (out .exit)) ≡ readNumerals (now (s .entry)) (now (out .entry)) ⌝ }
+{
+    let mut at = 0;
+    let mut count = 0;
+    loop {
+        let next = read_numeral(rest(s, at));
+        match next {
+            Numeral::Bad => {
+                return Parsed::Malformed;
+            }
+            Numeral::Last(b) => {
+                store(out, count, b);
+                return Parsed::Bytes(count + 1);
+            }
+            Numeral::More(b, n) => {
+                store(out, count, b);
+                count += 1;
+                at += n;
+            }
+        }
+    }
+}
+
+// The bytes of a line go to the start of `out`. Of more than it has room for the count is never right.
+pub(crate) fn read_line(line: &[u8], out: &mut [u8; MOST_LINE]) -> Parsed
+    ensures { λ r. ⌜ gathered r (now (out .exit)) ≡ readLine (now (line .entry)) (now (out .entry)) ⌝ }
+{
+    if !starts_hex(line) {
+        return Parsed::Malformed;
+    }
+    match read_numerals(rest(line, 4), out) {
+        Parsed::Malformed => Parsed::Malformed,
+        Parsed::Bytes(n) => {
+            let data = (out[1] / 16) as usize;
+            if n == 2 + data {
+                Parsed::Bytes(n)
+            } else {
+                Parsed::Malformed
+            }
+        }
+    }
+}

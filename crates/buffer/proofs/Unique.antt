@@ -4,6 +4,7 @@ use denote.Ref.{now}
 use Rattle.wire.proofs.OneResult.{OneResult}
 use Rattle.buffer.proofs.Built.number.Reads as built-number
 use Rattle.buffer.proofs.put.Reads as put
+use Rattle.buffer.proofs.store.Reads as store
 use Rattle.buffer.proofs.sum.Reads as sum
 use Rattle.buffer.proofs.ends_in_sum.Reads as ends-in-sum
 
@@ -19,3 +20,6 @@ ends-in-sum-unique κs a r r′ s s′ p q = p ∙ sym q
 -- what the lent buffer holds
 pub put-unique : (κs : _) (a : _) (r r′ : _) (s s′ : _) → put.Post κs a r s → put.Post κs a r′ s′ → now (s .0) ≡ now (s′ .0)
 put-unique κs a r r′ s s′ p q = p ∙ sym q
+
+pub store-unique : (κs : _) (a : _) (r r′ : _) (s s′ : _) → store.Post κs a r s → store.Post κs a r′ s′ → now (s .0) ≡ now (s′ .0)
+store-unique κs a r r′ s s′ p q = p ∙ sym q

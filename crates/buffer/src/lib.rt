@@ -3,6 +3,7 @@
 // Left to others: which bytes a packet has (packet, status).
 use wire::Refusal;
 ghost use mathlib.Core.Path.{_≡_};
+ghost use lib.ListN.{set};
 ghost use Rattle.buffer.specs.Sum.{sumOf, endsInSum};
 ghost use Rattle.buffer.specs.Buffer.{builtNumber, putOf};
 
@@ -63,5 +64,14 @@ pub fn put(out: &mut [u8], at: usize, src: &[u8])
     while i < src.len() {
         out[at + i] = src[i];
         i += 1;
+    }
+}
+
+// Stores b, if there is room.
+pub fn store(out: &mut [u8], at: usize, b: u8)
+    ensures { λ _. ⌜ now (out .exit) ≡ set (now (out .entry)) at b ⌝ }
+{
+    if at < out.len() {
+        out[at] = b;
     }
 }

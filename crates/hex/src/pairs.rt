@@ -1,8 +1,8 @@
 // Reading a line of bytes: two-digit capitals, single spaces.
 use crate::digits::digit;
+use buffer::store;
 use text::rest;
 ghost use mathlib.Core.Path.{_≡_};
-ghost use lib.ListN.{set};
 ghost use Rattle.wire.specs.Promise.{Lending};
 ghost use Rattle.hex.specs.Hex.{pairBy, readPair, packetIn, bytesIn, readBytes, parsedNumber};
 ghost use Rattle.hex.specs.Gathering.{gathered, readPairs};
@@ -52,15 +52,6 @@ fn read_pair(s: &[u8]) -> Pair
     let high = digit(s[0]);
     let low = digit(s[1]);
     pair_by(high, low, s)
-}
-
-// Stores b, if there is room.
-fn store(out: &mut [u8], at: usize, b: u8)
-    ensures { λ _. ⌜ now (out .exit) ≡ set (now (out .entry)) at b ⌝ }
-{
-    if at < out.len() {
-        out[at] = b;
-    }
 }
 
 // The bytes of a line that isn't empty go to the start of `out`, as many as it has room for.

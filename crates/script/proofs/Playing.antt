@@ -13,7 +13,7 @@ use Rattle.text.specs.Lines.{firstLine, linesOf}
 use Rattle.hex.specs.Hex.{Content, bytes, malformed, bytesIn, over, readBytes, parsedNumber}
 use Rattle.hex.specs.declared.pairs.Parsed.{Parsed}
 use Rattle.hex.specs.declared.pairs.Parsed.the-variants.{Bytes, Malformed}
-use Rattle.text.proofs.Parts.{line-short, lines-step}
+use Rattle.text.proofs.Parts.{lines-next}
 use Rattle.hex.proofs.Meaning.{read-written}
 use Rattle.status.specs.Status.{mostReply}
 use Rattle.node.specs.declared.state.Node.{Node}
@@ -66,24 +66,12 @@ module _ (t : Table) (l b : List ℕ) (found : Parsed) (e : Lending parsedNumber
 
 -- ---- all lines: those from i on are still to be played
 
-module _ (packets d l : List ℕ) (i : ℕ) (h : i < length packets) (ed : d ≡ drop i packets) (el : l ≡ firstLine d) where
-  -- a line and its newline
-  pub next-line : i + length l + 1 ≤ length packets + 1
-  next-line = rw (el, ed) (omega (arith, line-short (drop i packets), length-drop i packets))
-
-  pub run-next : (t : Table) (out left e o : List ℕ) (s : Step) (p : ℕ) → Played (playOf t l) p out s left → Going (runOf t (linesOf (drop i packets))) p out e o
-      → Going (runOf (s .table) (linesOf (drop (i + length l + 1) packets))) (s .at) left e o
-  unfolding runOf
-  run-next t out left e o s p f g =
-      let k : 0 < length (drop i packets) = omega (arith, length-drop i packets) in
-      let n : firstLine (drop i packets) ≡ l = sym (el ∙ ap firstLine ed) in
-      let j : i + suc (length l) ≡ i + length l + 1 = omega arith in
-      let q : drop (suc (length l)) (drop i packets) ≡ drop (i + length l + 1) packets = drop-drop (suc (length l)) i packets ∙ ap (λ (x : ℕ). drop x packets) j in
-      let ls : linesOf (drop i packets) ≡ l ∷ linesOf (drop (i + length l + 1) packets) =
-      lines-step (drop i packets) k
-      ∙ ap (λ (x : List ℕ). x ∷ linesOf (drop (suc (length x)) (drop i packets))) n
-      ∙ ap (λ (x : List ℕ). l ∷ linesOf x) q in
-      rw (f .table) (going-on (subst (λ (x : List (List ℕ)). Going (runOf t x) p out e o) ls g) (f .line .wrote))
+pub run-next : (packets d l : List ℕ) (i : ℕ) → i < length packets → d ≡ drop i packets → l ≡ firstLine d
+    → (t : Table) (out left e o : List ℕ) (s : Step) (p : ℕ) → Played (playOf t l) p out s left → Going (runOf t (linesOf (drop i packets))) p out e o
+    → Going (runOf (s .table) (linesOf (drop (i + length l + 1) packets))) (s .at) left e o
+unfolding runOf
+run-next packets d l i h ed el t out left e o s p f g =
+    rw (f .table) (going-on (subst (λ (x : List (List ℕ)). Going (runOf t x) p out e o) (lines-next packets d l i h ed el) g) (f .line .wrote))
 
 pub run-near : (s : Stepped) (r : Step) (out left : List ℕ) (i n p : ℕ) → Played s p out r left → p ≤ 64 * i → r .at ≤ 64 * (i + n + 1)
 run-near s r out left i n p f h = omega (arith, f .line .wrote .behind, f .line .near)

@@ -1,1 +1,7 @@
-
+mod Numerals
+mod Gathers
+mod Said
+mod Laying
+mod Imports
+mod Cutting
+mod Exports

@@ -1,5 +1,5 @@
 -- Serves private contracts: a line read numeral by numeral; lengths known before anything is written; what is then written.
-use Prim.Native.Nat.{ℕ, _+_, _*_, _≤_}
+use Prim.Native.Nat.{ℕ, _+_, _*_, _/_, _≤_}
 use mathlib.Core.Bool.{cond}
 use mathlib.Core.List.{List}
 use lib.Dec.{ltb, eqb}
@@ -10,13 +10,15 @@ use Rattle.wire.specs.declared.refusal.Refusal.the-variants.{Room}
 use Rattle.text.specs.Lines.{linesOf}
 use Rattle.hex.specs.Hex.{space}
 use Rattle.hex.specs.Gathering.{Gathered, readPairs}
+use Rattle.hex.specs.declared.pairs.Parsed.{Parsed}
+use Rattle.hex.specs.declared.pairs.Parsed.the-variants.{Bytes, Malformed}
 use Rattle.sheet.specs.declared.line.Numeral.{Numeral}
 use Rattle.sheet.specs.declared.line.Numeral.the-variants.{Last, More, Bad}
 use Rattle.sheet.specs.declared.importing.Imported.{Imported}
 use Rattle.sheet.specs.declared.importing.Imported.the-variants as imported
 use Rattle.sheet.specs.declared.exporting.Listed.{Listed}
 use Rattle.sheet.specs.declared.exporting.Listed.the-variants as listed
-use Rattle.sheet.specs.Line.{eitherDigit, numeralsOf, numeralBytes, lineIn}
+use Rattle.sheet.specs.Line.{eitherDigit, numeralsOf, numeralBytes, counted, lineIn}
 use Rattle.sheet.specs.Sheet.{Made, made, fault, packetsIn}
 use Rattle.sheet.specs.Packets.{packetsOf, sheetOf}
 
@@ -41,9 +43,15 @@ numeralBy high s =
 unfoldable pub readNumeral : List ℕ → Numeral
 readNumeral s = cond (ltb (length s) 1) Bad (numeralBy (eitherDigit (getD s 0 0)) s)
 
--- the bytes of numerals, and of a line, gathered in a buffer
+-- the bytes of numerals, of as many as they count, and of a line, gathered in a buffer
 abbrev pub readNumerals : List ℕ → List ℕ → Gathered
 readNumerals s out = readPairs (numeralBytes (numeralsOf s)) 0 out
+
+abbrev pub countedBy : ℕ → ℕ → Parsed
+countedBy n head = cond (eqb n (2 + head / 16)) (Bytes n) Malformed
+
+abbrev pub readCounted : List ℕ → List ℕ → Gathered
+readCounted s out = readPairs (counted (numeralBytes (numeralsOf s))) 0 out
 
 abbrev pub readLine : List ℕ → List ℕ → Gathered
 readLine l out = readPairs (lineIn l) 0 out

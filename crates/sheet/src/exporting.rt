@@ -5,12 +5,12 @@ use text::first;
 use text::rest;
 use wire::Refusal;
 ghost use mathlib.Core.Path.{_≡_};
-ghost use Prim.Native.Nat.{_+_, _≤_};
+ghost use Prim.Native.Nat.{_+_, _*_, _≤_};
 ghost use lib.ListN.{length};
-ghost use lib.Seq.{sets};
 ghost use Rattle.wire.specs.Promise.{Lending};
 ghost use Rattle.wire.specs.Part.{Part};
 ghost use Rattle.buffer.specs.Buffer.{builtNumber};
+ghost use Rattle.buffer.specs.Wrote.{Wrote};
 ghost use Rattle.sheet.specs.Packets.{firstPacket, packetsOf, lineFor, sheetOf, exportOf};
 ghost use Rattle.sheet.specs.Reading.{countPackets, HasRoom, sheetLines};
 
@@ -46,10 +46,10 @@ fn count_packets(packets: &[u8]) -> Listed
             Framed::Whole {
                 address: _,
                 command: _,
-                end,
+                end: _,
             } => {
                 count += 1;
-                at += end;
+                at += packet.len();
             }
         }
     }
@@ -58,8 +58,8 @@ fn count_packets(packets: &[u8]) -> Listed
 
 // The line of a packet, from `at` on; the position behind it.
 fn put_line_for(out: &mut [u8], at: usize, packet: &[u8]) -> usize
-    requires { ⌜ (4 ≤ length (now packet)) × (at + length (lineFor (now packet)) ≤ length (now out)) ⌝ }
-    ensures { λ r. ⌜ (r ≡ at + length (lineFor (now (packet .entry)))) × (now (out .exit) ≡ sets (now (out .entry)) at (lineFor (now (packet .entry)))) ⌝ }
+    requires { ⌜ (4 ≤ length (now packet)) × (at + 3 * length (now packet) ≤ length (now out) + 2) ⌝ }
+    ensures { λ r. ⌜ Wrote (lineFor (now (packet .entry))) at (now (out .entry)) r (now (out .exit)) ⌝ }
 {
     let n = packet.len() - 1;
     buffer::put(out, at, b"HEX ");

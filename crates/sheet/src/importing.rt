@@ -1,5 +1,6 @@
 // A sheet in, its packets out.
 use crate::line::MOST_LINE;
+use crate::line::data_count;
 use crate::line::read_line;
 use hex::Parsed;
 use text::first;
@@ -9,8 +10,8 @@ use wire::Refusal;
 ghost use mathlib.Core.Path.{_≡_};
 ghost use Prim.Native.Nat.{_+_, _≤_};
 ghost use lib.ListN.{length};
-ghost use lib.Seq.{sets};
 ghost use Rattle.wire.specs.Promise.{Lending};
+ghost use Rattle.buffer.specs.Wrote.{Wrote};
 ghost use Rattle.text.specs.Lines.{linesOf};
 ghost use Rattle.sheet.specs.Sheet.{packetFor, packetsIn, mostText, importOf, importedNumber};
 ghost use Rattle.sheet.specs.Reading.{importAnswer, HasRoom, sheetPackets};
@@ -53,9 +54,9 @@ fn import_answer(sheet: &[u8], room: usize) -> Imported
             Parsed::Malformed => {
                 return Imported::Fault(passed + 1);
             }
-            Parsed::Bytes(n) => {
-                // Header and sum come to the line's bytes.
-                total += n + 2;
+            Parsed::Bytes(_) => {
+                // Header, address, command byte and sum, and as many data bytes as the command byte says.
+                total += 4 + data_count(bytes[1]);
                 passed += 1;
                 at = at + line.len() + 1;
             }
@@ -70,7 +71,7 @@ fn import_answer(sheet: &[u8], room: usize) -> Imported
 // The packet of a line's bytes, from `at` on; the position behind it.
 fn put_packet_for(out: &mut [u8], at: usize, bytes: &[u8]) -> usize
     requires { ⌜ (2 ≤ length (now bytes)) × (at + (length (now bytes) + 2) ≤ length (now out)) ⌝ }
-    ensures { λ r. ⌜ (r ≡ at + (length (now (bytes .entry)) + 2)) × (now (out .exit) ≡ sets (now (out .entry)) at (packetFor (now (bytes .entry)))) ⌝ }
+    ensures { λ r. ⌜ Wrote (packetFor (now (bytes .entry))) at (now (out .entry)) r (now (out .exit)) ⌝ }
 {
     let n = bytes.len();
     out[at] = packet::HEADER;

@@ -1,13 +1,13 @@
 // A line of a sheet: `HEX`, then address, command byte and data bytes, each of one or two hex digits.
+use buffer::store;
 use hex::Parsed;
 use hex::SPACE;
 use text::rest;
 ghost use mathlib.Core.Path.{_≡_};
-ghost use Prim.Native.Nat.{_<_};
-ghost use lib.ListN.{set};
+ghost use Prim.Native.Nat.{_/_, _≤_, _<_};
 ghost use Rattle.hex.specs.Gathering.{gathered};
 ghost use Rattle.sheet.specs.Line.{startsHex, eitherDigit};
-ghost use Rattle.sheet.specs.Reading.{twoNumeral, numeralBy, readNumeral, readNumerals, readLine};
+ghost use Rattle.sheet.specs.Reading.{twoNumeral, numeralBy, readNumeral, readNumerals, countedBy, readCounted, readLine};
 
 // The most bytes of a line: address, command byte, 15 data bytes.
 pub(crate) const MOST_LINE: usize = 17;
@@ -15,7 +15,7 @@ pub(crate) const MOST_LINE: usize = 17;
 // What some text starts with: one or two digits and the line's end, or one or two digits and a space, which are so many characters.
 pub(crate) enum Numeral {
     Last(u8),
-    More(u8, usize),
+    More(u8, u8),
     Bad,
 }
 
@@ -93,15 +93,6 @@ fn read_numeral(s: &[u8]) -> Numeral
     numeral_by(high, s)
 }
 
-// Stores b, if there is room.
-fn store(out: &mut [u8], at: usize, b: u8)
-    ensures { λ _. ⌜ now (out .exit) ≡ set (now (out .entry)) at b ⌝ }
-{
-    if at < out.len() {
-        out[at] = b;
-    }
-}
-
 // The bytes that numerals say go to the start of `out`, as many as it has room for.
 fn read_numerals(s: &[u8], out: &mut [u8]) -> Parsed
     ensures { λ r. ⌜ gathered r (now (out .exit)) ≡ readNumerals (now (s .entry)) (now (out .entry)) ⌝ }
@@ -121,28 +112,46 @@ fn read_numerals(s: &[u8], out: &mut [u8]) -> Parsed
             Numeral::More(b, n) => {
                 store(out, count, b);
                 count += 1;
-                at += n;
+                at += n as usize;
             }
         }
     }
 }
 
-// The bytes of a line go to the start of `out`. Of more than it has room for the count is never right.
+// How many data bytes a command byte says there are.
+pub(crate) fn data_count(head: u8) -> usize
+    ensures { λ r. ⌜ (r ≡ head / 16) × (r ≤ 15) ⌝ }
+{
+    (head / 16) as usize
+}
+
+// So many bytes, the second of them this command byte: whether the data bytes number what it says.
+fn counted_by(n: usize, head: u8) -> Parsed
+    ensures { λ r. ⌜ r ≡ countedBy n head ⌝ }
+{
+    if n == 2 + data_count(head) {
+        Parsed::Bytes(n)
+    } else {
+        Parsed::Malformed
+    }
+}
+
+// The bytes that numerals say, if they are as many as they must be. Of more than `out` has room for the count is never right.
+fn read_counted(s: &[u8], out: &mut [u8; MOST_LINE]) -> Parsed
+    ensures { λ r. ⌜ gathered r (now (out .exit)) ≡ readCounted (now (s .entry)) (now (out .entry)) ⌝ }
+{
+    match read_numerals(s, out) {
+        Parsed::Malformed => Parsed::Malformed,
+        Parsed::Bytes(n) => counted_by(n, out[1]),
+    }
+}
+
+// The bytes of a line go to the start of `out`.
 pub(crate) fn read_line(line: &[u8], out: &mut [u8; MOST_LINE]) -> Parsed
     ensures { λ r. ⌜ gathered r (now (out .exit)) ≡ readLine (now (line .entry)) (now (out .entry)) ⌝ }
 {
-    if !starts_hex(line) {
-        return Parsed::Malformed;
+    if starts_hex(line) {
+        return read_counted(rest(line, 4), out);
     }
-    match read_numerals(rest(line, 4), out) {
-        Parsed::Malformed => Parsed::Malformed,
-        Parsed::Bytes(n) => {
-            let data = (out[1] / 16) as usize;
-            if n == 2 + data {
-                Parsed::Bytes(n)
-            } else {
-                Parsed::Malformed
-            }
-        }
-    }
+    Parsed::Malformed
 }

@@ -8,7 +8,7 @@ use native.Mathlib.Numerals.{add-one}
 use native.Mathlib.Nat.{not-suc-le-zero}
 use lib.Dec.{eqb}
 use lib.ListN.{length, take, drop, getD, drop-of-length-le, length-drop}
-use lib.Seq.{drop-cons, take-all}
+use lib.Seq.{drop-cons, drop-drop, take-all}
 use borrow.Author.Tests.{eq-eqb, ne-eqb}
 use Rattle.text.specs.Lines.{newline, firstLine, linesOf, grown}
 
@@ -76,3 +76,20 @@ lines-step (b ∷ a ∷ s) h = by-test (eqb b newline) refl (lines-step (a ∷ s
         → linesOf (b ∷ a ∷ s) ≡ firstLine (b ∷ a ∷ s) ∷ linesOf (drop (suc (length (firstLine (b ∷ a ∷ s)))) (b ∷ a ∷ s))
     by-test true e k = rw e
     by-test false e k = rw e (ap (grown b) k)
+
+-- ---- a text gone through line by line: those from i on are still to come
+
+module _ (s d l : List ℕ) (i : ℕ) (h : i < length s) (ed : d ≡ drop i s) (el : l ≡ firstLine d) where
+  -- a line and its newline
+  pub next-line : i + length l + 1 ≤ length s + 1
+  next-line = rw (el, ed) (omega (arith, line-short (drop i s), length-drop i s))
+
+  pub lines-next : linesOf (drop i s) ≡ l ∷ linesOf (drop (i + length l + 1) s)
+  lines-next =
+      let k : 0 < length (drop i s) = omega (arith, length-drop i s) in
+      let n : firstLine (drop i s) ≡ l = sym (el ∙ ap firstLine ed) in
+      let j : i + suc (length l) ≡ i + length l + 1 = omega arith in
+      let q : drop (suc (length l)) (drop i s) ≡ drop (i + length l + 1) s = drop-drop (suc (length l)) i s ∙ ap (λ (x : ℕ). drop x s) j in
+      lines-step (drop i s) k
+      ∙ ap (λ (x : List ℕ). x ∷ linesOf (drop (suc (length x)) (drop i s))) n
+      ∙ ap (λ (x : List ℕ). l ∷ linesOf x) q

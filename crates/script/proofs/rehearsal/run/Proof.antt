@@ -7,7 +7,8 @@ use lib.ListN.{length, drop}
 use Rattle.text.specs.Lines.{linesOf}
 use Rattle.script.specs.Bench.{runOf}
 use Rattle.buffer.proofs.Appends.{Going, going-start}
-use Rattle.script.proofs.Playing.{next-line, run-next, run-near, run-long, run-done}
+use Rattle.text.proofs.Parts.{next-line}
+use Rattle.script.proofs.Playing.{run-next, run-near, run-long, run-done}
 use Rattle.script.proofs.rehearsal.run.Statement.{statement}
 use Rattle.script.proofs.rehearsal.run.Tie as tie
 

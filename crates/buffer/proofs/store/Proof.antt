@@ -2,8 +2,8 @@
 use mathlib.Core.Path.{sym}
 use lib.Seq.{set-out}
 use borrow.Author.Needs.{needs}
-use Rattle.hex.proofs.pairs.store.Statement.{statement}
-use Rattle.hex.proofs.pairs.store.Tie as tie
+use Rattle.buffer.proofs.store.Statement.{statement}
+use Rattle.buffer.proofs.store.Tie as tie
 
 pub store-spec : {M : Type 1} → statement M
 store-spec =

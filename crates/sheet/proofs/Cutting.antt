@@ -1,0 +1,76 @@
+-- A list of packets cut into its packets: one behind the other, nothing lost.
+use Prim.Native.Nat.{ℕ, zero, suc, _+_, _-_, _*_, _/_, _≤_, _<_}
+use mathlib.Core.Bool.{true}
+use mathlib.Core.List.{List, [], _∷_, _++_}
+use mathlib.Core.Path.{_≡_, refl, sym, ap, _∙_}
+use native.Mathlib.Omega.{arith}
+use native.Mathlib.Nat.{not-suc-le-zero}
+use lib.ListN.{length, take, drop, getD, length-append, length-take, length-drop, take-append-drop, List·getD-eq-default}
+use lib.Seq.{getD-take, length-take-le, take-all}
+use Rattle.wire.specs.declared.address.Address.{Address}
+use Rattle.packet.specs.Packet.{countOf, endOf, frameOf, isIntact, readOf}
+use Rattle.packet.specs.declared.Framed.the-variants as framed
+use Rattle.packet.proofs.Packets.{Framing, framing, read-says}
+use Rattle.hex.specs.Hex.{hexLine}
+use Rattle.hex.proofs.Puts.{length-line}
+use Rattle.sheet.specs.Line.{hexWord}
+use Rattle.sheet.specs.Packets.{firstPacket, packetsFrom, packetsOf, bareOf, lineFor}
+
+-- the bytes of the packet before are passed
+skipped : (k : ℕ) (s : List ℕ) → packetsFrom k s ≡ packetsOf (drop k s)
+skipped zero s = refl
+skipped (suc k) [] = refl
+skipped (suc k) (b ∷ s) = skipped k s
+
+-- s isn't empty
+pub packets-step : (s : List ℕ) → 0 < length s → packetsOf s ≡ firstPacket s ∷ packetsOf (drop (endOf s) s)
+packets-step [] h = absurd (not-suc-le-zero h)
+packets-step (b ∷ s) h =
+    let z : 4 + countOf (b ∷ s) ≡ suc (3 + countOf (b ∷ s)) = omega arith in
+    ap (λ (ps : List (List ℕ)). firstPacket (b ∷ s) ∷ ps) (skipped (3 + countOf (b ∷ s)) s ∙ sym (ap (λ (n : ℕ). packetsOf (drop n (b ∷ s))) z))
+
+-- fewer than three bytes have no count
+pub first-all : (s : List ℕ) → length s < 3 → s ≡ firstPacket s
+first-all s h =
+    let z : endOf s ≡ 4 = ap (λ (n : ℕ). 4 + n / 16) (List·getD-eq-default s 0 {n = 2} (omega arith)) in
+    sym (take-all (endOf s) s (omega arith))
+
+-- the packets, back to back
+abbrev pub joined : List (List ℕ) → List ℕ
+joined [] = []
+joined (p ∷ ps) = p ++ joined ps
+
+-- the command byte stands in the first packet too, where there is one
+pub first-end : (s : List ℕ) → endOf (firstPacket s) ≡ endOf s
+first-end s = ap (λ (h : ℕ). 4 + h / 16) (getD-take (endOf s) s 2 0 (omega arith))
+
+-- a first packet that reads has the length that its count gives
+pub record First (s : List ℕ) (e : ℕ) : Type 0 where
+  pub end : e ≡ endOf s
+  pub long : length (firstPacket s) ≡ e
+  pub within : e ≤ length s
+
+pub first-reads : (s : List ℕ) (a : Address) (c e : ℕ) → readOf (firstPacket s) ≡ framed.Whole a c e → First s e
+first-reads s a c e h =
+    let f = framing (firstPacket s) a c e (read-says (firstPacket s) a c e h .0) in
+    record { end = sym (f .end) ∙ first-end s; long = f .size; within = omega (arith, f .size, length-take (endOf s) s) }
+
+-- the line of a packet has three characters for each byte but two
+pub line-long : (p : List ℕ) → 4 ≤ length p → length (lineFor p) + 2 ≡ 3 * length p
+line-long p h =
+    let k : length (bareOf p) ≡ length p - 2 = length-take-le (length p - 2) (drop 1 p) (omega (arith, length-drop 1 p)) in
+    omega (arith, length-append hexWord (hexLine (bareOf p)), length-line (bareOf p) (omega arith))
+
+-- "Packets stand back to back": nothing is lost between them
+from-joined : (k : ℕ) (s : List ℕ) → joined (packetsFrom k s) ≡ drop k s
+from-joined zero [] = refl
+from-joined (suc k) [] = refl
+from-joined (suc k) (b ∷ s) = from-joined k s
+from-joined zero (b ∷ s) =
+    let z : 4 + countOf (b ∷ s) ≡ suc (3 + countOf (b ∷ s)) = omega arith in
+    ap (λ (l : List ℕ). firstPacket (b ∷ s) ++ l) (from-joined (3 + countOf (b ∷ s)) s)
+    ∙ ap (λ (n : ℕ). take n (b ∷ s) ++ drop (3 + countOf (b ∷ s)) s) z
+    ∙ take-append-drop (suc (3 + countOf (b ∷ s))) (b ∷ s)
+
+pub cut-joined : (s : List ℕ) → joined (packetsOf s) ≡ s
+cut-joined s = from-joined 0 s

@@ -1,0 +1,34 @@
+-- The invariant: the packets so far, and what those from here on come to, are what all of them come to.
+use Prim.Native.Nat.{_≤_, _-_, _+_}
+use mathlib.Core.Path.{_≡_, refl}
+use borrow.Author.Needs.{needs}
+use native.Mathlib.Omega.{arith}
+use lib.ListN.{length}
+use Rattle.sheet.proofs.Exports.{ahead, count-refused, count-within, count-less, count-few, count-on, count-done}
+use Rattle.sheet.proofs.exporting.count_packets.Statement.{statement}
+use Rattle.sheet.proofs.exporting.count_packets.Tie as tie
+
+abbrev Inv-loop : tie.InvT-loop
+Inv-loop packets at₀ count₀ at count = (at ≤ length packets) × ((count ≤ at) × (ahead count packets at ≡ ahead 0 packets 0))
+
+abbrev μ-loop : tie.MeasureT-loop
+μ-loop packets at₀ count₀ at count = length packets - at
+
+pub count-packets-spec : {M : Type 1} → statement M
+count-packets-spec =
+    tie.close
+    (tie.spec
+    Inv-loop
+    μ-loop
+    (λ c. (search needs, (search needs, refl)))
+    (λ c κs. search needs)
+    (λ c κs. search needs)
+    (λ c κs. search needs)
+    (λ c. search needs)
+    (λ c. search count-refused)
+    (λ c. search needs)
+    (λ c. omega arith)
+    (λ c. omega arith)
+    (λ c. search count-less)
+    (λ c. (search count-within, (search count-few, search count-on)))
+    (λ c. search count-done))

@@ -170,7 +170,7 @@ answer-made (made p) out = rw zero-add (by-room (ltb (length out) (length p)))
     by-room false = refl
 
 -- what a refusal leaves
-spared : (m : Made ℕ) (out : List ℕ) → (importedNumber (importMade m out .answer) ≡ done → ⊥) → importMade m out .left ≡ out
+pub spared : (m : Made ℕ) (out : List ℕ) → (importedNumber (importMade m out .answer) ≡ done → ⊥) → importMade m out .left ≡ out
 spared (fault k) out n = refl
 spared (made p) out n = by-room (ltb (length out) (length p)) n
   where

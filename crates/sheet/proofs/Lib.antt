@@ -5,3 +5,7 @@ mod Laying
 mod Imports
 mod Cutting
 mod Exports
+pub mod Forms
+pub mod Trips
+pub mod Refusals
+pub mod Unique

@@ -1,5 +1,5 @@
 -- Document 02, request 1, once more as a form: what a line, a sheet and a list of packets are. `proofs/Forms` joins it to what is read.
-use Prim.Native.Nat.{ℕ, _+_, _*_, _/_, _<_}
+use Prim.Native.Nat.{ℕ, suc, _+_, _*_, _/_, _<_}
 use mathlib.Core.List.{List, [], _∷_, _++_}
 use mathlib.Core.Path.{_≡_}
 use lib.ListN.{length, getD}
@@ -30,6 +30,11 @@ pub record LineForm (l d : List ℕ) : Type 0 where
 pub data SheetForm : List (List ℕ) → List ℕ → Type 0 where
   end : SheetForm [] []
   next : {l d p : List ℕ} {ls : List (List ℕ)} → LineForm l d → SheetForm ls p → SheetForm (l ∷ ls) (packetFor d ++ p)
+
+-- "14 for a line not of this form or count, with the line's number from 1": the first line at fault
+pub data FirstFault : List (List ℕ) → ℕ → Type 0 where
+  here : {l : List ℕ} {ls : List (List ℕ)} → ((d : List ℕ) → LineForm l d → ⊥) → FirstFault (l ∷ ls) 1
+  later : {l d : List ℕ} {ls : List (List ℕ)} {k : ℕ} → LineForm l d → FirstFault ls k → FirstFault (l ∷ ls) (suc k)
 
 -- packets that read, and the bytes that they are back to back
 pub data ListForm : List (List ℕ) → List ℕ → Type 0 where

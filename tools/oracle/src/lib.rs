@@ -4,6 +4,7 @@
 //! harness uses its chain, its bench and its generators.
 
 pub mod bench;
+pub mod buffer;
 pub mod case;
 pub mod cases;
 pub mod cases_bench;

@@ -99,8 +99,9 @@ pub fn export(packets: &[u8], out: &mut [u8]) -> Built
             if (room - length) / 2 < more {
                 return Built::Refused(Refusal::Room);
             }
+            let total = length + 2 * more;
             put_lines(packets, out);
-            Built::Bytes(length + 2 * more)
+            Built::Bytes(total)
         }
     }
 }

@@ -28,7 +28,7 @@ fn build_into(args: &[u8], lent: &mut [u8]) -> Answer
 pub fn build(args: &[u8]) -> Answer
     ensures { λ r. ⌜ r ≡ trypacketBuild (now (args .entry)) ⌝ }
 {
-    if is_lending(args, 3) {
+    if is_lending(args, 3, MOST_ROOM) {
         let mut buffer = filled();
         let room = room(args, MOST_ROOM);
         return build_into(args, &mut buffer[0..room]);

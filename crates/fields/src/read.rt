@@ -67,7 +67,7 @@ pub fn filled_word() -> [u8; MOST_WORD_ROOM]
     [0x55; MOST_WORD_ROOM]
 }
 
-// And where it is three: a function of its own for it alone, since an array so long exhausts the check of a longer one.
+// And where it is three. Alone in its function: an array so long exhausts the check of a longer one.
 pub fn filled_triple() -> [u8; MOST_TRIPLE_ROOM]
     ensures { λ r. ⌜ r ≡ filledTriple ⌝ }
 {

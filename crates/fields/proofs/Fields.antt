@@ -26,10 +26,10 @@ triple-is s p at low high e l h = rw (l, h, e)
 pub long-is : (s p : List ℕ) (at low high : ℕ) → p ≡ drop at s → low ≡ fieldsWord p 0 → high ≡ fieldsWord p 2 → low + high * 65536 ≡ longOf s at
 long-is s p at low high e l h = rw (l, h, e)
 
--- a buffer of 55s, of any length: to count the elements of a large one is too much for the checker
-pub filled-to : (most : ℕ) → replicate most 0x55 ≡ filledTo most
+-- a buffer filled with 55, of any length: to count the bytes of a large one is too much for the checker
+pub filled-to : (most b : ℕ) → b ≡ 0x55 → replicate most b ≡ filledTo most
 unfolding filledTo
-filled-to most = refl
+filled-to most b e = rw e
 
 -- a room of one byte, of two, of three
 pub field-byte : (s : List ℕ) (most b : ℕ) → most < 0x100 → b ≡ fieldsByte s 0 → b ≡ roomField s most

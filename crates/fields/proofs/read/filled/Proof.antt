@@ -1,4 +1,5 @@
 -- By a law at any length.
+use native.Mathlib.Omega.{arith}
 use Rattle.fields.specs.Lending.{mostRoom}
 use Rattle.fields.proofs.Fields.{filled-to}
 use Rattle.fields.proofs.read.filled.Statement.{statement}
@@ -8,4 +9,4 @@ pub filled-spec : {M : Type 1} → statement M
 filled-spec =
     tie.close
     (tie.spec
-    (λ c. filled-to mostRoom))
+    (λ c. filled-to mostRoom _ (omega arith)))

@@ -79,12 +79,9 @@ module _ (s d b : List ℕ) (n : ℕ) (r : Answer) (eb : b ≡ filledTriple) (en
 
 -- ---- copies
 
--- what a line says fits
-pub text-fits : (s b : List ℕ) (t : Bool) → t ≡ isCopied s 69632 → t ≡ true → 69632 ≡ length b → length (copiedOf s) ≤ length b
-text-fits s b t e y l = let h = copied-most s 69632 t e y in omega arith
-
-pub packets-fit : (s b : List ℕ) (t : Bool) → t ≡ isCopied s 32768 → t ≡ true → 69632 ≡ length b → length (copiedOf s) ≤ length b
-packets-fit s b t e y l = let h = copied-most s 32768 t e y in omega arith
+-- what a line says has room
+pub copied-room : (s b : List ℕ) (most : ℕ) (t : Bool) → t ≡ isCopied s most → t ≡ true → 69632 ≡ length b → most ≤ 69632 → length (copiedOf s) ≤ length b
+copied-room s b most t e y l m = let h = copied-most s most t e y in omega arith
 
 module _ (s : List ℕ) (t : Bool) (r : Answer) where
   pub imports-copied : (b d : List ℕ) (n : ℕ) → t ≡ isCopied s 69632 → t ≡ true → take n b ≡ copiedOf s → d ≡ take n b → r ≡ importSummed s d → r ≡ importCopied s

@@ -1,6 +1,6 @@
 -- What the line says in copies has room, and is all that is handed on.
 use borrow.Author.Needs.{needs}
-use Rattle.trysheet.proofs.Tries.{text-fits, imports-copied, imports-copied-not}
+use Rattle.trysheet.proofs.Tries.{copied-room, imports-copied, imports-copied-not}
 use Rattle.trysheet.proofs.import_copied.Statement.{statement}
 use Rattle.trysheet.proofs.import_copied.Tie as tie
 
@@ -11,7 +11,7 @@ import-copied-spec =
     (λ c κs. search needs)
     (λ c κs. search needs)
     (λ c. search needs)
-    (λ c κs. search text-fits)
+    (λ c κs. search (needs, copied-room))
     (λ c. search needs)
     (λ c κs. search needs)
     (λ c κs. search needs)

@@ -8,15 +8,14 @@ use native.Mathlib.Numerals.{add-one}
 use native.Mathlib.Nat.{zero-add, zero-mul, suc-mul, mul-le-mul, mul-le-mul-right, le-antisymm}
 use borrow.Author.Tests.{not-true, not-false, le-leb, lt-leb, leb-true, leb-false}
 use lib.Dec.{leb}
-use lib.ListN.{length, take, drop, length-append, length-take, length-drop}
+use lib.ListN.{length, take, drop, length-append, length-drop}
 use lib.Seq.{length-take-le, take-at}
 use Rattle.wire.proofs.Choice.{both}
 use Rattle.buffer.specs.Wrote.{Wrote}
 use Rattle.buffer.proofs.Writing.{sets-start}
 use Rattle.buffer.proofs.Appends.{wrote-then}
-use Rattle.fields.specs.Field.{fieldsByte, fieldsWord}
 use Rattle.fields.specs.Lending.{mostTripleRoom, isLending}
-use Rattle.trysheet.specs.Copies.{copiesOf, copiedOf, isCopied}
+use Rattle.trysheet.specs.Copies.{timesOf, unitLength, unitOf, tailOf, copiesOf, copiedOf, isCopied}
 
 -- ---- how long they are
 
@@ -25,19 +24,16 @@ unfolding copiesOf
 copies-long zero u = sym (zero-mul (length u))
 copies-long (suc n) u = length-append (copiesOf n u) u ∙ ap (λ (k : ℕ). k + length u) (copies-long n u) ∙ sym (suc-mul n (length u))
 
-copied-long : (s : List ℕ) → length (copiedOf s) ≡ fieldsWord s 3 * length (take (fieldsByte s 5) (drop 6 s)) + length (drop (fieldsByte s 5) (drop 6 s))
+copied-long : (s : List ℕ) → length (copiedOf s) ≡ timesOf s * length (unitOf s) + length (tailOf s)
 unfolding copiedOf
-copied-long s =
-    length-append (copiesOf (fieldsWord s 3) (take (fieldsByte s 5) (drop 6 s))) (drop (fieldsByte s 5) (drop 6 s))
-    ∙ ap (λ (k : ℕ). k + length (drop (fieldsByte s 5) (drop 6 s))) (copies-long (fieldsWord s 3) (take (fieldsByte s 5) (drop 6 s)))
+copied-long s = length-append (copiesOf (timesOf s) (unitOf s)) (tailOf s) ∙ ap (λ (k : ℕ). k + length (tailOf s)) (copies-long (timesOf s) (unitOf s))
 
 -- where the line has as many bytes as len says
-copied-within : (s : List ℕ) → fieldsByte s 5 ≤ length (drop 6 s)
-    → length (copiedOf s) ≡ fieldsWord s 3 * fieldsByte s 5 + (length (drop 6 s) - fieldsByte s 5)
+copied-within : (s : List ℕ) → unitLength s ≤ length (drop 6 s) → length (copiedOf s) ≡ timesOf s * unitLength s + (length (drop 6 s) - unitLength s)
 copied-within s h =
     copied-long s
-    ∙ ap (λ (k : ℕ). fieldsWord s 3 * k + length (drop (fieldsByte s 5) (drop 6 s))) (length-take-le (fieldsByte s 5) (drop 6 s) h)
-    ∙ ap (λ (k : ℕ). fieldsWord s 3 * fieldsByte s 5 + k) (length-drop (fieldsByte s 5) (drop 6 s))
+    ∙ ap (λ (k : ℕ). timesOf s * k + length (tailOf s)) (length-take-le (unitLength s) (drop 6 s) h)
+    ∙ ap (λ (k : ℕ). timesOf s * unitLength s + k) (length-drop (unitLength s) (drop 6 s))
 
 -- ---- whether they fit
 
@@ -67,23 +63,23 @@ pub not-lending : (s : List ℕ) (most : ℕ) (t : Bool) → t ≡ isLending s 6
 unfolding isCopied
 not-lending s most t e h = rw (← e, not-true t h)
 
-module _ (s said : List ℕ) (most len : ℕ) (t : Bool) (p : t ≡ isLending s 6 mostTripleRoom) (h : not t ≡ false) (e : said ≡ drop 6 s) (f : len ≡ fieldsByte s 5) where
+module _ (s said : List ℕ) (most len : ℕ) (t : Bool) (p : t ≡ isLending s 6 mostTripleRoom) (h : not t ≡ false) (e : said ≡ drop 6 s) (f : len ≡ unitLength s) where
   pub len-past : length said < len → false ≡ isCopied s most
   unfolding isCopied
   len-past k = rw (← p, not-false t h, ← e, ← f, lt-leb len (length said) k)
 
-  pub copied-fits : (w : ℕ) (r : Bool) → len ≤ length said → w ≡ fieldsWord s 3 → r ≡ leb (w * len + (length said - len)) most → r ≡ isCopied s most
+  pub copied-fits : (w : ℕ) (r : Bool) → len ≤ length said → w ≡ timesOf s → r ≡ leb (w * len + (length said - len)) most → r ≡ isCopied s most
   unfolding isCopied
   copied-fits w r k g q =
-      let b : fieldsByte s 5 ≤ length (drop 6 s) = rw (← e, ← f) k in
-      rw (← p, not-false t h, le-leb (fieldsByte s 5) (length (drop 6 s)) b, copied-within s b, ← e, ← f, ← g) q
+      let b : unitLength s ≤ length (drop 6 s) = rw (← e, ← f) k in
+      rw (← p, not-false t h, le-leb (unitLength s) (length (drop 6 s)) b, copied-within s b, ← e, ← f, ← g) q
 
 -- a line of the form says no more than the most
 pub copied-most : (s : List ℕ) (most : ℕ) (t : Bool) → t ≡ isCopied s most → t ≡ true → length (copiedOf s) ≤ most
 unfolding isCopied
 copied-most s most t e h =
     let fit : Bool = leb (length (copiedOf s)) most in
-    let there : Bool = leb (fieldsByte s 5) (length (drop 6 s)) in
+    let there : Bool = leb (unitLength s) (length (drop 6 s)) in
     leb-true (length (copiedOf s)) most (both there fit (both (isLending s 6 mostTripleRoom) (there && fit) (sym e ∙ h) .1) .1)
 
 -- ---- one copy behind the other
@@ -108,7 +104,7 @@ module _ (u out now : List ℕ) (i at : ℕ) (w : Wrote (copiesOf i u) 0 out at 
 
 -- ---- and the tail behind them
 
-module _ (s said unit out : List ℕ) (len w : ℕ) (e : said ≡ drop 6 s) (f : len ≡ fieldsByte s 5) (g : unit ≡ take len said) (h : w ≡ fieldsWord s 3)
+module _ (s said unit out : List ℕ) (len w : ℕ) (e : said ≡ drop 6 s) (f : len ≡ unitLength s) (g : unit ≡ take len said) (h : w ≡ timesOf s)
     (room : length (copiedOf s) ≤ length out) where
   -- all copies have room
   pub copies-fit : w * length unit ≤ length out

@@ -42,12 +42,12 @@ pub(crate) fn is_copied(args: &[u8], most: usize) -> bool
 }
 
 // Some bytes, from `at` on; the position behind them.
-fn put_part(out: &mut [u8], at: usize, part: &[u8]) -> usize
-    requires { ⌜ at + length (now part) ≤ length (now out) ⌝ }
-    ensures { λ r. ⌜ Wrote (now (part .entry)) at (now (out .entry)) r (now (out .exit)) ⌝ }
+fn put_bytes(out: &mut [u8], at: usize, bytes: &[u8]) -> usize
+    requires { ⌜ at + length (now bytes) ≤ length (now out) ⌝ }
+    ensures { λ r. ⌜ Wrote (now (bytes .entry)) at (now (out .entry)) r (now (out .exit)) ⌝ }
 {
-    buffer::put(out, at, part);
-    at + part.len()
+    buffer::put(out, at, bytes);
+    at + bytes.len()
 }
 
 // So many copies of a unit, from the start of `out` on; the position behind them.
@@ -58,7 +58,7 @@ fn put_copies(out: &mut [u8], times: usize, unit: &[u8]) -> usize
     let mut at = 0;
     let mut i = 0;
     while i < times {
-        at = put_part(out, at, unit);
+        at = put_bytes(out, at, unit);
         i += 1;
     }
     at
@@ -72,5 +72,5 @@ pub(crate) fn put_copied(args: &[u8], out: &mut [u8]) -> usize
     let said = rest(args, FIXED);
     let len = byte(args, 5) as usize;
     let at = put_copies(out, word(args, 3) as usize, first(said, len));
-    put_part(out, at, rest(said, len))
+    put_bytes(out, at, rest(said, len))
 }

@@ -1,6 +1,6 @@
 // The lines of `trials` that try packets: 10 builds one, 11 reads one, 12 reads a status packet.
 // Promised: each shows what the call that it tries answers and leaves, as docs/TRIALS.md has it.
-// Left to others: what the calls answer (packet, mask, status), and the other lines (trychain, tryhost).
+// Left to others: what the calls answer (packet, mask, status), and the other lines (trychain, tryhost, trysheet).
 use fields::Answer;
 use fields::MOST_ROOM;
 use fields::byte;

@@ -25,9 +25,10 @@ ghost use mathlib.Core.Path.{_≡_};
 ghost use lib.ListN.{length};
 ghost use Rattle.trysheet.specs.Trying.{importValue, exportValue, summedOf, trysheetShow, importInto, exportInto, importSummed, exportSummed, trysheetImport, trysheetExport, importCopied, exportCopied};
 
-// The longest text that a line makes of copies, with which a sheet of more than 64 KiB can be tried, and the most bytes of packets.
+// The longest text in copies: some above the 64 KiB of a sheet, so that a longer one can be tried.
 const MOST_TEXT: usize = 69632;
 
+// The most bytes of packets in copies.
 const MOST_PACKETS: usize = 32768;
 
 // How a line shows a call: with all of the lent buffer, or with its sums.

@@ -14,7 +14,7 @@ use Rattle.packet.proofs.Packets.{Framing, framing, read-says}
 use Rattle.hex.specs.Hex.{hexLine}
 use Rattle.hex.proofs.Puts.{length-line}
 use Rattle.sheet.specs.Line.{hexWord}
-use Rattle.sheet.specs.Packets.{firstPacket, packetsFrom, packetsOf, bareOf, lineFor}
+use Rattle.sheet.specs.Packets.{firstPacket, packetsFrom, packetsOf, bareOf, sheetLine}
 
 -- the bytes of the packet before are passed
 skipped : (k : ℕ) (s : List ℕ) → packetsFrom k s ≡ packetsOf (drop k s)
@@ -56,7 +56,7 @@ first-reads s a c e h =
     record { end = sym (f .end) ∙ first-end s; long = f .size; within = omega (arith, f .size, length-take (endOf s) s) }
 
 -- the line of a packet has three characters for each byte but two
-pub line-long : (p : List ℕ) → 4 ≤ length p → length (lineFor p) + 2 ≡ 3 * length p
+pub line-long : (p : List ℕ) → 4 ≤ length p → length (sheetLine p) + 2 ≡ 3 * length p
 line-long p h =
     let k : length (bareOf p) ≡ length p - 2 = length-take-le (length p - 2) (drop 1 p) (omega (arith, length-drop 1 p)) in
     omega (arith, length-append hexWord (hexLine (bareOf p)), length-line (bareOf p) (omega arith))

@@ -13,7 +13,7 @@ use Rattle.wire.proofs.Impossible.{impossible}
 use Rattle.text.specs.Lines.{grown}
 use Rattle.hex.specs.Hex.{space, Content, bytes, malformed, before}
 use Rattle.sheet.specs.Line.{hexWord, startsHex, eitherDigit, byteIn, numeralsOf, numeralBytes, lineIn}
-use Rattle.sheet.specs.Sheet.{Made, made, fault, packetFor, onLine, packetsIn}
+use Rattle.sheet.specs.Sheet.{Made, made, fault, sheetPacket, onLine, packetsIn}
 use Rattle.sheet.specs.Form.{NumeralForm, one, two, NumeralsForm, last, more, LineForm, SheetForm, end, next, FirstFault, here, later}
 use Rattle.sheet.proofs.Numerals.{digit-no-space, one-says, two-says}
 use Rattle.sheet.proofs.Said.{not-bytes, Spoken, line-spoken}
@@ -159,7 +159,7 @@ sheet-formed (l ∷ ls) p e = by-line (lineIn l) (packetsIn ls) refl (λ q. shee
     by-line : (c : Content) (m : Made ℕ) → lineIn l ≡ c → ((q : List ℕ) → m ≡ made q → SheetForm ls q) → onLine c m ≡ made p → SheetForm (l ∷ ls) p
     by-line malformed m f ih e = impossible cc
     by-line (bytes d) (fault k) f ih e = impossible cc
-    by-line (bytes d) (made q) f ih e = let z : p ≡ packetFor d ++ q = cc in rw z (next (line-formed l d f) (ih q refl))
+    by-line (bytes d) (made q) f ih e = let z : p ≡ sheetPacket d ++ q = cc in rw z (next (line-formed l d f) (ih q refl))
 
 pub form-sheet : {ls : List (List ℕ)} {p : List ℕ} → SheetForm ls p → packetsIn ls ≡ made p
 unfolding packetsIn

@@ -34,8 +34,8 @@ use Rattle.hex.specs.Digits.{characterOf}
 use Rattle.hex.specs.Hex.{space, hexPair, hexRest, hexText, hexLine, bytes}
 use Rattle.hex.proofs.Meaning.{digit-char}
 use Rattle.sheet.specs.Line.{hexWord, eitherDigit, lineIn}
-use Rattle.sheet.specs.Sheet.{Made, made, fault, packetFor, packetsIn, mostText, importRefused, importMade, importOf}
-use Rattle.sheet.specs.Packets.{firstPacket, packetsOf, bareOf, lineFor, onPacket, sheetOf, exportMade, exportOf}
+use Rattle.sheet.specs.Sheet.{Made, made, fault, sheetPacket, packetsIn, mostText, importRefused, importMade, importOf}
+use Rattle.sheet.specs.Packets.{firstPacket, packetsOf, bareOf, sheetLine, onPacket, sheetOf, exportMade, exportOf}
 use Rattle.sheet.specs.Form.{NumeralForm, one, two, NumeralsForm, last, more, LineForm, SheetForm, end, next, ListForm, none, then}
 use Rattle.sheet.specs.declared.importing.Imported.{Imported}
 use Rattle.sheet.specs.declared.importing.Imported.the-variants as imported
@@ -142,7 +142,7 @@ line-first d t = ap linesOf (ended hexWord (hexText d) t) ∙ lines-ended (hexWo
 -- the lines of some packets
 abbrev pub textOf : List (List ℕ) → List ℕ
 textOf [] = []
-textOf (p ∷ ps) = lineFor p ++ textOf ps
+textOf (p ∷ ps) = sheetLine p ++ textOf ps
 
 append-bytes : (p s : List ℕ) → AllBytes (p ++ s) → AllBytes p × AllBytes s
 append-bytes [] s h = (tt, h)
@@ -166,7 +166,7 @@ list-cuts (then {p = p} {s = s} {ps = ps} h f) =
     ∙ ap (λ (q : List ℕ). p ∷ packetsOf q) (drop-at p s (endOf (p ++ s)) n)
     ∙ ap (λ (q : List (List ℕ)). p ∷ q) (list-cuts f)
 
-on-whole : (p : List ℕ) (f : Framed) (t : List ℕ) → framedNumber f ≡ done → onPacket p f (made t) ≡ made (lineFor p ++ t)
+on-whole : (p : List ℕ) (f : Framed) (t : List ℕ) → framedNumber f ≡ done → onPacket p f (made t) ≡ made (sheetLine p ++ t)
 on-whole p (framed.Whole a c e) t h = refl
 on-whole p (framed.Refused why) t h = absurd (not-done why h)
 
@@ -209,7 +209,7 @@ lines-import (then {p = p} {s = s} {ps = ps} h f) b =
     let n : bareOf p ≡ w .inside = ap bareOf (w .shape) ∙ bare-inside (w .inside) in
     let k : AllBytes (bareOf p) = take-bytes (length p - 2) (drop 1 p) (drop-bytes 1 p (append-bytes p s b .0)) in
     let i : lineIn (hexWord ++ hexText (w .inside)) ≡ bytes (w .inside) = line-back (w .inside) (rw n at k) (w .count) in
-    let q : packetFor (w .inside) ≡ p = packet-says (w .inside) (omega (arith, w .count)) ∙ sym (w .shape) in
+    let q : sheetPacket (w .inside) ≡ p = packet-says (w .inside) (omega (arith, w .count)) ∙ sym (w .shape) in
     ap (λ (x : List ℕ). packetsIn (linesOf ((hexWord ++ hexLine x) ++ textOf ps))) n
     ∙ ap packetsIn (line-first (w .inside) (textOf ps))
     ∙ rw (i, lines-import f (append-bytes p s b .1)) (ap (λ (x : List ℕ). made (x ++ s)) q)
@@ -223,10 +223,10 @@ bytes-append : (p s : List ℕ) → AllBytes p → AllBytes s → AllBytes (p ++
 bytes-append [] s h k = k
 bytes-append (b ∷ p) s h k = (h .0, bytes-append p s (h .1) k)
 
-packet-bytes : (d : List ℕ) → Said d → AllBytes (packetFor d)
+packet-bytes : (d : List ℕ) → Said d → AllBytes (sheetPacket d)
 packet-bytes d s = subst AllBytes (sym (packet-says d (said-some d s))) (omega arith, bytes-append d (sumOf d ∷ []) (s .small) (omega arith, tt))
 
-packet-reads : (d : List ℕ) → Said d → framedNumber (readOf (packetFor d)) ≡ done
+packet-reads : (d : List ℕ) → Said d → framedNumber (readOf (sheetPacket d)) ≡ done
 packet-reads d s =
     let h : headOf (getD d 1 0 % 16) (drop 2 d) ≡ getD d 1 0 = omega (arith, s .count, length-drop 2 d) in
     let r = built-reads (getD d 0 0) (getD d 1 0 % 16) (drop 2 d) (omega arith) in
@@ -243,9 +243,9 @@ packed (next {l = l} {d = d} {p = p} f g) =
     let s = line-says l d (form-line f) in
     let k = packed g in
     record {
-      packets = packetFor d ∷ k .packets;
+      packets = sheetPacket d ∷ k .packets;
       list = then (packet-reads d s) (k .list);
-      small = bytes-append (packetFor d) p (packet-bytes d s) (k .small);
+      small = bytes-append (sheetPacket d) p (packet-bytes d s) (k .small);
     }
 
 -- ---- the calls

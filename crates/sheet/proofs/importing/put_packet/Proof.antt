@@ -3,11 +3,11 @@ use borrow.Author.Needs.{needs}
 use native.Mathlib.Omega.{arith}
 use lib.ListN.{length-set}
 use Rattle.sheet.proofs.Imports.{packet-put}
-use Rattle.sheet.proofs.importing.put_packet_for.Statement.{statement}
-use Rattle.sheet.proofs.importing.put_packet_for.Tie as tie
+use Rattle.sheet.proofs.importing.put_packet.Statement.{statement}
+use Rattle.sheet.proofs.importing.put_packet.Tie as tie
 
-pub put-packet-for-spec : {M : Type 1} → statement M
-put-packet-for-spec =
+pub put-packet-spec : {M : Type 1} → statement M
+put-packet-spec =
     tie.close
     (tie.spec
     (λ c. search needs)

@@ -91,7 +91,7 @@ count-done s at count t h inv =
 
 -- ---- how long a sheet is: three characters for each byte, but two for each packet
 
-record Long (n packets bytes : ℕ) : Type 0 where
+pub record Long (n packets bytes : ℕ) : Type 0 where
   pub exact : n + 2 * packets ≡ 3 * bytes
   pub few : 4 * packets ≤ bytes
 
@@ -118,7 +118,7 @@ sheet-long (p ∷ ps) t e = by-packet (readOf p) (sheetOf ps) refl (sheet-long p
           few = omega (arith, l .few, k, length-append p (joined ps));
         })
 
-list-long : (s t : List ℕ) → sheetOf (packetsOf s) ≡ made t → Long (length t) (length (packetsOf s)) (length s)
+pub list-long : (s t : List ℕ) → sheetOf (packetsOf s) ≡ made t → Long (length t) (length (packetsOf s)) (length s)
 list-long s t e = rw (cut-joined s) at (sheet-long (packetsOf s) t e)
 
 -- ---- a line: the word, and the line of bytes in the part of the buffer behind it

@@ -7,5 +7,7 @@ mod Cutting
 mod Exports
 pub mod Forms
 pub mod Trips
+pub mod Lengths
 pub mod Refusals
+pub mod Examples
 pub mod Unique

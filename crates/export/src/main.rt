@@ -1,0 +1,86 @@
+// The program `export`: packets back to back on standard input, their sheet on standard output; or why not, in a line on standard error.
+use buffer::Built;
+use libc::STDERR_FILENO;
+use libc::STDIN_FILENO;
+use libc::STDOUT_FILENO;
+use packet::Framed;
+use wire::Refusal;
+ghost use mathlib.Core.Path.{_≡_};
+ghost use Prim.Native.Nat.{_+_, _≤_, _<_};
+ghost use lib.ListN.{length};
+
+// The most bytes of packets.
+const MOST: usize = 65536;
+
+// Room for them, and for one byte more, which tells that they are more.
+fn packets_room() -> [u8; MOST + 1]
+    ensures { λ r. ⌜ 65537 ≡ length r ⌝ }
+{
+    [0; MOST + 1]
+}
+
+// Room for their sheet: a line has three characters for each byte of its packet, less two.
+fn sheet_room() -> [u8; 3 * MOST]
+    ensures { λ r. ⌜ 196608 ≡ length r ⌝ }
+{
+    [0; 3 * MOST]
+}
+
+// The packet at a position of the list, up to the end that its command byte gives; all that is left where it is cut short.
+fn packet_at(packets: &[u8], at: usize) -> &[u8]
+    requires { ⌜ at < length (now packets) ⌝ }
+    ensures { λ r. ⌜ (0 < length (now r)) × (at + length (now r) ≤ length (now (packets .entry))) ⌝ }
+{
+    let left = text::rest(packets, at);
+    // Header, address and command byte; the data bytes; the sum.
+    text::first(left, 3 + packet::data_part(left).len() + 1)
+}
+
+// The number of the first packet that doesn't read, from 1.
+fn first_fault(packets: &[u8]) -> usize {
+    let mut at = 0;
+    let mut number = 1;
+    while at < packets.len() {
+        let packet = packet_at(packets, at);
+        if let Framed::Refused(_) = packet::read(packet) {
+            return number;
+        }
+        number += 1;
+        at += packet.len();
+    }
+    number
+}
+
+fn say(words: &[u8]) {
+    io::write_all(STDERR_FILENO, words);
+}
+
+// The refusal has no packet's number with it: it is looked for here.
+fn say_fault(packets: &[u8], why: Refusal) {
+    say(b"packet ");
+    io::print_decimal(STDERR_FILENO, first_fault(packets) as u64);
+    match why {
+        Refusal::Short => say(b": cut short\n"),
+        Refusal::Header => say(b": no header\n"),
+        Refusal::Sum => say(b": wrong sum\n"),
+        // It never comes to this: export has no other refusal but 5, and the sheet has room.
+        _ => say(b"\n"),
+    }
+}
+
+fn main() {
+    let mut input = packets_room();
+    let mut sheet = sheet_room();
+    let n = io::read_full(STDIN_FILENO, &mut input);
+    if MOST < n {
+        say(b"more than 64 KiB of packets\n");
+        return;
+    }
+    let packets = &input[..n];
+    match sheet::export(packets, &mut sheet) {
+        Built::Bytes(m) => {
+            io::write_all(STDOUT_FILENO, text::first(&sheet, m));
+        }
+        Built::Refused(why) => say_fault(packets, why),
+    }
+}

@@ -74,3 +74,20 @@ from-joined zero (b ∷ s) =
 
 pub cut-joined : (s : List ℕ) → joined (packetsOf s) ≡ s
 cut-joined s = from-joined 0 s
+
+-- a list gone through packet by packet: the one at a position within it isn't empty, and lies within it
+module _ (s d p : List ℕ) (at : ℕ) (h : at < length s) (ed : d ≡ drop at s) (ep : p ≡ firstPacket d) where
+  lengths : (0 < length p) × (length p ≤ length s - at)
+  lengths = rw (ep, ed) (omega (arith, length-take (endOf (drop at s)) (drop at s), length-drop at s), omega (arith, length-take (endOf (drop at s)) (drop at s), length-drop at s))
+
+  pub packet-within : at + length p ≤ length s
+  packet-within = omega (arith, lengths .1)
+
+  pub packet-on : at < at + length p
+  packet-on = omega (arith, lengths .0)
+
+  pub packet-less : length s - (at + length p) < length s - at
+  packet-less = omega (arith, lengths .0, lengths .1)
+
+  pub packet-count : (n : ℕ) → n ≤ at + 1 → n + 1 ≤ at + length p + 1
+  packet-count n k = omega (arith, lengths .0)

@@ -3,7 +3,7 @@ mod Gathers
 mod Said
 mod Laying
 mod Imports
-mod Cutting
+pub mod Cutting
 mod Exports
 pub mod Forms
 pub mod Trips

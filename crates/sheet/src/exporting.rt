@@ -21,7 +21,7 @@ pub(crate) enum Listed {
 }
 
 // The first of some packets, up to the end that its count gives; all that is there where it is cut short.
-fn first_packet(s: &[u8]) -> &[u8]
+pub fn first_packet(s: &[u8]) -> &[u8]
     ensures { λ r. ⌜ Part (s .entry) 0 (firstPacket (now (s .entry))) r ⌝ }
 {
     if s.len() < 3 {

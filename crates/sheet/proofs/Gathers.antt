@@ -16,7 +16,6 @@ use Rattle.hex.specs.Hex.{space, Content, bytes, malformed, before}
 use Rattle.hex.specs.Gathering.{Gathered, whole, none, gathered, readPairs}
 use Rattle.hex.specs.declared.pairs.Parsed.{Parsed}
 use Rattle.hex.specs.declared.pairs.Parsed.the-variants.{Bytes, Malformed}
-use Rattle.hex.specs.Digits.{digitOf}
 use Rattle.hex.proofs.Storing.{laid-before}
 use Rattle.sheet.specs.Line.{startsHex, eitherDigit, byteIn, numeralsOf, numeralBytes, rightCount, lineIn}
 use Rattle.sheet.specs.Reading.{twoNumeral, numeralBy, readNumeral, readNumerals, countedBy, readCounted, readLine}
@@ -24,15 +23,7 @@ use Rattle.sheet.specs.declared.line.Numeral.{Numeral}
 use Rattle.sheet.specs.declared.line.Numeral.the-variants.{Last, More, Bad}
 use Rattle.sheet.proofs.Numerals.{onNumeral, taken, numeral-step}
 
--- ---- a digit, a numeral
-
-pub digit-low : (b r : ℕ) → b < 97 → r ≡ digitOf b → r ≡ eitherDigit b
-unfolding eitherDigit
-digit-low b r h e = rw (lt-ltb b 97 h) e
-
-pub digit-high : (b r : ℕ) → 97 ≤ b → r ≡ digitOf (b - 32) → r ≡ eitherDigit b
-unfolding eitherDigit
-digit-high b r h e = rw (le-ltb b 97 h) e
+-- ---- a numeral
 
 pub by-two : (s : List ℕ) (high low : ℕ) (r : Numeral) → high ≤ 15 → 2 ≤ length s → (getD s 1 0 ≡ space → ⊥) → low ≡ eitherDigit (getD s 1 0)
     → r ≡ twoNumeral high low s → r ≡ numeralBy high s

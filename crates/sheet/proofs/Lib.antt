@@ -1,4 +1,5 @@
 mod Numerals
+mod Digits
 mod Gathers
 mod Said
 mod Laying

@@ -39,13 +39,24 @@ fn starts_hex(line: &[u8]) -> bool
 }
 
 // The value of a hex digit of either case; 16 where b is none.
+// A digit of any kind fails these tests alike: which kind comes next can't be guessed, and a wrong guess costs a processor more than all of them.
 fn either_digit(b: u8) -> u8
     ensures { λ r. ⌜ r ≡ eitherDigit b ⌝ }
 {
-    if b < 97 {
-        return hex::digit(b);
+    if b < 48 {
+        return 16;
     }
-    hex::digit(b - 32)
+    if (57 < b) & (b < 65) {
+        return 16;
+    }
+    if (70 < b) & (b < 97) {
+        return 16;
+    }
+    if 102 < b {
+        return 16;
+    }
+    // The low four bits; nine more for a letter, which is 64 or above.
+    b % 16 + 9 * (b / 64)
 }
 
 // s starts with two digits of these values.

@@ -6,7 +6,7 @@ use oracle::rules::Rules;
 use oracle::{bench, chain, command, make_bench, make_packets, node};
 
 use crate::plain::{Answer, Bench, Captured, Held, Node, Place, Settings, MOST_REPLY};
-use crate::sides::{Deliver, Rehearse, DELIVERIES, PACKETS, REHEARSALS};
+use crate::sides::{Deliver, Rehearse, CHAINS, DELIVERIES, PACKETS, REHEARSALS};
 use crate::{work, SEED};
 
 /// A side that answers differently, and on what.
@@ -14,19 +14,19 @@ pub type Outcome = Result<(), String>;
 
 /// Every side, on seeded packets, on seeded rehearsals and on all that is
 /// timed.
-pub fn all(lengths: &[usize], packets: usize, texts: u64) -> Outcome {
+pub fn all(packets: usize, texts: u64) -> Outcome {
     for (name, deliver) in DELIVERIES {
         deliveries(name, deliver, packets)?;
-        for length in lengths {
-            mix(name, deliver, *length)?;
+        for length in CHAINS {
+            mix(name, deliver, length)?;
         }
     }
     for (name, rehearse) in REHEARSALS {
         for seed in 0..texts {
             text(name, rehearse, &make_bench::make(seed, 1500))?;
         }
-        for length in lengths {
-            text(name, rehearse, &work::text(*length, SEED).0)?;
+        for length in CHAINS {
+            text(name, rehearse, &work::text(length, SEED).0)?;
         }
     }
     Ok(())

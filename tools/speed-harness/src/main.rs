@@ -1,12 +1,14 @@
 //! Times the proved code beside Rust: `tools/speed` builds and runs this.
 //!
 //!     harness                        checks, times and counts; prints the tables
-//!     harness count KIND NODES SIDE  one pass of one side, for callgrind
+//!     harness count KIND SIZE SIDE   one pass of one side, for callgrind
 
 mod check;
+mod check_sheet;
 mod clock;
 mod ours;
 mod plain;
+mod plain_sheet;
 mod sides;
 mod work;
 
@@ -17,29 +19,30 @@ use sides::{Kind, Side};
 /// The seed of all that is timed.
 pub const SEED: u64 = 773;
 
-/// The lengths of the chains that are timed.
-const LENGTHS: [usize; 3] = [1, 8, 31];
-
 /// Passes of each side, by turns.
 const ROUNDS: usize = 41;
 
-/// The packets and rehearsals that are compared before anything is timed.
+/// The packets, rehearsals and sheets that are compared before anything is timed.
 const CHECKED: usize = 200_000;
 const CHECKED_TEXTS: u64 = 100;
+const CHECKED_SHEETS: u64 = 20_000;
 
 /// Ours takes so many times as long as that side, and runs so many times as
 /// many instructions.
 const HEAD: &str = "\
 | Nodes | Side                    | Packets/s | ns/packet | Ours takes | Instructions/packet | Ours runs |
 |------:|-------------------------|----------:|----------:|-----------:|--------------------:|----------:|";
+const SHEET_HEAD: &str = "\
+| KiB | Side | MB/s | ns/byte | Ours takes | Instructions/byte | Ours runs |
+|----:|------|-----:|--------:|-----------:|------------------:|----------:|";
 
 fn main() -> ExitCode {
     let arguments: Vec<String> = std::env::args().skip(1).collect();
     let words: Vec<&str> = arguments.iter().map(String::as_str).collect();
     let done = match words[..] {
         [] => compare(),
-        ["count", kind, length, name] => run_one(kind, length, name),
-        _ => Err("harness, or harness count KIND NODES SIDE".to_string()),
+        ["count", kind, size, name] => run_one(kind, size, name),
+        _ => Err("harness, or harness count KIND SIZE SIDE".to_string()),
     };
     match done {
         Ok(()) => ExitCode::SUCCESS,
@@ -52,15 +55,18 @@ fn main() -> ExitCode {
 
 /// Checks, times, counts and prints.
 fn compare() -> check::Outcome {
-    check::all(&LENGTHS, CHECKED, CHECKED_TEXTS)?;
+    check::all(CHECKED, CHECKED_TEXTS)?;
+    check_sheet::all(CHECKED_SHEETS)?;
     println!(
         "All sides answer alike, byte for byte, on {CHECKED} seeded packets, \
-         {CHECKED_TEXTS} seeded rehearsals and all that is timed."
+         {CHECKED_TEXTS} seeded rehearsals, {CHECKED_SHEETS} seeded sheets and lists of packets \
+         and all that is timed."
     );
     for kind in Kind::ALL {
-        println!("\n{}\n\n{HEAD}", kind.heading());
-        for length in LENGTHS {
-            print_rows(kind, length);
+        let head = if kind.has_sheets() { SHEET_HEAD } else { HEAD };
+        println!("\n{}\n\n{head}", kind.heading());
+        for size in kind.sizes() {
+            print_rows(kind, size);
         }
     }
     println!(
@@ -70,28 +76,35 @@ fn compare() -> check::Outcome {
     Ok(())
 }
 
-/// A row for each side of a chain's length.
-fn print_rows(kind: Kind, length: usize) {
-    let mut sides = kind.sides(length);
+/// A row for each side of a chain's length or a sheet's.
+fn print_rows(kind: Kind, size: usize) {
+    let mut sides = kind.sides(size);
     let rounds = time(&mut sides);
     let counts: Vec<Option<f64>> = (sides.iter())
-        .map(|side| instructions(kind, length, side))
+        .map(|side| instructions(kind, size, side))
         .collect();
     for (index, side) in sides.iter().enumerate() {
         let time = median(rounds.iter().map(|round| round[index]).collect());
         let longer = median(rounds.iter().map(|round| round[0] / round[index]).collect());
-        let more = counts[0].zip(counts[index]).map(|(ours, its)| ours / its);
-        println!(
-            "| {length:5} | {:<23} | {:7.2} M | {time:9.0} | {longer:10.2} | {:>19} | {:>9} |",
-            side.name,
-            1e3 / time,
-            counts[index].map_or("-".to_string(), |count| format!("{count:.0}")),
-            more.map_or("-".to_string(), |more| format!("{more:.2}")),
-        );
+        let count = counts[index];
+        let more = counts[0].zip(count).map(|(ours, its)| ours / its);
+        let more = more.map_or("-".to_string(), |more| format!("{more:.2}"));
+        let (name, rate) = (side.name, 1e3 / time);
+        if kind.has_sheets() {
+            let count = count.map_or("-".to_string(), |count| format!("{count:.1}"));
+            println!(
+                "| {size:3} | {name:<4} | {rate:4.0} | {time:7.2} | {longer:10.2} | {count:>17} | {more:>9} |"
+            );
+        } else {
+            let count = count.map_or("-".to_string(), |count| format!("{count:.0}"));
+            println!(
+                "| {size:5} | {name:<23} | {rate:7.2} M | {time:9.0} | {longer:10.2} | {count:>19} | {more:>9} |"
+            );
+        }
     }
 }
 
-/// Nanoseconds per packet of each side, in each round. The first round is for
+/// Nanoseconds per packet or byte of each side, in each round. The first round is for
 /// getting warm.
 fn time(sides: &mut [Side]) -> Vec<Vec<f64>> {
     let mut round = || -> Vec<f64> {
@@ -99,7 +112,7 @@ fn time(sides: &mut [Side]) -> Vec<Vec<f64>> {
             .map(|side| {
                 let start = clock::now();
                 (side.pass)();
-                (clock::now() - start).as_nanos() as f64 / side.packets as f64
+                (clock::now() - start).as_nanos() as f64 / side.amount as f64
             })
             .collect()
     };
@@ -112,32 +125,32 @@ fn median(mut numbers: Vec<f64>) -> f64 {
     numbers[numbers.len() / 2]
 }
 
-/// Instructions per packet of one pass, counted by callgrind; None where it
+/// Instructions per packet or byte of one pass, counted by callgrind; None where it
 /// is not there.
-fn instructions(kind: Kind, length: usize, side: &Side) -> Option<f64> {
+fn instructions(kind: Kind, size: usize, side: &Side) -> Option<f64> {
     let harness = std::env::current_exe().ok()?;
     let file = harness.with_file_name("callgrind.out");
     let run = Command::new("valgrind")
         .args(["--tool=callgrind", "--toggle-collect=measured"])
         .arg(format!("--callgrind-out-file={}", file.display()))
         .arg(&harness)
-        .args(["count", kind.word(), &length.to_string(), side.name])
+        .args(["count", kind.word(), &size.to_string(), side.name])
         .output()
         .ok()?;
     let said = String::from_utf8_lossy(&run.stderr).into_owned();
     let collected = said
         .lines()
         .find_map(|line| line.split("Collected :").nth(1))?;
-    Some(collected.trim().parse::<f64>().ok()? / side.packets as f64)
+    Some(collected.trim().parse::<f64>().ok()? / side.amount as f64)
 }
 
 /// One pass of one side, for callgrind.
-fn run_one(kind: &str, length: &str, name: &str) -> check::Outcome {
+fn run_one(kind: &str, size: &str, name: &str) -> check::Outcome {
     let kind = (Kind::ALL.into_iter())
         .find(|own| own.word() == kind)
         .ok_or("no such kind")?;
-    let length = length.parse().map_err(|_| "no such length")?;
-    let mut side = (kind.sides(length).into_iter())
+    let size = size.parse().map_err(|_| "no such size")?;
+    let mut side = (kind.sides(size).into_iter())
         .find(|side| side.name == name)
         .ok_or("no such side")?;
     measured(&mut *side.pass);

@@ -5,6 +5,7 @@
 //! enum is the number of its case in one byte, then what the case carries.
 
 use crate::plain::{Answer, Node};
+use crate::plain_sheet::Refused;
 
 /// The number of a collision, which no refusal has.
 const COLLISION: u8 = 13;
@@ -16,8 +17,7 @@ struct Slice<T> {
     length: usize,
 }
 
-/// Room for an answer of two cases or four, of which one carries a number and
-/// one a refusal.
+/// Room for an answer of two to four cases, which carry a number or a refusal.
 #[repr(C)]
 struct Said {
     case: u8,
@@ -33,6 +33,8 @@ extern "C" {
         packet: *const Slice<u8>,
         reply: *const Slice<u8>,
     );
+    fn ours_import(said: *mut Said, sheet: *const Slice<u8>, out: *const Slice<u8>);
+    fn ours_export(said: *mut Said, packets: *const Slice<u8>, out: *const Slice<u8>);
 }
 
 impl<T> Slice<T> {
@@ -93,5 +95,33 @@ pub fn rehearse(input: &[u8], output: &mut [u8]) -> Result<usize, u8> {
     match said.case {
         0 => Ok(said.number),
         _ => Err(said.refused()),
+    }
+}
+
+/// `sheet::import`: how many bytes of packets, or the refusal.
+pub fn import(sheet: &[u8], out: &mut [u8]) -> Result<usize, Refused> {
+    let mut said = Said::NOTHING;
+    let (sheet, out) = (Slice::of(sheet), Slice::of_mut(out));
+    // SAFETY: as above.
+    unsafe { ours_import(&mut said, &sheet, &out) };
+    match said.case {
+        0 => Ok(said.number),
+        1 => Err(Refused::with(said.refused())),
+        _ => Err(Refused {
+            number: 14,
+            line: said.number,
+        }),
+    }
+}
+
+/// `sheet::export`: how long the sheet is, or the refusal.
+pub fn export(packets: &[u8], out: &mut [u8]) -> Result<usize, Refused> {
+    let mut said = Said::NOTHING;
+    let (packets, out) = (Slice::of(packets), Slice::of_mut(out));
+    // SAFETY: as above.
+    unsafe { ours_export(&mut said, &packets, &out) };
+    match said.case {
+        0 => Ok(said.number),
+        _ => Err(Refused::with(said.refused())),
     }
 }

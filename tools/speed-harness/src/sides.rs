@@ -1,13 +1,15 @@
 //! The sides that are compared, ours first.
 
 use std::hint::black_box;
+use std::ops::Range;
 
 use oracle::bench;
 use oracle::rules::Rules;
 
 use crate::plain::{Answer, Node, MOST_REPLY};
-use crate::work::{chain, text, Packets};
-use crate::{ours, plain, SEED};
+use crate::plain_sheet::Refused;
+use crate::work::{chain, packets, sheet, text, Packets};
+use crate::{ours, plain, plain_sheet, SEED};
 
 /// One packet to a table of nodes: the answer, with the reply in the buffer.
 pub type Deliver = fn(&mut [Node], &[u8], &mut [u8]) -> Answer;
@@ -15,9 +17,14 @@ pub type Deliver = fn(&mut [Node], &[u8], &mut [u8]) -> Answer;
 /// A rehearsal text; what the bench writes for it goes into the vector.
 pub type Rehearse = fn(&[u8], &mut Vec<u8>);
 
+/// A sheet to packets, or packets to a sheet: how many bytes are written to the
+/// lent buffer.
+pub type Convert = fn(&[u8], &mut [u8]) -> Result<usize, Refused>;
+
 const OURS: &str = "ours";
 const FULL_SEARCH: &str = "Rust, full search";
 const ONE_LOOK: &str = "Rust, one look";
+const RUST: &str = "Rust";
 const INDEPENDENT: &str = "the independent program";
 
 /// What is held to the independent program before it is timed.
@@ -28,16 +35,21 @@ pub const DELIVERIES: [(&str, Deliver); 3] = [
 ];
 pub const REHEARSALS: [(&str, Rehearse); 2] = [(OURS, our_text), (ONE_LOOK, plain::rehearse)];
 
+/// What is compared of sheets.
+pub const IMPORTS: [(&str, Convert); 2] = [(OURS, ours::import), (RUST, plain_import)];
+pub const EXPORTS: [(&str, Convert); 2] = [(OURS, ours::export), (RUST, plain_export)];
+
 /// The packets of one pass of deliveries.
 pub const PACKETS: usize = 100_000;
 
 /// Room for the longest output of a rehearsal.
 const OUTPUT: usize = 655_360;
 
-/// One side, ready to be run again and again.
+/// One side, ready to be run again and again: how much it does in a pass, in
+/// packets or in bytes of a sheet.
 pub struct Side {
     pub name: &'static str,
-    pub packets: usize,
+    pub amount: usize,
     pub pass: Box<dyn FnMut()>,
 }
 
@@ -45,15 +57,19 @@ pub struct Side {
 pub enum Kind {
     Delivery,
     Rehearsal,
+    Import,
+    Export,
 }
 
 impl Kind {
-    pub const ALL: [Kind; 2] = [Kind::Delivery, Kind::Rehearsal];
+    pub const ALL: [Kind; 4] = [Kind::Delivery, Kind::Rehearsal, Kind::Import, Kind::Export];
 
     pub fn word(self) -> &'static str {
         match self {
             Kind::Delivery => "delivery",
             Kind::Rehearsal => "rehearsal",
+            Kind::Import => "import",
+            Kind::Export => "export",
         }
     }
 
@@ -61,24 +77,46 @@ impl Kind {
         match self {
             Kind::Delivery => "One delivery: chain::deliver, 100,000 packets",
             Kind::Rehearsal => "The whole bench: script::rehearse, a text of 64 KiB",
+            Kind::Import => "A sheet read: sheet::import",
+            Kind::Export => "A sheet written: sheet::export",
         }
     }
 
-    pub fn sides(self, length: usize) -> Vec<Side> {
+    /// Whether it is about sheets and not about packets on a chain.
+    pub fn has_sheets(self) -> bool {
+        matches!(self, Kind::Import | Kind::Export)
+    }
+
+    /// What is timed of it: chains of so many nodes, or sheets of so many KiB.
+    pub fn sizes(self) -> [usize; 3] {
+        if self.has_sheets() {
+            SHEETS
+        } else {
+            CHAINS
+        }
+    }
+
+    pub fn sides(self, size: usize) -> Vec<Side> {
         match self {
             Kind::Delivery => vec![
-                delivery(OURS, length, ours::deliver),
-                delivery(FULL_SEARCH, length, full_search),
-                delivery(ONE_LOOK, length, one_look),
+                delivery(OURS, size, ours::deliver),
+                delivery(FULL_SEARCH, size, full_search),
+                delivery(ONE_LOOK, size, one_look),
             ],
             Kind::Rehearsal => vec![
-                our_rehearsal(length),
-                rehearsal(ONE_LOOK, length, plain::rehearse),
-                rehearsal(INDEPENDENT, length, independent_text),
+                our_rehearsal(size),
+                rehearsal(ONE_LOOK, size, plain::rehearse),
+                rehearsal(INDEPENDENT, size, independent_text),
             ],
+            Kind::Import => IMPORTS.map(|side| import(side, size)).into(),
+            Kind::Export => EXPORTS.map(|side| export(side, size)).into(),
         }
     }
 }
+
+/// The lengths of the chains that are timed, and the KiB of the sheets.
+pub const CHAINS: [usize; 3] = [1, 8, 31];
+pub const SHEETS: [usize; 3] = [4, 16, 64];
 
 /// All packets to a fresh chain, one call each.
 fn delivery(
@@ -91,7 +129,7 @@ fn delivery(
     let mut nodes = fresh.clone();
     Side {
         name,
-        packets: packets.count(),
+        amount: packets.count(),
         pass: Box::new(move || {
             nodes.copy_from_slice(&fresh);
             let mut reply = [0; MOST_REPLY];
@@ -109,7 +147,7 @@ fn our_rehearsal(length: usize) -> Side {
     let mut output = vec![0; OUTPUT];
     Side {
         name: OURS,
-        packets,
+        amount: packets,
         pass: Box::new(move || {
             let _ = black_box(ours::rehearse(black_box(&input), &mut output));
             black_box(&mut output);
@@ -123,10 +161,49 @@ fn rehearsal(name: &'static str, length: usize, rehearse: Rehearse) -> Side {
     let mut output = Vec::with_capacity(OUTPUT);
     Side {
         name,
-        packets,
+        amount: packets,
         pass: Box::new(move || {
             rehearse(black_box(&input), &mut output);
             black_box(&mut output);
+        }),
+    }
+}
+
+/// Sheets of so many KiB, read.
+fn import(side: (&'static str, Convert), size: usize) -> Side {
+    let sheets: Vec<_> = seeds(size).map(|seed| sheet(size, seed)).collect();
+    let bytes = sheets.iter().map(Vec::len).sum();
+    conversions(side, sheets, bytes)
+}
+
+/// Sheets of so many KiB, written.
+fn export(side: (&'static str, Convert), size: usize) -> Side {
+    let (lists, lengths): (Vec<_>, Vec<usize>) =
+        seeds(size).map(|seed| packets(size, seed)).unzip();
+    conversions(side, lists, lengths.iter().sum())
+}
+
+/// A MiB of sheets in each pass, whatever their size, and no two alike: of the
+/// same few a processor soon guesses every branch.
+fn seeds(size: usize) -> Range<u64> {
+    SEED..SEED + 1024 / size as u64
+}
+
+/// A call for each input, into a lent buffer with room for all that is written.
+fn conversions(
+    (name, convert): (&'static str, Convert),
+    inputs: Vec<Vec<u8>>,
+    bytes: usize,
+) -> Side {
+    let mut out = vec![0; SHEETS[2] * 1024];
+    Side {
+        name,
+        amount: bytes,
+        pass: Box::new(move || {
+            for input in &inputs {
+                let _ = black_box(convert(black_box(input), &mut out));
+                black_box(&mut out);
+            }
         }),
     }
 }
@@ -141,6 +218,16 @@ fn full_search(nodes: &mut [Node], packet: &[u8], reply: &mut [u8]) -> Answer {
 #[inline(never)]
 fn one_look(nodes: &mut [Node], packet: &[u8], reply: &mut [u8]) -> Answer {
     plain::deliver_at_one_look(nodes, packet, reply)
+}
+
+#[inline(never)]
+fn plain_import(sheet: &[u8], out: &mut [u8]) -> Result<usize, Refused> {
+    plain_sheet::import(sheet, out)
+}
+
+#[inline(never)]
+fn plain_export(packets: &[u8], out: &mut [u8]) -> Result<usize, Refused> {
+    plain_sheet::export(packets, out)
 }
 
 fn our_text(input: &[u8], output: &mut Vec<u8>) {

@@ -1,5 +1,5 @@
-//! What both sides are given: seeded packets for a chain, and the same as the
-//! text of a rehearsal.
+//! What both sides are given: seeded packets for a chain, the same as the text
+//! of a rehearsal, and movement sheets with their packets.
 
 use oracle::hex;
 use oracle::packet::whole;
@@ -132,4 +132,62 @@ pub fn chain(nodes: usize) -> Vec<Node> {
             })
         })
         .collect()
+}
+
+/// A sheet of at most so many KiB: commands without data or with 1, 2, 4 or 15
+/// bytes of it, one digit here and two there, letters of either case.
+pub fn sheet(size: usize, seed: u64) -> Vec<u8> {
+    let mut prng = Prng::new(seed);
+    let mut text = Vec::new();
+    loop {
+        let line = line(&mut prng);
+        if text.len() + line.len() > size * 1024 {
+            return text;
+        }
+        text.extend_from_slice(&line);
+    }
+}
+
+/// Packets whose sheet has at most so many KiB, and how many bytes it has.
+pub fn packets(size: usize, seed: u64) -> (Vec<u8>, usize) {
+    let mut prng = Prng::new(seed);
+    let (mut packets, mut length) = (Vec::new(), 0);
+    loop {
+        let packet = command(&mut prng);
+        // `HEX`, a space and two digits for each byte but header and sum, a newline.
+        let line = 3 + 3 * (packet.len() - 2) + 1;
+        if length + line > size * 1024 {
+            return (packets, length);
+        }
+        packets.extend_from_slice(&packet);
+        length += line;
+    }
+}
+
+/// A packet of a sheet: to a node mostly, else to a group.
+fn command(prng: &mut Prng) -> Vec<u8> {
+    let count = prng.pick(&[0, 1, 2, 4, 15]);
+    let data: Vec<u8> = (0..count).map(|_| prng.byte()).collect();
+    let address = if prng.percent(75) {
+        prng.between(1, 31)
+    } else {
+        prng.between(0x80, 0x83)
+    };
+    whole(address, prng.between(0, 15), &data)
+}
+
+/// The line of such a packet.
+fn line(prng: &mut Prng) -> Vec<u8> {
+    let packet = command(prng);
+    let mut line = String::from("HEX");
+    for byte in &packet[1..packet.len() - 1] {
+        line += &match (prng.percent(50), prng.percent(50)) {
+            (true, true) => format!(" {byte:X}"),
+            (true, false) => format!(" {byte:x}"),
+            (false, true) => format!(" {byte:02X}"),
+            (false, false) => format!(" {byte:02x}"),
+        };
+    }
+    line.push('\n');
+    line.into_bytes()
 }

@@ -1,0 +1,77 @@
+//! Before anything is timed: ours and plain Rust read and write sheets alike,
+//! byte for byte, with the same refusals, and leave alone what they must.
+
+use oracle::prng::Prng;
+
+use crate::check::Outcome;
+use crate::plain_sheet::{self, Refused};
+use crate::sides::{Convert, EXPORTS, IMPORTS, SHEETS};
+use crate::{work, SEED};
+
+/// Seeded sheets and lists of packets, whole or spoilt, with every kind of room;
+/// a sheet that is too long; and all that is timed.
+pub fn all(count: u64) -> Outcome {
+    let too_long = work::sheet(SHEETS[2] + 1, SEED);
+    for (name, import) in IMPORTS {
+        for seed in 0..count {
+            let mut prng = Prng::new(seed);
+            let sheet = spoilt(&mut prng, work::sheet(1, seed), b"0fG HEXx\n\r\t");
+            alike(name, import, wanted_import, &sheet)?;
+        }
+        for size in SHEETS {
+            alike(name, import, wanted_import, &work::sheet(size, SEED))?;
+        }
+        alike(name, import, wanted_import, &too_long)?;
+    }
+    for (name, export) in EXPORTS {
+        for seed in 0..count {
+            let mut prng = Prng::new(seed);
+            let packets = spoilt(&mut prng, work::packets(1, seed).0, b"\xAA\x00\x0E\x1E\xFE");
+            alike(name, export, wanted_export, &packets)?;
+        }
+        for size in SHEETS {
+            alike(name, export, wanted_export, &work::packets(size, SEED).0)?;
+        }
+    }
+    Ok(())
+}
+
+/// What an import must answer and leave: plain Rust's answer, so that the two
+/// sides are held to each other.
+fn wanted_import(sheet: &[u8], out: &mut [u8]) -> Result<usize, Refused> {
+    plain_sheet::import(sheet, out)
+}
+
+/// The same of an export.
+fn wanted_export(packets: &[u8], out: &mut [u8]) -> Result<usize, Refused> {
+    plain_sheet::export(packets, out)
+}
+
+/// Cut anywhere, and then, half the time, with a byte changed to a telling one.
+fn spoilt(prng: &mut Prng, mut bytes: Vec<u8>, telling: &[u8]) -> Vec<u8> {
+    bytes.truncate(prng.below(bytes.len() + 1));
+    if !bytes.is_empty() && prng.percent(50) {
+        let at = prng.below(bytes.len());
+        bytes[at] = prng.pick(telling);
+    }
+    bytes
+}
+
+/// One input, with more room than it needs, as much, a byte less, and none.
+fn alike(name: &str, convert: Convert, wanted: Convert, input: &[u8]) -> Outcome {
+    let most = 3 * input.len() + 1;
+    let needed = wanted(input, &mut vec![0; most]).unwrap_or(1);
+    for room in [most, needed, needed.saturating_sub(1), 0] {
+        let (mut out, mut wanted_out) = (vec![0x5A; room], vec![0x5A; room]);
+        let answer = convert(input, &mut out);
+        let wanted = wanted(input, &mut wanted_out);
+        if (answer, &out) != (wanted, &wanted_out) {
+            return Err(format!(
+                "{name} differs on {} bytes, room {room}: {answer:?}, not {wanted:?}, or in what it wrote; the input is {:?}",
+                input.len(),
+                String::from_utf8_lossy(input)
+            ));
+        }
+    }
+    Ok(())
+}

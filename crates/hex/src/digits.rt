@@ -4,7 +4,7 @@ ghost use Prim.Native.Nat.{_<_};
 ghost use Rattle.hex.specs.Digits.{digitOf, characterOf};
 
 // The value of a capital hexadecimal digit; 16 where b is none.
-pub fn digit(b: u8) -> u8
+pub(crate) fn digit(b: u8) -> u8
     ensures { λ r. ⌜ r ≡ digitOf b ⌝ }
 {
     if b < 48 {

@@ -5,7 +5,6 @@ mod digits;
 mod pairs;
 mod writing;
 
-pub use digits::digit;
 pub use pairs::Parsed;
 pub use pairs::SPACE;
 pub use pairs::read_bytes;

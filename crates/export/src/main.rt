@@ -26,22 +26,12 @@ fn sheet_room() -> [u8; 3 * MOST]
     [0; 3 * MOST]
 }
 
-// The packet at a position of the list, up to the end that its command byte gives; all that is left where it is cut short.
-fn packet_at(packets: &[u8], at: usize) -> &[u8]
-    requires { ⌜ at < length (now packets) ⌝ }
-    ensures { λ r. ⌜ (0 < length (now r)) × (at + length (now r) ≤ length (now (packets .entry))) ⌝ }
-{
-    let left = text::rest(packets, at);
-    // Header, address and command byte; the data bytes; the sum.
-    text::first(left, 3 + packet::data_part(left).len() + 1)
-}
-
 // The number of the first packet that doesn't read, from 1.
 fn first_fault(packets: &[u8]) -> usize {
     let mut at = 0;
     let mut number = 1;
     while at < packets.len() {
-        let packet = packet_at(packets, at);
+        let packet = sheet::first_packet(text::rest(packets, at));
         if let Framed::Refused(_) = packet::read(packet) {
             return number;
         }

@@ -8,7 +8,7 @@ use borrow.Author.Tests.{lt-ltb, le-ltb}
 use lib.ListN.{length, getD, drop, set, drop-of-length-le}
 use lib.Seq.{drop-cons}
 use Rattle.fields.specs.declared.answer.Answer.{Answer}
-use Rattle.fields.specs.Answer.{mostBytes, fieldsNothing, answerPut, answerPutFlag, answerPutWord, answerPutLong, answerPutAll, malformedOf, numberedOf}
+use Rattle.fields.specs.Answer.{mostBytes, fieldsNothing, answerPut, answerPutFlag, answerPutWord, answerPutTriple, answerPutLong, answerPutAll, malformedOf, numberedOf, valuedOf}
 
 -- a byte that has room
 pub put-fits : (a : Answer) (b : ℕ) → a .length < mostBytes → record { bytes = set (a .bytes) (a .length) b; length = a .length + 1 } ≡ answerPut a b
@@ -32,6 +32,10 @@ flag-clear a r f e h = rw (e, h)
 pub word-put : (a m r : Answer) (w : ℕ) → m ≡ answerPut a (w % 256) → r ≡ answerPut m (w / 256) → r ≡ answerPutWord a w
 word-put a m r w e f = rw (f, e)
 
+-- a byte behind a word
+pub triple-put : (a m r : Answer) (t : ℕ) → m ≡ answerPutWord a (t % 65536) → r ≡ answerPut m (t / 65536 % 256) → r ≡ answerPutTriple a t
+triple-put a m r t e f = rw (f, e)
+
 -- one word behind another
 pub long-put : (a m r : Answer) (l : ℕ) → m ≡ answerPutWord a (l % 65536) → r ≡ answerPutWord m (l / 65536) → r ≡ answerPutLong a l
 long-put a m r l e f = rw (f, e)
@@ -54,3 +58,8 @@ malformed-put n r e f = rw (f, e)
 -- a number and the bytes behind it
 pub numbered-put : (n m r : Answer) (b : ℕ) (s : List ℕ) → n ≡ fieldsNothing → m ≡ answerPut n b → r ≡ answerPutAll m s → r ≡ numberedOf b s
 numbered-put n m r b s e f g = rw (g, f, e)
+
+-- a number, a value and the bytes behind them
+pub valued-put : (n m w r : Answer) (b v : ℕ) (s : List ℕ) → n ≡ fieldsNothing → m ≡ answerPut n b → w ≡ answerPutWord m (v % 65536) → r ≡ answerPutAll w s
+    → r ≡ valuedOf b v s
+valued-put n m w r b v s e f g h = rw (h, g, f, e)

@@ -26,6 +26,10 @@ answerPutFlag a f = answerPut a (cond f 1 0)
 abbrev pub answerPutWord : Answer → ℕ → Answer
 answerPutWord a w = answerPut (answerPut a (w % 256)) (w / 256)
 
+-- three bytes more; of a larger number its lowest three
+abbrev pub answerPutTriple : Answer → ℕ → Answer
+answerPutTriple a t = answerPut (answerPutWord a (t % 65536)) (t / 65536 % 256)
+
 -- four bytes more
 abbrev pub answerPutLong : Answer → ℕ → Answer
 answerPutLong a l = answerPutWord (answerPutWord a (l % 65536)) (l / 65536)
@@ -42,3 +46,7 @@ malformedOf = answerPut fieldsNothing 0xFF
 -- `NN bytes..`
 abbrev pub numberedOf : ℕ → List ℕ → Answer
 numberedOf n s = answerPutAll (answerPut fieldsNothing n) s
+
+-- `NN value(2) bytes..`
+abbrev pub valuedOf : ℕ → ℕ → List ℕ → Answer
+valuedOf n v s = answerPutAll (answerPutWord (answerPut fieldsNothing n) (v % 65536)) s

@@ -11,6 +11,10 @@ fieldsByte s at = getD s at 0
 abbrev pub fieldsWord : List ℕ → ℕ → ℕ
 fieldsWord s at = getD (drop at s) 0 0 + getD (drop at s) 1 0 * 256
 
+-- three bytes
+abbrev pub tripleOf : List ℕ → ℕ → ℕ
+tripleOf s at = fieldsWord (drop at s) 0 + getD (drop at s) 2 0 * 65536
+
 -- four bytes
 abbrev pub longOf : List ℕ → ℕ → ℕ
 longOf s at = fieldsWord (drop at s) 0 + fieldsWord (drop at s) 2 * 65536

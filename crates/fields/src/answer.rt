@@ -1,6 +1,6 @@
 // The bytes that a line is answered. What is put past their room is not written.
 ghost use mathlib.Core.Path.{_≡_};
-ghost use Rattle.fields.specs.Answer.{fieldsNothing, answerPut, answerPutFlag, answerPutWord, answerPutLong, answerPutAll, malformedOf, numberedOf};
+ghost use Rattle.fields.specs.Answer.{fieldsNothing, answerPut, answerPutFlag, answerPutWord, answerPutTriple, answerPutLong, answerPutAll, malformedOf, numberedOf, valuedOf};
 
 // The longest answer: number, length, 64 bytes of a lent buffer, 33 node records of 31 bytes.
 pub const MOST_BYTES: usize = 1089;
@@ -51,6 +51,14 @@ impl Answer {
         self.put((word % 256) as u8).put((word / 256) as u8)
     }
 
+    // With three bytes more: of a larger number its lowest three.
+    pub fn put_triple(self, triple: usize) -> Answer
+        ensures { λ r. ⌜ r ≡ answerPutTriple self triple ⌝ }
+    {
+        self.put_word((triple % 65536) as u16)
+            .put((triple / 65536 % 256) as u8)
+    }
+
     // With four bytes more.
     pub fn put_long(self, long: u32) -> Answer
         ensures { λ r. ⌜ r ≡ answerPutLong self long ⌝ }
@@ -85,4 +93,14 @@ pub fn numbered(number: u8, bytes: &[u8]) -> Answer
     ensures { λ r. ⌜ r ≡ numberedOf number (now (bytes .entry)) ⌝ }
 {
     nothing().put(number).put_all(bytes)
+}
+
+// `NN value(2) bytes..`.
+pub fn valued(number: u8, value: usize, bytes: &[u8]) -> Answer
+    ensures { λ r. ⌜ r ≡ valuedOf number value (now (bytes .entry)) ⌝ }
+{
+    nothing()
+        .put(number)
+        .put_word((value % 65536) as u16)
+        .put_all(bytes)
 }

@@ -63,22 +63,22 @@ fn is_count(line: &[u8]) -> bool {
     }
 }
 
-// The packet at a position of the list, up to the end that its command byte gives.
-fn packet_at(packets: &[u8], at: usize) -> &[u8]
-    requires { ⌜ at < length (now packets) ⌝ }
-    ensures { λ r. ⌜ (0 < length (now r)) × (at + length (now r) ≤ length (now (packets .entry))) ⌝ }
-{
-    let left = text::rest(packets, at);
-    // Header, address and command byte; the data bytes; the sum.
-    text::first(left, 3 + packet::data_part(left).len() + 1)
-}
-
 // A packet's line, from `at` on. The longest packet has 19 bytes.
 fn put_line(script: &mut [u8], at: usize, packet: &[u8]) {
     let mut line = [0; 3 * 19];
     if let Built::Bytes(n) = hex::write_line(packet, &mut line) {
         buffer::put(script, at, text::first(&line, n));
     }
+}
+
+// The line of the packet at a position of the list, behind the count's line and those of the packets before it. Where the next packet is.
+fn put_next(script: &mut [u8], count: &[u8], packets: &[u8], at: usize) -> usize
+    requires { ⌜ (at < length (now packets)) × (length (now packets) ≤ 21844) ⌝ }
+    ensures { λ r. ⌜ (at < r) × (r ≤ length (now (packets .entry))) ⌝ }
+{
+    let packet = sheet::first_packet(text::rest(packets, at));
+    put_line(script, count.len() + 3 * at, packet);
+    at + packet.len()
 }
 
 // The bench's input: the count's line, then a line for each packet. Where it ends.
@@ -88,9 +88,7 @@ fn put_script(script: &mut [u8], count: &[u8], packets: &[u8]) -> usize
     buffer::put(script, 0, count);
     let mut at = 0;
     while at < packets.len() {
-        let packet = packet_at(packets, at);
-        put_line(script, count.len() + 3 * at, packet);
-        at += packet.len();
+        at = put_next(script, count, packets, at);
     }
     count.len() + 3 * at
 }

@@ -14,7 +14,7 @@ use Rattle.packet.proofs.Packets.{Framing, framing, read-says}
 use Rattle.hex.specs.Hex.{hexLine}
 use Rattle.hex.proofs.Puts.{length-line}
 use Rattle.sheet.specs.Line.{hexWord}
-use Rattle.sheet.specs.Packets.{firstPacket, packetsFrom, packetsOf, bareOf, lineFor}
+use Rattle.sheet.specs.Packets.{firstPacket, packetsFrom, packetsOf, bareOf, sheetLine}
 
 -- the bytes of the packet before are passed
 skipped : (k : ℕ) (s : List ℕ) → packetsFrom k s ≡ packetsOf (drop k s)
@@ -56,7 +56,7 @@ first-reads s a c e h =
     record { end = sym (f .end) ∙ first-end s; long = f .size; within = omega (arith, f .size, length-take (endOf s) s) }
 
 -- the line of a packet has three characters for each byte but two
-pub line-long : (p : List ℕ) → 4 ≤ length p → length (lineFor p) + 2 ≡ 3 * length p
+pub line-long : (p : List ℕ) → 4 ≤ length p → length (sheetLine p) + 2 ≡ 3 * length p
 line-long p h =
     let k : length (bareOf p) ≡ length p - 2 = length-take-le (length p - 2) (drop 1 p) (omega (arith, length-drop 1 p)) in
     omega (arith, length-append hexWord (hexLine (bareOf p)), length-line (bareOf p) (omega arith))
@@ -74,3 +74,20 @@ from-joined zero (b ∷ s) =
 
 pub cut-joined : (s : List ℕ) → joined (packetsOf s) ≡ s
 cut-joined s = from-joined 0 s
+
+-- a list gone through packet by packet: the one at a position within it isn't empty, and lies within it
+module _ (s d p : List ℕ) (at : ℕ) (h : at < length s) (ed : d ≡ drop at s) (ep : p ≡ firstPacket d) where
+  lengths : (0 < length p) × (length p ≤ length s - at)
+  lengths = rw (ep, ed) (omega (arith, length-take (endOf (drop at s)) (drop at s), length-drop at s), omega (arith, length-take (endOf (drop at s)) (drop at s), length-drop at s))
+
+  pub packet-within : at + length p ≤ length s
+  packet-within = omega (arith, lengths .1)
+
+  pub packet-on : at < at + length p
+  packet-on = omega (arith, lengths .0)
+
+  pub packet-less : length s - (at + length p) < length s - at
+  packet-less = omega (arith, lengths .0, lengths .1)
+
+  pub packet-count : (n : ℕ) → n ≤ at + 1 → n + 1 ≤ at + length p + 1
+  packet-count n k = omega (arith, lengths .0)

@@ -29,7 +29,7 @@ use Rattle.packet.specs.Packet.{endOf, readOf, framedNumber}
 use Rattle.packet.specs.declared.Framed.{Framed}
 use Rattle.packet.specs.declared.Framed.the-variants as framed
 use Rattle.sheet.specs.Sheet.{Made, made, fault}
-use Rattle.sheet.specs.Packets.{firstPacket, packetsOf, bareOf, lineFor, onPacket, sheetOf, exportMade, exportOf}
+use Rattle.sheet.specs.Packets.{firstPacket, packetsOf, bareOf, sheetLine, onPacket, sheetOf, exportMade, exportOf}
 use Rattle.sheet.specs.Reading.{countBehind, countPackets, HasRoom, madeFrom, sheetLines}
 use Rattle.sheet.specs.declared.exporting.Listed.{Listed}
 use Rattle.sheet.specs.declared.exporting.Listed.the-variants as listed
@@ -91,7 +91,7 @@ count-done s at count t h inv =
 
 -- ---- how long a sheet is: three characters for each byte, but two for each packet
 
-record Long (n packets bytes : ℕ) : Type 0 where
+pub record Long (n packets bytes : ℕ) : Type 0 where
   pub exact : n + 2 * packets ≡ 3 * bytes
   pub few : 4 * packets ≤ bytes
 
@@ -110,15 +110,15 @@ sheet-long (p ∷ ps) t e = by-packet (readOf p) (sheetOf ps) refl (sheet-long p
     by-packet (framed.Refused why) m r ih e = impossible cc
     by-packet (framed.Whole a c n) (fault why) r ih e = impossible cc
     by-packet (framed.Whole a c n) (made x) r ih e =
-        let z : t ≡ lineFor p ++ x = cc in
+        let z : t ≡ sheetLine p ++ x = cc in
         let l = ih x refl in
         let k = whole-long p a c n r in
         rw z (record {
-          exact = omega (arith, l .exact, line-long p k, length-append (lineFor p) x, length-append p (joined ps));
+          exact = omega (arith, l .exact, line-long p k, length-append (sheetLine p) x, length-append p (joined ps));
           few = omega (arith, l .few, k, length-append p (joined ps));
         })
 
-list-long : (s t : List ℕ) → sheetOf (packetsOf s) ≡ made t → Long (length t) (length (packetsOf s)) (length s)
+pub list-long : (s t : List ℕ) → sheetOf (packetsOf s) ≡ made t → Long (length t) (length (packetsOf s)) (length s)
 list-long s t e = rw (cut-joined s) at (sheet-long (packetsOf s) t e)
 
 -- ---- a line: the word, and the line of bytes in the part of the buffer behind it
@@ -159,7 +159,7 @@ module _ (out a b p d : List ℕ) (at : ℕ) (r : Built) (some : 4 ≤ length p)
   pub line-kept : length (putMid (at + 4) (length a - (at + 4)) a b) ≡ length out
   line-kept = ap (λ (l : List ℕ). length l) whole ∙ length-sets a (at + 4) (hexLine d) ∙ word .long
 
-  pub line-put : Wrote (lineFor p) at out (at + 4 + 3 * (length p - 1 - 1)) (putMid (at + 4) (length a - (at + 4)) a b)
+  pub line-put : Wrote (sheetLine p) at out (at + 4 + 3 * (length p - 1 - 1)) (putMid (at + 4) (length a - (at + 4)) a b)
   line-put =
       rw bare
       (wrote-then word (record {
@@ -177,8 +177,8 @@ record Taken (p : List ℕ) (m : Made Refusal) (to : ℕ) (out o : List ℕ) : T
   pub reads : readOf p ≡ framed.Whole address command end
   pub rest : List ℕ
   pub is : m ≡ made rest
-  pub room : to + length (lineFor p ++ rest) ≤ length out
-  pub laid : sets out to (lineFor p ++ rest) ≡ o
+  pub room : to + length (sheetLine p ++ rest) ≤ length out
+  pub laid : sets out to (sheetLine p ++ rest) ≡ o
 
 taken : (p : List ℕ) (f : Framed) (m : Made Refusal) (to : ℕ) (out o : List ℕ) → readOf p ≡ f → Laying (onPacket p f m) to out o → Taken p m to out o
 taken p (framed.Refused why) m to out o r lay = absurd (lay .room)
@@ -202,7 +202,7 @@ module _ (s d p : List ℕ) (at to : ℕ) (out o : List ℕ) (h : at < length s)
   line-some = omega (arith, taken-long)
 
   pub line-room : to + 3 * length p ≤ length out + 2
-  line-room = omega (arith, took .room, length-append (lineFor p) (took .rest), line-long p line-some)
+  line-room = omega (arith, took .room, length-append (sheetLine p) (took .rest), line-long p line-some)
 
   pub line-within : at + length p ≤ length s
   line-within = omega (arith, taken-long, begun .within, begun .end, ap (λ (l : List ℕ). length l) ed, length-drop at s)
@@ -210,7 +210,7 @@ module _ (s d p : List ℕ) (at to : ℕ) (out o : List ℕ) (h : at < length s)
   pub line-less : length s - (at + length p) < length s - at
   line-less = omega (arith, line-some)
 
-  pub lines-on : (left : List ℕ) (r : ℕ) → Wrote (lineFor p) to out r left → Laying (sheetOf (packetsOf (drop (at + length p) s))) r left o
+  pub lines-on : (left : List ℕ) (r : ℕ) → Wrote (sheetLine p) to out r left → Laying (sheetOf (packetsOf (drop (at + length p) s))) r left o
   lines-on left r w = rw (taken-long, took .is) (laid-on (took .room) (took .laid) w)
 
 pub lines-done : (s out o : List ℕ) (at to : ℕ) → length s ≤ at → Laying (sheetOf (packetsOf (drop at s))) to out o → out ≡ o

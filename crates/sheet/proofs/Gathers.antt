@@ -17,7 +17,7 @@ use Rattle.hex.specs.Gathering.{Gathered, whole, none, gathered, readPairs}
 use Rattle.hex.specs.declared.pairs.Parsed.{Parsed}
 use Rattle.hex.specs.declared.pairs.Parsed.the-variants.{Bytes, Malformed}
 use Rattle.hex.proofs.Storing.{laid-before}
-use Rattle.sheet.specs.Line.{startsHex, eitherDigit, byteIn, numeralsOf, numeralBytes, counted, lineIn}
+use Rattle.sheet.specs.Line.{startsHex, eitherDigit, byteIn, numeralsOf, numeralBytes, rightCount, lineIn}
 use Rattle.sheet.specs.Reading.{twoNumeral, numeralBy, readNumeral, readNumerals, countedBy, readCounted, readLine}
 use Rattle.sheet.specs.declared.line.Numeral.{Numeral}
 use Rattle.sheet.specs.declared.line.Numeral.the-variants.{Last, More, Bad}
@@ -141,14 +141,14 @@ module _ (d out m : List ℕ) (r : Parsed) (g : gathered r m ≡ readNumerals d 
   pub counted-so : (n v : ℕ) (z : Parsed) → r ≡ Bytes n → length out ≡ 17 → v ≡ getD m 1 0 → z ≡ countedBy n v → gathered z m ≡ readCounted d out
   counted-so n v z f k u e =
       let x = gathered-whole (numeralBytes (numeralsOf d)) out n m (rw f at g) in
-      ap (λ (q : Parsed). gathered q m) e ∙ by-count x (eqb n (2 + v / 16)) refl ∙ ap (λ (c : Content). readPairs (counted c) 0 out) (sym (x .is))
+      ap (λ (q : Parsed). gathered q m) e ∙ by-count x (eqb n (2 + v / 16)) refl ∙ ap (λ (c : Content). readPairs (rightCount c) 0 out) (sym (x .is))
     where
       -- the second byte is what was stored there, if there are two
       same-head : (x : Heard (numeralBytes (numeralsOf d)) out n m) → 2 ≤ n → v ≡ getD (x .said) 1 0
       same-head x h = u ∙ ap (λ (l : List ℕ). getD l 1 0) (x .stored) ∙ second (x .said) out (omega (arith, x .long)) (omega arith)
 
       by-count : (x : Heard (numeralBytes (numeralsOf d)) out n m) (t : Bool) → eqb n (2 + v / 16) ≡ t
-          → gathered (cond t (Bytes n) Malformed) m ≡ readPairs (counted (bytes (x .said))) 0 out
+          → gathered (cond t (Bytes n) Malformed) m ≡ readPairs (rightCount (bytes (x .said))) 0 out
       by-count x true q =
           let y : n ≡ 2 + v / 16 = eqb-true n (2 + v / 16) q in
           let w : getD (x .said) 1 0 ≡ v = sym (same-head x (omega arith)) in

@@ -27,7 +27,7 @@ use Rattle.hex.specs.Gathering.{whole, none, gathered}
 use Rattle.hex.specs.declared.pairs.Parsed.{Parsed}
 use Rattle.hex.specs.declared.pairs.Parsed.the-variants as parsed
 use Rattle.sheet.specs.Line.{lineIn}
-use Rattle.sheet.specs.Sheet.{Made, made, fault, packetFor, onLine, packetsIn, mostText, importRefused, importMade, importOf, importedNumber}
+use Rattle.sheet.specs.Sheet.{Made, made, fault, sheetPacket, onLine, packetsIn, mostText, importRefused, importMade, importOf, importedNumber}
 use Rattle.sheet.specs.Reading.{readLine, importBehind, importAnswer, HasRoom, madeFrom, sheetPackets}
 use Rattle.sheet.specs.declared.importing.Imported.{Imported}
 use Rattle.sheet.specs.declared.importing.Imported.the-variants as imported
@@ -60,7 +60,7 @@ module _ (sheet d l b m : List ℕ) (at passed total room : ℕ) (q : Parsed) (t
     said = line-says l (heard .said) (heard .is)
 
     -- "The data bytes number what the command byte says"
-    size : length (packetFor (heard .said)) ≡ 4 + v
+    size : length (sheetPacket (heard .said)) ≡ 4 + v
     size =
         let x = heard in
         let y : getD m 1 0 ≡ getD (x .said) 1 0 = ap (λ (l : List ℕ). getD l 1 0) (x .stored) ∙ second (x .said) b (said-some (x .said) said) (omega arith) in
@@ -69,7 +69,7 @@ module _ (sheet d l b m : List ℕ) (at passed total room : ℕ) (q : Parsed) (t
     on : (r : Made ℕ) → importBehind passed total room (onLine (bytes (heard .said)) r) ≡ importBehind (passed + 1) (total + (4 + v)) room r
     on (fault k) = let z : passed + suc k ≡ passed + 1 + k = omega arith in rw z
     on (made p) =
-        let z : total + length (packetFor (heard .said) ++ p) ≡ total + (4 + v) + length p = omega (arith, size, length-append (packetFor (heard .said)) p) in
+        let z : total + length (sheetPacket (heard .said) ++ p) ≡ total + (4 + v) + length p = omega (arith, size, length-append (sheetPacket (heard .said)) p) in
         rw z
 
     pub answer-on : importBehind (passed + 1) (total + (4 + v)) room (packetsIn (linesOf (drop (at + length l + 1) sheet))) ≡ t
@@ -94,24 +94,24 @@ module _ (sheet : List ℕ) (at passed total room : ℕ) (t : Imported) (h : len
 
 -- header, bytes and sum, stored one behind the other
 pub packet-put : (out a b d : List ℕ) (at v : ℕ) → 2 ≤ length d → at + (length d + 2) ≤ length out → a ≡ set out at 0xAA → b ≡ putOf a (at + 1) d → v ≡ sumOf d
-    → Wrote (packetFor d) at out (at + (length d + 2)) (set b (at + 1 + length d) v)
+    → Wrote (sheetPacket d) at out (at + (length d + 2)) (set b (at + 1 + length d) v)
 packet-put out a b d at v h k ea eb ev =
     let w = put-wrote a b d (at + 1) eb in
     let x : b ≡ sets (sets out at (0xAA ∷ [])) (at + 1) d = w .bytes (rw ea (omega (arith, length-sets out at (0xAA ∷ [])))) ∙ ap (λ (l : List ℕ). sets l (at + 1) d) ea in
     let y : at + 1 + length d ≡ at + length (0xAA ∷ d) = omega arith in
-    let z : set b (at + 1 + length d) v ≡ sets out at (packetFor d) =
+    let z : set b (at + 1 + length d) v ≡ sets out at (sheetPacket d) =
     rw (packet-says d h, x, sets-append out at (0xAA ∷ []) d, y, ev) (sets-append out at (0xAA ∷ d) (sumOf d ∷ [])) in
-    record { behind = ap (λ (n : ℕ). at + n) (sym (packet-long d h)); bytes = λ _. z; long = ap (λ (l : List ℕ). length l) z ∙ length-sets out at (packetFor d) }
+    record { behind = ap (λ (n : ℕ). at + n) (sym (packet-long d h)); bytes = λ _. z; long = ap (λ (l : List ℕ). length l) z ∙ length-sets out at (sheetPacket d) }
 
 -- ---- the packets: those of the lines from `at` on are still to be written, from `to` on
 
 on-line : (d out o left : List ℕ) (to q : ℕ) (r : Made ℕ) → HasRoom (onLine (bytes d) r) to (length out) → madeFrom (onLine (bytes d) r) to out ≡ o
-    → Wrote (packetFor d) to out q left → Laying r q left o
+    → Wrote (sheetPacket d) to out q left → Laying r q left o
 on-line d out o left to q (made p) h e w = laid-on h e w
 on-line d out o left to q (fault k) h e w = absurd h
 
-has-packet : (d : List ℕ) (to n : ℕ) (r : Made ℕ) → HasRoom (onLine (bytes d) r) to n → to + length (packetFor d) ≤ n
-has-packet d to n (made p) h = omega (arith, length-append (packetFor d) p)
+has-packet : (d : List ℕ) (to n : ℕ) (r : Made ℕ) → HasRoom (onLine (bytes d) r) to n → to + length (sheetPacket d) ≤ n
+has-packet d to n (made p) h = omega (arith, length-append (sheetPacket d) p)
 has-packet d to n (fault k) h = absurd h
 
 module _ (sheet d l b m o out : List ℕ) (at to : ℕ) (q : Parsed) (h : at < length sheet) (ed : d ≡ drop at sheet) (el : l ≡ firstLine d)
@@ -151,7 +151,7 @@ module _ (sheet d l b m o out : List ℕ) (at to : ℕ) (q : Parsed) (h : at < l
     packet-room =
         omega (arith, packet-long p packet-some, has-packet p to (length out) (packetsIn (linesOf (drop (at + length l + 1) sheet))) (going .room))
 
-    pub packets-on : (left : List ℕ) (r : ℕ) → Wrote (packetFor p) to out r left → Laying (packetsIn (linesOf (drop (at + length l + 1) sheet))) r left o
+    pub packets-on : (left : List ℕ) (r : ℕ) → Wrote (sheetPacket p) to out r left → Laying (packetsIn (linesOf (drop (at + length l + 1) sheet))) r left o
     packets-on left r w = on-line p out o left to r (packetsIn (linesOf (drop (at + length l + 1) sheet))) (going .room) (going .laid) w
 
 pub packets-done : (sheet out o : List ℕ) (at to : ℕ) → length sheet ≤ at → Laying (packetsIn (linesOf (drop at sheet))) to out o → out ≡ o
@@ -170,7 +170,7 @@ answer-made (made p) out = rw zero-add (by-room (ltb (length out) (length p)))
     by-room false = refl
 
 -- what a refusal leaves
-spared : (m : Made ℕ) (out : List ℕ) → (importedNumber (importMade m out .answer) ≡ done → ⊥) → importMade m out .left ≡ out
+pub spared : (m : Made ℕ) (out : List ℕ) → (importedNumber (importMade m out .answer) ≡ done → ⊥) → importMade m out .left ≡ out
 spared (fault k) out n = refl
 spared (made p) out n = by-room (ltb (length out) (length p)) n
   where

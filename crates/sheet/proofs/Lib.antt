@@ -4,5 +4,11 @@ mod Gathers
 mod Said
 mod Laying
 mod Imports
-mod Cutting
+pub mod Cutting
 mod Exports
+pub mod Forms
+pub mod Trips
+pub mod Lengths
+pub mod Refusals
+pub mod Examples
+pub mod Unique

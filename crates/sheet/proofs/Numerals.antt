@@ -35,7 +35,7 @@ space-none : eitherDigit space ≡ 16
 unfolding eitherDigit digitOf
 space-none = refl
 
-digit-no-space : (a : ℕ) → eitherDigit a ≤ 15 → a ≡ space → ⊥
+pub digit-no-space : (a : ℕ) → eitherDigit a ≤ 15 → a ≡ space → ⊥
 digit-no-space a h e =
     let z : eitherDigit a ≡ 16 = ap eitherDigit e ∙ space-none in
     omega arith
@@ -57,10 +57,10 @@ not-three a b c (w ∷ ws) = refl
 
 -- ---- one digit, two digits
 
-one-says : (a : ℕ) (ws : List (List ℕ)) → eitherDigit a ≤ 15 → numeralBytes ((a ∷ []) ∷ ws) ≡ before (eitherDigit a) (numeralBytes ws)
+pub one-says : (a : ℕ) (ws : List (List ℕ)) → eitherDigit a ≤ 15 → numeralBytes ((a ∷ []) ∷ ws) ≡ before (eitherDigit a) (numeralBytes ws)
 one-says a ws h = rw (lt-ltb (eitherDigit a) 16 (omega arith), lt-ltb (eitherDigit a) 256 (omega arith))
 
-two-says : (a b : ℕ) (ws : List (List ℕ)) → eitherDigit a ≤ 15 → eitherDigit b ≤ 15
+pub two-says : (a b : ℕ) (ws : List (List ℕ)) → eitherDigit a ≤ 15 → eitherDigit b ≤ 15
     → numeralBytes ((a ∷ b ∷ []) ∷ ws) ≡ before (eitherDigit a * 16 + eitherDigit b) (numeralBytes ws)
 two-says a b ws h k =
     rw (lt-ltb (eitherDigit a) 16 (omega arith), lt-ltb (eitherDigit b) 16 (omega arith), lt-ltb (eitherDigit a * 16 + eitherDigit b) 256 (omega arith))

@@ -15,8 +15,8 @@ use Rattle.buffer.specs.Change.{AllBytes}
 use Rattle.buffer.proofs.Bytes.{byte-at}
 use Rattle.buffer.proofs.Sums.{length-with-sum}
 use Rattle.hex.specs.Hex.{Content, bytes, malformed, before}
-use Rattle.sheet.specs.Line.{startsHex, byteIn, numeralsOf, numeralBytes, counted, lineIn}
-use Rattle.sheet.specs.Sheet.{packetFor}
+use Rattle.sheet.specs.Line.{startsHex, byteIn, numeralsOf, numeralBytes, rightCount, lineIn}
+use Rattle.sheet.specs.Sheet.{sheetPacket}
 
 -- a malformed line says nothing
 pub not-bytes : (d : List ℕ) → malformed ≡ bytes d → ⊥
@@ -37,7 +37,7 @@ pub record Said (d : List ℕ) : Type 0 where
   pub small : AllBytes d
   pub count : length d ≡ 2 + getD d 1 0 / 16
 
-counted-says : (c : Content) (d : List ℕ) → counted c ≡ bytes d → (c ≡ bytes d) × (length d ≡ 2 + getD d 1 0 / 16)
+counted-says : (c : Content) (d : List ℕ) → rightCount c ≡ bytes d → (c ≡ bytes d) × (length d ≡ 2 + getD d 1 0 / 16)
 counted-says malformed d e = impossible cc
 counted-says (bytes m) d e =
     let t = chose-first (eqb (length m) (2 + getD m 1 0 / 16)) e (not-bytes d) in
@@ -70,10 +70,10 @@ pub said-few : (d : List ℕ) → Said d → length d ≤ 17
 said-few d s = omega (arith, s .count, byte-at d 1 (s .small))
 
 -- header and sum come to them
-pub packet-says : (d : List ℕ) → 2 ≤ length d → packetFor d ≡ 0xAA ∷ withSum d
+pub packet-says : (d : List ℕ) → 2 ≤ length d → sheetPacket d ≡ 0xAA ∷ withSum d
 packet-says [] h = absurd (not-suc-le-zero h)
 packet-says (x ∷ []) h = absurd (omega arith)
 packet-says (x ∷ y ∷ d) h = refl
 
-pub packet-long : (d : List ℕ) → 2 ≤ length d → length (packetFor d) ≡ length d + 2
+pub packet-long : (d : List ℕ) → 2 ≤ length d → length (sheetPacket d) ≡ length d + 2
 packet-long d h = ap (λ (l : List ℕ). length l) (packet-says d h) ∙ (omega (arith, length-with-sum d))

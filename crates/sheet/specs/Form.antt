@@ -1,5 +1,5 @@
 -- Document 02, request 1, once more as a form: what a line, a sheet and a list of packets are. `proofs/Forms` joins it to what is read.
-use Prim.Native.Nat.{ℕ, _+_, _*_, _/_, _<_}
+use Prim.Native.Nat.{ℕ, suc, _+_, _*_, _/_, _<_}
 use mathlib.Core.List.{List, [], _∷_, _++_}
 use mathlib.Core.Path.{_≡_}
 use lib.ListN.{length, getD}
@@ -7,7 +7,7 @@ use Rattle.packet.specs.Packet.{readOf, framedNumber}
 use Rattle.wire.specs.Numbers.{done}
 use Rattle.hex.specs.Hex.{space}
 use Rattle.sheet.specs.Line.{hexWord, eitherDigit}
-use Rattle.sheet.specs.Sheet.{packetFor}
+use Rattle.sheet.specs.Sheet.{sheetPacket}
 
 -- "One or two hex digits .., either case"
 pub data NumeralForm : List ℕ → ℕ → Type 0 where
@@ -29,7 +29,12 @@ pub record LineForm (l d : List ℕ) : Type 0 where
 -- some lines, and their packets back to back
 pub data SheetForm : List (List ℕ) → List ℕ → Type 0 where
   end : SheetForm [] []
-  next : {l d p : List ℕ} {ls : List (List ℕ)} → LineForm l d → SheetForm ls p → SheetForm (l ∷ ls) (packetFor d ++ p)
+  next : {l d p : List ℕ} {ls : List (List ℕ)} → LineForm l d → SheetForm ls p → SheetForm (l ∷ ls) (sheetPacket d ++ p)
+
+-- "14 for a line not of this form or count, with the line's number from 1": the first line at fault
+pub data FirstFault : List (List ℕ) → ℕ → Type 0 where
+  here : {l : List ℕ} {ls : List (List ℕ)} → ((d : List ℕ) → LineForm l d → ⊥) → FirstFault (l ∷ ls) 1
+  later : {l d : List ℕ} {ls : List (List ℕ)} {k : ℕ} → LineForm l d → FirstFault ls k → FirstFault (l ∷ ls) (suc k)
 
 -- packets that read, and the bytes that they are back to back
 pub data ListForm : List (List ℕ) → List ℕ → Type 0 where

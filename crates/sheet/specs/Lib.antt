@@ -3,3 +3,4 @@ pub mod Sheet
 pub mod Packets
 pub mod Form
 pub mod Reading
+pub mod Example

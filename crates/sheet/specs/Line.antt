@@ -49,10 +49,10 @@ numeralBytes [] = bytes []
 numeralBytes (w ∷ ws) = cond (ltb (byteIn w) 256) (before (byteIn w) (numeralBytes ws)) malformed
 
 -- "The data bytes number what the command byte says": address, command byte, and so many
-abbrev pub counted : Content → Content
-counted (bytes d) = cond (eqb (length d) (2 + getD d 1 0 / 16)) (bytes d) malformed
-counted malformed = malformed
+abbrev pub rightCount : Content → Content
+rightCount (bytes d) = cond (eqb (length d) (2 + getD d 1 0 / 16)) (bytes d) malformed
+rightCount malformed = malformed
 
 -- what a line says: address, command byte and data bytes; or nothing, since it isn't "of this form or count"
 unfoldable pub lineIn : List ℕ → Content
-lineIn l = cond (startsHex l) (counted (numeralBytes (numeralsOf (drop 4 l)))) malformed
+lineIn l = cond (startsHex l) (rightCount (numeralBytes (numeralsOf (drop 4 l)))) malformed

@@ -32,12 +32,12 @@ abbrev pub bareOf : List ℕ → List ℕ
 bareOf p = take (length p - 2) (drop 1 p)
 
 -- the line of a packet, with its newline
-abbrev pub lineFor : List ℕ → List ℕ
-lineFor p = hexWord ++ hexLine (bareOf p)
+abbrev pub sheetLine : List ℕ → List ℕ
+sheetLine p = hexWord ++ hexLine (bareOf p)
 
 -- the first packet's line, and the lines of the packets behind it; "1, 2 or 4 for the first packet that doesn't read"
 abbrev pub onPacket : List ℕ → Framed → Made Refusal → Made Refusal
-onPacket p (framed.Whole a c e) (made t) = made (lineFor p ++ t)
+onPacket p (framed.Whole a c e) (made t) = made (sheetLine p ++ t)
 onPacket p (framed.Whole a c e) (fault why) = fault why
 onPacket p (framed.Refused why) rest = fault why
 

@@ -18,7 +18,7 @@ use Rattle.sheet.specs.declared.importing.Imported.{Imported}
 use Rattle.sheet.specs.declared.importing.Imported.the-variants as imported
 use Rattle.sheet.specs.declared.exporting.Listed.{Listed}
 use Rattle.sheet.specs.declared.exporting.Listed.the-variants as listed
-use Rattle.sheet.specs.Line.{eitherDigit, numeralsOf, numeralBytes, counted, lineIn}
+use Rattle.sheet.specs.Line.{eitherDigit, numeralsOf, numeralBytes, rightCount, lineIn}
 use Rattle.sheet.specs.Sheet.{Made, made, fault, packetsIn}
 use Rattle.sheet.specs.Packets.{packetsOf, sheetOf}
 
@@ -51,7 +51,7 @@ abbrev pub countedBy : ℕ → ℕ → Parsed
 countedBy n head = cond (eqb n (2 + head / 16)) (Bytes n) Malformed
 
 abbrev pub readCounted : List ℕ → List ℕ → Gathered
-readCounted s out = readPairs (counted (numeralBytes (numeralsOf s))) 0 out
+readCounted s out = readPairs (rightCount (numeralBytes (numeralsOf s))) 0 out
 
 abbrev pub readLine : List ℕ → List ℕ → Gathered
 readLine l out = readPairs (lineIn l) 0 out

@@ -21,12 +21,12 @@ pub data Made (F : Type 0) : Type 0 where
   fault : F → Made F
 
 -- the packet of a line: its address, command byte and data bytes, between header and sum
-abbrev pub packetFor : List ℕ → List ℕ
-packetFor d = packetWith (getD d 0 0) (getD d 1 0) (drop 2 d)
+abbrev pub sheetPacket : List ℕ → List ℕ
+sheetPacket d = packetWith (getD d 0 0) (getD d 1 0) (drop 2 d)
 
 -- the first line's packet, and the packets of the lines behind it; "with the line's number from 1"
 abbrev pub onLine : Content → Made ℕ → Made ℕ
-onLine (bytes d) (made p) = made (packetFor d ++ p)
+onLine (bytes d) (made p) = made (sheetPacket d ++ p)
 onLine (bytes d) (fault k) = fault (suc k)
 onLine malformed rest = fault 1
 

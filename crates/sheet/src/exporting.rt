@@ -11,7 +11,7 @@ ghost use Rattle.wire.specs.Promise.{Lending};
 ghost use Rattle.wire.specs.Part.{Part};
 ghost use Rattle.buffer.specs.Buffer.{builtNumber};
 ghost use Rattle.buffer.specs.Wrote.{Wrote};
-ghost use Rattle.sheet.specs.Packets.{firstPacket, packetsOf, lineFor, sheetOf, exportOf};
+ghost use Rattle.sheet.specs.Packets.{firstPacket, packetsOf, sheetLine, sheetOf, exportOf};
 ghost use Rattle.sheet.specs.Reading.{countPackets, HasRoom, sheetLines};
 
 // What a list of packets is found to be: so many that read, or why the first that doesn't is refused.
@@ -21,7 +21,7 @@ pub(crate) enum Listed {
 }
 
 // The first of some packets, up to the end that its count gives; all that is there where it is cut short.
-fn first_packet(s: &[u8]) -> &[u8]
+pub fn first_packet(s: &[u8]) -> &[u8]
     ensures { λ r. ⌜ Part (s .entry) 0 (firstPacket (now (s .entry))) r ⌝ }
 {
     if s.len() < 3 {
@@ -57,9 +57,9 @@ fn count_packets(packets: &[u8]) -> Listed
 }
 
 // The line of a packet, from `at` on; the position behind it.
-fn put_line_for(out: &mut [u8], at: usize, packet: &[u8]) -> usize
+fn put_line(out: &mut [u8], at: usize, packet: &[u8]) -> usize
     requires { ⌜ (4 ≤ length (now packet)) × (at + 3 * length (now packet) ≤ length (now out) + 2) ⌝ }
-    ensures { λ r. ⌜ Wrote (lineFor (now (packet .entry))) at (now (out .entry)) r (now (out .exit)) ⌝ }
+    ensures { λ r. ⌜ Wrote (sheetLine (now (packet .entry))) at (now (out .entry)) r (now (out .exit)) ⌝ }
 {
     let n = packet.len() - 1;
     buffer::put(out, at, b"HEX ");
@@ -76,7 +76,7 @@ fn put_lines(packets: &[u8], out: &mut [u8])
     let mut to = 0;
     while at < packets.len() {
         let packet = first_packet(rest(packets, at));
-        to = put_line_for(out, to, packet);
+        to = put_line(out, to, packet);
         at += packet.len();
     }
 }
@@ -99,8 +99,9 @@ pub fn export(packets: &[u8], out: &mut [u8]) -> Built
             if (room - length) / 2 < more {
                 return Built::Refused(Refusal::Room);
             }
+            let total = length + 2 * more;
             put_lines(packets, out);
-            Built::Bytes(length + 2 * more)
+            Built::Bytes(total)
         }
     }
 }

@@ -13,7 +13,7 @@ ghost use lib.ListN.{length};
 ghost use Rattle.wire.specs.Promise.{Lending};
 ghost use Rattle.buffer.specs.Wrote.{Wrote};
 ghost use Rattle.text.specs.Lines.{linesOf};
-ghost use Rattle.sheet.specs.Sheet.{packetFor, packetsIn, mostText, importOf, importedNumber};
+ghost use Rattle.sheet.specs.Sheet.{sheetPacket, packetsIn, mostText, importOf, importedNumber};
 ghost use Rattle.sheet.specs.Reading.{importAnswer, HasRoom, sheetPackets};
 
 // The longest sheet, 64 KiB.
@@ -69,9 +69,9 @@ fn import_answer(sheet: &[u8], room: usize) -> Imported
 }
 
 // The packet of a line's bytes, from `at` on; the position behind it.
-fn put_packet_for(out: &mut [u8], at: usize, bytes: &[u8]) -> usize
+fn put_packet(out: &mut [u8], at: usize, bytes: &[u8]) -> usize
     requires { ⌜ (2 ≤ length (now bytes)) × (at + (length (now bytes) + 2) ≤ length (now out)) ⌝ }
-    ensures { λ r. ⌜ Wrote (packetFor (now (bytes .entry))) at (now (out .entry)) r (now (out .exit)) ⌝ }
+    ensures { λ r. ⌜ Wrote (sheetPacket (now (bytes .entry))) at (now (out .entry)) r (now (out .exit)) ⌝ }
 {
     let n = bytes.len();
     out[at] = packet::HEADER;
@@ -96,7 +96,7 @@ fn put_packets(sheet: &[u8], out: &mut [u8])
                 return;
             }
             Parsed::Bytes(n) => {
-                to = put_packet_for(out, to, first(&bytes, n));
+                to = put_packet(out, to, first(&bytes, n));
                 at = at + line.len() + 1;
             }
         }

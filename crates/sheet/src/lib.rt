@@ -6,6 +6,7 @@ mod importing;
 mod line;
 
 pub use exporting::export;
+pub use exporting::first_packet;
 pub use importing::Imported;
 pub use importing::MOST;
 pub use importing::import;

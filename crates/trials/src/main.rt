@@ -55,6 +55,10 @@ fn answer(kind: u8, args: &[u8]) -> Answer {
         0x11 => trypacket::read(args),
         0x12 => trypacket::read_status(args),
         0x20 => trychain::deliver(args),
+        0x40 => trysheet::import(args),
+        0x41 => trysheet::export(args),
+        0x42 => trysheet::import_copied(args),
+        0x43 => trysheet::export_copied(args),
         _ => malformed(),
     }
 }

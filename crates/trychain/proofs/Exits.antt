@@ -43,11 +43,11 @@ delivered-to records packet buffer left n l ns d r p q s k e =
     ∙ ap (λ (ns : List Node). putOutcome (tableDeliver (record { nodes = ns; count = n }) (drop (nodesLength n) records) buffer) n) p
 
 -- a line that is not of its form, and one that is
-pub not-lending : (args : List ℕ) (t : Bool) (r : Answer) → t ≡ isLending args 2 → not t ≡ true → r ≡ malformedOf → r ≡ trychainDeliver args
+pub not-lending : (args : List ℕ) (t : Bool) (r : Answer) → t ≡ isLending args 2 mostRoom → not t ≡ true → r ≡ malformedOf → r ≡ trychainDeliver args
 unfolding trychainDeliver
 not-lending args t r e h f = rw (f, ← e, not-true t h)
 
-module _ (args records : List ℕ) (n : ℕ) (t u : Bool) (r : Answer) (p : t ≡ isLending args 2) (h : not t ≡ false) (m : n ≡ fieldsByte args 1) (e : records ≡ drop 2 args)
+module _ (args records : List ℕ) (n : ℕ) (t u : Bool) (r : Answer) (p : t ≡ isLending args 2 mostRoom) (h : not t ≡ false) (m : n ≡ fieldsByte args 1) (e : records ≡ drop 2 args)
     (q : u ≡ areNodes records n) where
   pub no-nodes : not u ≡ true → r ≡ malformedOf → r ≡ trychainDeliver args
   unfolding trychainDeliver

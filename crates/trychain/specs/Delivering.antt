@@ -39,6 +39,6 @@ deliverTo records n buffer = putOutcome (tableDeliver (record { nodes = readNode
 unfoldable pub trychainDeliver : List ℕ → Answer
 trychainDeliver args =
     cond
-    (isLending args 2 && areNodes (drop 2 args) (fieldsByte args 1))
+    (isLending args 2 mostRoom && areNodes (drop 2 args) (fieldsByte args 1))
     (deliverTo (drop 2 args) (fieldsByte args 1) (take (roomOf args mostRoom) filledOf))
     malformedOf

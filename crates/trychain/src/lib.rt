@@ -73,7 +73,7 @@ pub fn deliver(args: &[u8]) -> Answer
 {
     let count = byte(args, 1) as usize;
     let records = rest(args, 2);
-    if !is_lending(args, 2) {
+    if !is_lending(args, 2, MOST_ROOM) {
         return malformed();
     }
     if !are_nodes(records, count) {

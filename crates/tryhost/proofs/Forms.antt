@@ -10,7 +10,7 @@ use Rattle.command.specs.declared.Command.{Command}
 use Rattle.command.specs.declared.Role.{Role}
 use Rattle.command.specs.Role.{roleOf, isPlacing}
 use Rattle.fields.specs.Field.{fieldsByte}
-use Rattle.fields.specs.Lending.{isLending}
+use Rattle.fields.specs.Lending.{mostRoom, isLending}
 use Rattle.state.specs.Order.{isOrder, readCommand}
 use Rattle.state.specs.State.{isState}
 use Rattle.tryhost.specs.Form.{isReadyOrder, isRegroup, isFormed, isSending, isCall}
@@ -53,11 +53,11 @@ module _ (s : List ℕ) (kind : ℕ) where
   unfolding isFormed
   formed-none p q h i = rw (ne-eqb kind 0x31 p, ne-eqb kind 0x32 q, ne-eqb kind 0x33 h, ne-eqb kind 0x34 i)
 
-  pub sending-not : (t : Bool) → t ≡ isLending s 1 → t ≡ false → false ≡ isSending kind s
+  pub sending-not : (t : Bool) → t ≡ isLending s 1 mostRoom → t ≡ false → false ≡ isSending kind s
   unfolding isSending
   sending-not t p q = rw (← p, q)
 
-  pub sending-is : (t r : Bool) (b : List ℕ) → t ≡ isLending s 1 → t ≡ true → b ≡ drop 1 s → r ≡ isFormed kind b → r ≡ isSending kind s
+  pub sending-is : (t r : Bool) (b : List ℕ) → t ≡ isLending s 1 mostRoom → t ≡ true → b ≡ drop 1 s → r ≡ isFormed kind b → r ≡ isSending kind s
   unfolding isSending
   sending-is t r b p q h i = rw (← p, q, ← h) i
 

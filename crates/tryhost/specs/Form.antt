@@ -6,7 +6,7 @@ use lib.Dec.{ltb, eqb}
 use lib.ListN.{length, drop}
 use Rattle.command.specs.Role.{roleOf, isPlacing}
 use Rattle.fields.specs.Field.{fieldsByte}
-use Rattle.fields.specs.Lending.{isLending}
+use Rattle.fields.specs.Lending.{mostRoom, isLending}
 use Rattle.state.specs.Order.{isOrder, readCommand}
 use Rattle.state.specs.State.{isState}
 
@@ -28,7 +28,7 @@ isFormed kind s =
 
 -- a call that sends: "room .."
 unfoldable pub isSending : ℕ → List ℕ → Bool
-isSending kind s = isLending s 1 && isFormed kind (drop 1 s)
+isSending kind s = isLending s 1 mostRoom && isFormed kind (drop 1 s)
 
 -- a call that lends nothing: "30 n", "35 bytes..", "36", "38 STATE"
 unfoldable pub isCall : ℕ → List ℕ → Bool

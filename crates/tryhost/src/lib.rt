@@ -79,7 +79,7 @@ fn is_formed(kind: u8, s: &[u8]) -> bool
 fn is_sending(kind: u8, args: &[u8]) -> bool
     ensures { λ r. ⌜ r ≡ isSending kind (now (args .entry)) ⌝ }
 {
-    if is_lending(args, 1) {
+    if is_lending(args, 1, MOST_ROOM) {
         return is_formed(kind, rest(args, 1));
     }
     false

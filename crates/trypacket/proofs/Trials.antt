@@ -32,7 +32,7 @@ pub into-shown : (s d out left : List ℕ) (a c n : ℕ) (b : Built) (r : Answer
 unfolding buildInto
 into-shown s d out left a c n b r ea ec ed l en er = rw (er, en, l .answer, l .leaves, ea, ec, ed)
 
-module _ (s : List ℕ) (t : Bool) (r : Answer) (e : t ≡ isLending s 3) where
+module _ (s : List ℕ) (t : Bool) (r : Answer) (e : t ≡ isLending s 3 mostRoom) where
   -- a line that lends: the part of its buffer from 0 on
   pub built : (b : List ℕ) (n : ℕ) → t ≡ true → b ≡ filledOf → n ≡ roomOf s mostRoom → r ≡ buildInto s (take (n - 0) b) → r ≡ trypacketBuild s
   unfolding trypacketBuild

@@ -32,7 +32,7 @@ buildInto s out = builtShown (buildOf (fieldsByte s 1) (fieldsByte s 2) (drop 3 
 
 -- "`10 room address command data..` build a packet: `NN buffer`"
 unfoldable pub trypacketBuild : List ℕ → Answer
-trypacketBuild s = cond (isLending s 3) (buildInto s (take (roomOf s mostRoom) filledOf)) malformedOf
+trypacketBuild s = cond (isLending s 3 mostRoom) (buildInto s (take (roomOf s mostRoom) filledOf)) malformedOf
 
 -- what reading a packet shows: its parts, or the refusal
 abbrev pub partsShown : List ℕ → Framed → Answer

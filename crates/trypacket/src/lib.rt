@@ -1,6 +1,6 @@
 // The lines of `trials` that try packets: 10 builds one, 11 reads one, 12 reads a status packet.
 // Promised: each shows what the call that it tries answers and leaves, as docs/TRIALS.md has it.
-// Left to others: what the calls answer (packet, mask, status), and the other lines (trychain, tryhost).
+// Left to others: what the calls answer (packet, mask, status), and the other lines (trychain, tryhost, trysheet).
 use fields::Answer;
 use fields::MOST_ROOM;
 use fields::byte;
@@ -28,7 +28,7 @@ fn build_into(args: &[u8], lent: &mut [u8]) -> Answer
 pub fn build(args: &[u8]) -> Answer
     ensures { λ r. ⌜ r ≡ trypacketBuild (now (args .entry)) ⌝ }
 {
-    if is_lending(args, 3) {
+    if is_lending(args, 3, MOST_ROOM) {
         let mut buffer = filled();
         let room = room(args, MOST_ROOM);
         return build_into(args, &mut buffer[0..room]);

@@ -82,7 +82,7 @@ fn refused(refusal: Refusal) -> String {
 }
 
 /// "The count is 1 to 31 without a leading zero."
-fn count(rules: Rules, line: &[u8]) -> Option<usize> {
+pub fn count(rules: Rules, line: &[u8]) -> Option<usize> {
     let digits = match line {
         [b'0', rest @ ..] if rules.slips(Mistake::LeadingZeroTaken) => rest,
         _ => line,

@@ -3,6 +3,7 @@
 
 use crate::hex;
 use crate::manuals::{DOCUMENTS, PRINTED};
+use crate::packet::read;
 use crate::rules::Rules;
 
 /// Input lines under one name.
@@ -20,22 +21,51 @@ impl Case {
     }
 }
 
+/// The bytes of a line.
+pub fn bytes(line: &str) -> Vec<u8> {
+    hex::parse(Rules::RIGHT, line.as_bytes()).expect("a line of bytes")
+}
+
 /// A packet's line from address, command byte and data: header and sum added.
 pub fn packet(parts: &str) -> String {
-    let mut bytes = vec![0xAA];
-    bytes.extend(hex::parse(Rules::RIGHT, parts.as_bytes()).expect("hexadecimal parts"));
-    bytes.push(crate::packet::sum(&bytes[1..]));
-    hex::format(&bytes)
+    let mut packet = vec![0xAA];
+    packet.extend(bytes(parts));
+    packet.push(crate::packet::sum(&packet[1..]));
+    hex::format(&packet)
 }
 
 /// The same with its sum wrong by one.
 pub fn damaged(parts: &str) -> String {
-    let line = packet(parts);
-    let mut bytes = hex::parse(Rules::RIGHT, line.as_bytes()).expect("a packet's line");
-    if let Some(last) = bytes.last_mut() {
+    let mut packet = bytes(&packet(parts));
+    if let Some(last) = packet.last_mut() {
         *last = last.wrapping_add(1);
     }
-    hex::format(&bytes)
+    hex::format(&packet)
+}
+
+/// Packets back to back, each from its parts.
+pub fn list(parts: &[&str]) -> Vec<u8> {
+    parts
+        .iter()
+        .flat_map(|parts| bytes(&packet(parts)))
+        .collect()
+}
+
+/// The line of a sheet for a packet, with no digit more than needed.
+pub fn sheet_line(packet: &[u8]) -> String {
+    let parts = &packet[1..packet.len() - 1];
+    let numbers: String = parts.iter().map(|byte| format!(" {byte:X}")).collect();
+    format!("HEX{numbers}")
+}
+
+/// The packets that a manual prints and that read, in its order.
+pub fn manual_packets(document: &str) -> Vec<Vec<u8>> {
+    PRINTED
+        .iter()
+        .filter(|printed| printed.document == document)
+        .map(|printed| bytes(printed.bytes))
+        .filter(|packet| read(Rules::RIGHT, packet).is_ok())
+        .collect()
 }
 
 /// The printed packets of each manual, one case per manual.

@@ -1,5 +1,5 @@
 //! The stored cases: hand-written ones with a name each, then a generated
-//! block with a fixed seed. Within 60 KiB for each program.
+//! block with a fixed seed. Within what each program reads.
 
 use crate::bench::Bench;
 use crate::case::Case;
@@ -12,7 +12,7 @@ use crate::prng::Prng;
 use crate::rules::Rules;
 
 /// The most stored input for one program.
-pub const MOST_STORED: usize = 60 * 1024;
+pub const MOST_STORED: usize = hex::MOST_INPUT;
 
 /// The seed of the generated blocks.
 const SEED: u64 = 773;

@@ -2,6 +2,7 @@
 
 mod chain;
 mod host;
+mod sheets;
 
 use crate::case::{manual_cases, Case};
 use crate::manuals::PRINTED_STATUS;
@@ -18,6 +19,7 @@ pub fn cases() -> Vec<Case> {
     cases.extend(host::document_records());
     cases.extend(host::cases());
     cases.extend(host::handed_in_cases());
+    cases.extend(sheets::cases());
     cases.push(Case::new("lines of the wrong form", wrong_forms()));
     cases
 }

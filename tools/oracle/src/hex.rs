@@ -59,6 +59,15 @@ fn digit(rules: Rules, character: u8) -> Option<u8> {
 
 /// The line of some bytes, without newline.
 pub fn format(bytes: &[u8]) -> String {
-    let words: Vec<String> = bytes.iter().map(|byte| format!("{byte:02X}")).collect();
-    words.join(" ")
+    const DIGITS: &[u8; 16] = b"0123456789ABCDEF";
+    let mut line = String::with_capacity(3 * bytes.len());
+    for byte in bytes {
+        if !line.is_empty() {
+            line.push(' ');
+        }
+        for digit in [byte >> 4, byte & 0x0F] {
+            line.push(char::from(DIGITS[usize::from(digit)]));
+        }
+    }
+    line
 }

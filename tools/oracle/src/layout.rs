@@ -1,4 +1,5 @@
-//! The byte layouts of the `trials` program: NODE, ENTRY, EXCHANGE, STATE.
+//! The byte layouts of the `trials` program: wide numbers, NODE, ENTRY,
+//! EXCHANGE, STATE.
 //! Every wide value goes least significant byte first.
 
 use crate::command::{Command, Held, Place, Settings};
@@ -44,6 +45,20 @@ impl<'a> Cursor<'a> {
 
     fn long(&mut self) -> Option<u32> {
         self.bytes().map(u32::from_le_bytes)
+    }
+
+    /// A number of N bytes.
+    pub fn wide<const N: usize>(&mut self) -> Option<usize> {
+        let bytes: [u8; N] = self.bytes()?;
+        let join = |value, byte: &u8| value << 8 | usize::from(*byte);
+        Some(bytes.iter().rev().fold(0, join))
+    }
+
+    /// So many bytes.
+    pub fn take(&mut self, count: usize) -> Option<&'a [u8]> {
+        let taken = self.0.get(..count)?;
+        self.0 = &self.0[count..];
+        Some(taken)
     }
 
     /// All that is left.
@@ -123,9 +138,7 @@ impl<'a> Cursor<'a> {
     /// A command byte and as many data bytes as it counts.
     pub fn command(&mut self) -> Option<Command> {
         let byte = self.byte()?;
-        let count = usize::from(byte >> 4);
-        let data = self.0.get(..count)?;
-        self.0 = &self.0[count..];
+        let data = self.take(usize::from(byte >> 4))?;
         Command::decode(byte, data)
     }
 
@@ -150,6 +163,11 @@ impl<'a> Cursor<'a> {
         }
         Some(session)
     }
+}
+
+/// A number in N bytes.
+pub fn wide<const N: usize>(number: usize) -> [u8; N] {
+    std::array::from_fn(|place| (number >> (8 * place)) as u8)
 }
 
 /// The settings behind the place.

@@ -25,18 +25,7 @@ const BAD_COUNTS: [&str; 12] = [
 /// An input of at most so many packet lines, within 64 KiB.
 pub fn make(seed: u64, lines: usize) -> Vec<u8> {
     let mut prng = Prng::new(seed);
-    let mut input = Vec::new();
-    let count = if prng.percent(70) {
-        prng.between(1, 6)
-    } else {
-        prng.between(1, 31)
-    };
-    if prng.below(16) == 0 {
-        input.extend(prng.pick(&BAD_COUNTS).as_bytes());
-    } else {
-        input.extend(count.to_string().as_bytes());
-    }
-    input.push(b'\n');
+    let (count, mut input) = count_line(&mut prng);
     let mut bench = Bench::new(Rules::RIGHT, usize::from(count));
     let room = hex::MOST_INPUT - input.len();
     input.extend(packet_lines(&mut prng, &mut bench, lines, room));
@@ -44,6 +33,20 @@ pub fn make(seed: u64, lines: usize) -> Vec<u8> {
         input.pop();
     }
     input
+}
+
+/// A count and the first line that gives it; now and then the line is no count.
+pub fn count_line(prng: &mut Prng) -> (u8, Vec<u8>) {
+    let count = if prng.percent(70) {
+        prng.between(1, 6)
+    } else {
+        prng.between(1, 31)
+    };
+    let text = match prng.below(16) {
+        0 => prng.pick(&BAD_COUNTS).to_string(),
+        _ => count.to_string(),
+    };
+    (count, format!("{text}\n").into_bytes())
 }
 
 /// Packet lines for a bench, each ended by a newline, within a number of

@@ -1,7 +1,8 @@
-//! Seeded inputs for the `trials` program: packets, deliveries and long host
-//! stories in which most calls make sense.
+//! Seeded inputs for the `trials` program: packets, deliveries, sheets and long
+//! host stories in which most calls make sense.
 
 mod host;
+mod sheets;
 
 use crate::chain::{deliver, Delivery};
 use crate::command::{Held, Settings};
@@ -17,7 +18,7 @@ use crate::status::{item_bytes, seal};
 use crate::trials::{Trials, MOST_RECORDS, MOST_ROOM};
 
 /// First bytes that try nothing.
-const UNKNOWN_KINDS: [u8; 8] = [0x00, 0x0F, 0x13, 0x1F, 0x21, 0x2F, 0x39, 0xFF];
+const UNKNOWN_KINDS: [u8; 9] = [0x00, 0x0F, 0x13, 0x1F, 0x21, 0x2F, 0x39, 0x44, 0xFF];
 
 /// An input of at most so many lines, within 64 KiB.
 pub fn make(seed: u64, lines: usize) -> Vec<u8> {
@@ -36,7 +37,9 @@ pub struct Story {
     model: Trials,
     /// Whether the session should be shown next.
     show: bool,
-    /// Whether the lines of a kilobyte and more are left out.
+    /// What an import gave, to be exported next.
+    imported: Option<Vec<u8>>,
+    /// Whether the lines that take much room are left out.
     terse: bool,
 }
 
@@ -46,11 +49,12 @@ impl Story {
             prng: Prng::new(seed),
             model: Trials::new(Rules::RIGHT),
             show: false,
+            imported: None,
             terse: false,
         }
     }
 
-    /// A story without long tables and without sessions handed in.
+    /// A story without long tables, sheets and sessions handed in.
     pub fn terse(seed: u64) -> Story {
         Story {
             terse: true,
@@ -81,20 +85,30 @@ impl Story {
     }
 
     fn line(&mut self) -> Vec<u8> {
-        let bytes = match self.prng.below(100) {
-            _ if std::mem::take(&mut self.show) => vec![0x37],
-            0..=4 => self.build_line(),
-            5..=10 => self.read_line(),
-            11..=14 => self.status_line(),
-            15..=20 => self.delivery_line(),
-            21 => vec![self.prng.pick(&UNKNOWN_KINDS), self.prng.byte()],
-            _ => self.host_line(),
-        };
+        let bytes = self.bytes();
         let line = hex::format(&bytes).into_bytes();
         if self.prng.percent(1) {
             malform(&mut self.prng, line)
         } else {
             line
+        }
+    }
+
+    fn bytes(&mut self) -> Vec<u8> {
+        if std::mem::take(&mut self.show) {
+            return vec![0x37];
+        }
+        if let Some(list) = self.imported.take() {
+            return self.export_of(&list);
+        }
+        match self.prng.below(100) {
+            0..=4 => self.build_line(),
+            5..=10 => self.read_line(),
+            11..=14 => self.status_line(),
+            15..=20 => self.delivery_line(),
+            21 => vec![self.prng.pick(&UNKNOWN_KINDS), self.prng.byte()],
+            22..=26 if !self.terse => self.sheet_line(),
+            _ => self.host_line(),
         }
     }
 
@@ -201,7 +215,7 @@ impl Story {
     fn disturb(&mut self, nodes: &mut [Node]) {
         let index = self.prng.below(nodes.len());
         let node = &mut nodes[index];
-        match self.prng.below(8) {
+        match self.prng.below(10) {
             0 => node.addressed = !node.addressed,
             1..=2 => node.settings.place.address = self.prng.between(0, 5),
             3 => node.settings.place.address = self.prng.between(0x80, 0xFF),

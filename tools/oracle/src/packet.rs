@@ -1,5 +1,6 @@
 //! "Packets": command packets, read and built.
 
+use crate::buffer;
 use crate::refusal::{require, Refusal};
 use crate::rules::{Mistake, Rules};
 
@@ -42,9 +43,10 @@ fn packet_sum(rules: Rules, before_sum: &[u8]) -> u8 {
     sum(&before_sum[1..])
 }
 
-/// The checks in order, but for the sum: empty, 1; first byte not 0xAA, 2;
-/// fewer than 4 bytes or fewer than 4 + count, 1; more, 3.
-pub fn frame(rules: Rules, bytes: &[u8]) -> Result<Packet<'_>, Refusal> {
+/// The packet that some bytes begin with, and what follows it. Checks in
+/// order: empty, 1; first byte not 0xAA, 2; fewer than 4 bytes or fewer than
+/// 4 + count, 1.
+pub fn front(rules: Rules, bytes: &[u8]) -> Result<(Packet<'_>, &[u8]), Refusal> {
     if rules.slips(Mistake::LengthBeforeHeader) {
         require(bytes.len() >= OVERHEAD, Refusal::Short)?;
     }
@@ -53,21 +55,28 @@ pub fn frame(rules: Rules, bytes: &[u8]) -> Result<Packet<'_>, Refusal> {
     require(bytes.len() >= OVERHEAD, Refusal::Short)?;
     let whole = OVERHEAD + usize::from(bytes[2] >> 4);
     require(bytes.len() >= whole, Refusal::Short)?;
-    let (before_sum, data) = (&bytes[..whole - 1], &bytes[3..whole - 1]);
-    let intact = bytes[whole - 1] == packet_sum(rules, before_sum);
-    if rules.slips(Mistake::SumBeforeLength) {
-        require(intact, Refusal::WrongSum)?;
-    }
+    let (own, rest) = bytes.split_at(whole);
+    let (before_sum, data) = (&own[..whole - 1], &own[3..whole - 1]);
     if rules.slips(Mistake::HeaderEndsData) {
         require(!data.contains(&HEADER), Refusal::Short)?;
     }
-    require(bytes.len() == whole, Refusal::TooLong)?;
-    Ok(Packet {
-        address: bytes[1],
-        command_byte: bytes[2],
+    let packet = Packet {
+        address: own[1],
+        command_byte: own[2],
         data,
-        intact,
-    })
+        intact: own[whole - 1] == packet_sum(rules, before_sum),
+    };
+    Ok((packet, rest))
+}
+
+/// A packet alone: the checks of `front`; more bytes, 3.
+pub fn frame(rules: Rules, bytes: &[u8]) -> Result<Packet<'_>, Refusal> {
+    let (packet, rest) = front(rules, bytes)?;
+    if rules.slips(Mistake::SumBeforeLength) {
+        require(packet.intact, Refusal::WrongSum)?;
+    }
+    require(rest.is_empty(), Refusal::TooLong)?;
+    Ok(packet)
 }
 
 /// Reading takes one whole packet: the checks of `frame`, then the sum, 4.
@@ -86,22 +95,17 @@ pub fn build(
     command: u8,
     data: &[u8],
 ) -> Result<usize, Refusal> {
-    let length = OVERHEAD + data.len();
     let command_fits = command <= 15 || rules.slips(Mistake::CommandsAbove15);
     if rules.slips(Mistake::RoomBeforeRange) {
-        require(length <= buffer.len(), Refusal::NoRoom)?;
+        require(OVERHEAD + data.len() <= buffer.len(), Refusal::NoRoom)?;
     }
     require(command_fits && data.len() <= MOST_DATA, Refusal::OffRange)?;
-    require(length <= buffer.len(), Refusal::NoRoom)?;
-    buffer[..length].copy_from_slice(&assemble(rules, address, command, data));
-    if rules.slips(Mistake::RestCleared) {
-        buffer[length..].fill(0);
-    }
-    Ok(length)
+    buffer::write(rules, buffer, &assemble(rules, address, command, data))
 }
 
-/// The bytes of a packet whose parts are in range.
-fn assemble(rules: Rules, address: u8, command: u8, data: &[u8]) -> Vec<u8> {
+/// The bytes of a packet whose parts are in range; the command byte is made of
+/// the command and of how many data bytes there are.
+pub fn assemble(rules: Rules, address: u8, command: u8, data: &[u8]) -> Vec<u8> {
     let mut bytes = vec![HEADER, address, (data.len() as u8) << 4 | command & 0x0F];
     bytes.extend_from_slice(data);
     bytes.push(packet_sum(rules, &bytes));

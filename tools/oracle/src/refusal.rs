@@ -1,4 +1,5 @@
-//! "Numbers returned": the one table of numbers that every call answers with.
+//! "Numbers returned": the one table of numbers that every call answers with,
+//! and the number that request 1 adds.
 
 /// A call was done; also the number of a chain that stayed silent.
 pub const DONE: u8 = 0;
@@ -34,6 +35,7 @@ refusals! {
     NoSuchNode = 10,
     LeaderForbidden = 11,
     SessionClosed = 12,
+    NotAHexLine = 14,
 }
 
 impl Refusal {

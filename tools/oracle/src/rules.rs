@@ -1,8 +1,9 @@
 //! The rules the model goes by, and the seeded mistakes.
 //!
 //! A judge is worth as much as it notices. Every `Mistake` is one plausible
-//! wrong reading of document 01; the tests switch them on one at a time and
-//! demand that the stored cases or the simulation of demand 3 notice it.
+//! wrong reading of document 01, or of a request of document 02; the tests
+//! switch them on one at a time and demand that the stored cases or the
+//! simulation of demand 3 notice it.
 //! Outside the tests `Rules` has one value, the right one, and `slips` is
 //! always false.
 
@@ -128,6 +129,50 @@ mistakes! {
     BrokenLineFills: "a malformed line fills the buffer up to where it breaks",
     LookPastRecord: "a look past node 31 shows the last entry",
     LookAsksClosed: "a look at a session that counts as closed gives 12",
+    // Sheets, imported.
+    LowerDigitsRefused: "lower-case digits in a sheet are refused",
+    OneDigitRefused: "a number of one digit in a sheet is refused",
+    ThreeDigitsTaken: "a number of three digits in a sheet is taken",
+    LettersPastF: "G in a sheet is taken for 16",
+    LowerWordTaken: "the word HEX is taken in lower case",
+    WordLeftOut: "a line without the word HEX is taken",
+    TwoSpacesTaken: "two spaces in a sheet are taken for one",
+    SpaceBeforeTaken: "a space before the word HEX is taken",
+    SpaceBehindTaken: "a space behind a line's last number is taken",
+    TabTaken: "a tab in a sheet is taken for a space",
+    ReturnTaken: "a carriage return before the newline is taken",
+    BlankLineSkipped: "a blank line in a sheet is skipped",
+    WordAloneSkipped: "a line with the word HEX alone is skipped",
+    DataUncounted: "a sheet's data bytes are not counted",
+    Data15Refused: "a line with 15 data bytes is refused",
+    GroupLineRefused: "a line to a group is refused",
+    EmptySheetRefused: "an empty sheet is refused",
+    UnendedLineRefused: "a sheet's last line is refused without its newline",
+    LinesFromZero: "a sheet's lines are numbered from 0",
+    LastFaultNumbered: "14 has the last line at fault with it",
+    SheetOf65536Refused: "a sheet of 65,536 bytes is refused",
+    SheetOf65537Taken: "a sheet of 65,537 bytes is taken",
+    LinesBeforeLength: "14 is tested before 6",
+    RoomBeforeLines: "an import gives 5 before 14",
+    ImportSpills: "a refused import leaves the packets that come before",
+    // Sheets, exported.
+    ExportsOneDigit: "export writes numbers below 0x10 with one digit",
+    ExportsLowerCase: "export writes lower-case digits",
+    ExportsUnended: "the last exported line lacks its newline",
+    ExportsSum: "export writes the sum too",
+    ExportGives3: "export gives 3 for what follows the first packet",
+    ExportGives6: "an export longer than 64 KiB gives 6",
+    CutPacketLeftOut: "export leaves out a packet that the list's end cuts short",
+    DamagedLeftOut: "export leaves out packets with a wrong sum",
+    RoomBeforePackets: "an export gives 5 before 1, 2, 4",
+    ExportSpills: "a refused export leaves the lines that come before",
+    // The programs `import`, `export` and `play`.
+    PacketsFromZero: "the program export numbers packets from 0",
+    ListOf65537Looked: "the program export looks at packets before their length",
+    SheetBeforeCount: "play looks at the sheet before the count",
+    CountLineNumbered: "play numbers its first line among the sheet's",
+    CountLineMeasured: "play measures its first line with the sheet",
+    LongTextPlayed: "play hands the bench program more than 64 KiB",
 }
 
 /// The rules in force: the right ones, or in tests the right ones but one.

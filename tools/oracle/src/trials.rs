@@ -1,5 +1,7 @@
 //! The answers of the `trials` program: one line in, one line out.
 
+pub mod sheets;
+
 use crate::chain::{deliver, Delivery};
 use crate::command::Command;
 use crate::hex;
@@ -72,6 +74,10 @@ impl Trials {
             0x36 => self.silence(line),
             0x37 => self.show(line),
             0x38 => self.hand_in(line),
+            0x40 => sheets::import(self.rules, line),
+            0x41 => sheets::export(self.rules, line),
+            0x42 => sheets::long_import(self.rules, line),
+            0x43 => sheets::long_export(self.rules, line),
             _ => None,
         }
     }

@@ -1,7 +1,9 @@
 -- The invariant: no packet is empty, so that there were no more of them than bytes.
 use Prim.Native.Nat.{_≤_, _-_, _+_}
 use borrow.Author.Needs.{needs}
+use native.Mathlib.Omega.{arith}
 use lib.ListN.{length}
+use Rattle.sheet.proofs.Cutting.{packet-within, packet-less, packet-count}
 use Rattle.export.proofs.first_fault.Statement.{statement}
 use Rattle.export.proofs.first_fault.Tie as tie
 
@@ -20,11 +22,12 @@ first-fault-spec =
     (λ c. search needs)
     (λ c κs. search needs)
     (λ c κs. search needs)
+    (λ c κs. search needs)
     (λ c. search needs)
     (λ c. search needs)
     (λ c. search needs)
-    (λ c. search needs)
-    (λ c. search needs)
-    (λ c. search needs)
-    (λ c. search needs)
+    (λ c. omega arith)
+    (λ c. omega arith)
+    (λ c. search packet-less)
+    (λ c. (search packet-within, search packet-count))
     (λ c. search needs))

@@ -1,8 +1,10 @@
 //! Every seeded mistake is noticed, and README.md says where.
 
+use super::fingerprint;
 use crate::cases::{self, line_names};
+use crate::cases_sheets::{self, further_exports, further_imports, further_plays, Named};
 use crate::rules::{Mistake, Rules, ALL};
-use crate::{bench, cases_bench, cases_trials, demand3, edges, trials};
+use crate::{bench, cases_bench, cases_trials, demand3, edges, export, import, play, trials};
 
 /// The seed and the steps of demand 3 that each mistake is tried on.
 const DEMAND3: (u64, usize) = (1, 12_000);
@@ -65,6 +67,54 @@ fn edges_calls() -> Tried {
     Tried::new(Vec::new(), names, |rules, _| edges::run(rules))
 }
 
+/// A program whose answer is bytes, or the line that a refusal is told by.
+type Program = fn(Rules, &[u8]) -> Result<Vec<u8>, String>;
+
+/// The programs for sheets, each with its stored input and the further ones.
+fn sheet_programs() -> Vec<(&'static str, Program, Vec<Named>)> {
+    let stored = |input, further| [vec![("stored", input)], further].concat();
+    vec![
+        (
+            "import",
+            import::run,
+            stored(cases_sheets::import(), further_imports()),
+        ),
+        (
+            "export",
+            export::run,
+            stored(cases_sheets::export(), further_exports()),
+        ),
+        (
+            "play",
+            play::run,
+            stored(cases_sheets::play(), further_plays()),
+        ),
+    ]
+}
+
+/// One answer for each of their inputs, told by its fingerprint.
+fn sheet_answers(rules: Rules) -> String {
+    let mut text = String::new();
+    for (_, run, inputs) in sheet_programs() {
+        for (_, input) in inputs {
+            text += &match run(rules, &input) {
+                Ok(bytes) => format!("{:016X}\n", fingerprint(&bytes)),
+                Err(complaint) => format!("{complaint}\n"),
+            };
+        }
+    }
+    text
+}
+
+/// Their inputs, named by program and input.
+fn sheet_inputs() -> Tried {
+    let mut names = Vec::new();
+    for (program, _, inputs) in sheet_programs() {
+        names.extend(inputs.iter().map(|(name, _)| format!("{program}, {name}")));
+    }
+    Tried::new(Vec::new(), names, |rules, _| sheet_answers(rules))
+}
+
 fn in_demand3(rules: Rules) -> bool {
     demand3::run(rules, DEMAND3.0, DEMAND3.1).is_err()
 }
@@ -78,16 +128,18 @@ fn cell(found: &Option<(usize, String)>) -> String {
 
 /// The table of README.md.
 fn table() -> String {
-    let (bench, trials, edges) = (bench_inputs(), trials_input(), edges_calls());
+    let (bench, trials) = (bench_inputs(), trials_input());
+    let (edges, sheets) = (edges_calls(), sheet_inputs());
     let mut text = String::new();
     for (mistake, meaning) in ALL {
         let rules = Rules::with(*mistake);
         let in_bench = bench.iter().find_map(|tried| tried.differences(rules));
         text += &format!(
-            "| {meaning} | {} | {} | {} | {} |\n",
+            "| {meaning} | {} | {} | {} | {} | {} |\n",
             cell(&in_bench),
             cell(&trials.differences(rules)),
             cell(&edges.differences(rules)),
+            cell(&sheets.differences(rules)),
             if in_demand3(rules) { "yes" } else { "-" }
         );
     }
@@ -99,7 +151,7 @@ fn table() -> String {
 fn every_mistake_is_noticed() {
     let table = table();
     for row in table.lines() {
-        assert!(!row.ends_with("| - | - | - | - |"), "unnoticed: {row}");
+        assert!(!row.ends_with("| - | - | - | - | - |"), "unnoticed: {row}");
     }
     let readme = include_str!("../../README.md");
     assert!(

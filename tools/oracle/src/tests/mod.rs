@@ -4,6 +4,7 @@ mod examples;
 mod mistakes;
 mod programs;
 mod properties;
+mod sheets;
 mod stored;
 
 use crate::rules::Rules;
@@ -21,4 +22,11 @@ fn answers(lines: &[&str]) -> Vec<String> {
 /// The right answer to the last of some lines.
 fn last_answer(lines: &[&str]) -> String {
     answers(lines).pop().expect("at least one line")
+}
+
+/// The FNV-1a hash.
+fn fingerprint(bytes: &[u8]) -> u64 {
+    bytes.iter().fold(0xCBF2_9CE4_8422_2325, |hash, byte| {
+        (hash ^ u64::from(*byte)).wrapping_mul(0x0000_0100_0000_01B3)
+    })
 }

@@ -12,6 +12,7 @@ use crate::prng::Prng;
 use crate::refusal::Refusal;
 use crate::rules::Rules;
 use crate::status;
+use crate::trials::sheets::sums;
 use crate::trials::Trials;
 
 const RIGHT: Rules = Rules::RIGHT;
@@ -120,6 +121,17 @@ fn keeps_what_was_lent(line: &[u8], answer: &[u8]) -> bool {
                 && answer[2..2 + room].iter().all(|byte| *byte == 0x55)
                 && *records == bytes[3..3 + records.len()]
         }
+        // An import's or export's value says no length.
+        Some(0x40 | 0x41) if answer.len() > 1 => {
+            let only_line = answer[0] == 14 || answer[1..3] == [0, 0];
+            only_line && answer[3..].iter().all(|byte| *byte == 0x55)
+        }
+        Some(0x42 | 0x43) if answer.len() > 1 => {
+            let only_line = answer[0] == 14 || answer[1..4] == [0, 0, 0];
+            let room = usize::from(bytes[1]) | usize::from(bytes[2]) << 8;
+            let lent = vec![0x55; room | usize::from(bytes[3]) << 16];
+            only_line && answer[4..] == sums(&lent)
+        }
         _ => answer[1..].iter().all(|byte| *byte == 0x55),
     }
 }
@@ -144,6 +156,8 @@ fn numbers_keep_to_their_calls() {
                 Some(0x34) => &[0, 5, 6, 7, 9, 10, 11, 12],
                 Some(0x35 | 0x36) => &[0, 8],
                 Some(0x37 | 0x38) => &[0],
+                Some(0x40 | 0x42) => &[0, 5, 6, 14],
+                Some(0x41 | 0x43) => &[0, 1, 2, 4, 5],
                 _ => &[],
             };
             assert!(number == 0xFF || own.contains(&number), "{call:02X?}");

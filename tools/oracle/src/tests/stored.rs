@@ -1,15 +1,16 @@
 //! The stored cases and the generators: size, coverage, stability.
 
+use super::fingerprint;
 use crate::case;
 use crate::cases::{self, MOST_STORED};
 use crate::cases_bench::further_inputs;
 use crate::command::COMMAND_BYTES;
 use crate::coverage::{answerable, Coverage};
-use crate::hex::MOST_INPUT;
+use crate::hex::{self, MOST_INPUT};
 use crate::layout::NODE_BYTES;
 use crate::manuals::{self, DOCUMENTS, PRINTED, PRINTED_STATUS};
 use crate::node::{BenchValues, Node};
-use crate::{layout, make_bench, make_trials};
+use crate::{cases_sheets, layout, make_bench, make_play, make_sheets, make_trials};
 
 #[test]
 fn the_stored_inputs_fit() {
@@ -65,29 +66,46 @@ fn made_inputs_cover_and_fit() {
     }
 }
 
+/// Most lines of a made input are the host's calls, whatever else it tries.
+#[test]
+fn made_inputs_are_mostly_the_hosts() {
+    for seed in 0..20 {
+        let input = make_trials::make(seed, 1500);
+        let lines = hex::lines(&input);
+        let of_host = lines.iter().filter(|line| line.starts_with(b"3"));
+        assert!(of_host.count() * 100 >= lines.len() * 70, "seed {seed}");
+        assert!(lines.len() >= 900, "seed {seed}: {} lines", lines.len());
+    }
+}
+
 /// A seed gives the same input on every machine, today and later.
 #[test]
 fn made_inputs_are_stable() {
     let sums = [
         fingerprint(&make_bench::make(1, 300)),
         fingerprint(&make_trials::make(1, 300)),
+        fingerprint(&make_sheets::make_import(1, 300)),
+        fingerprint(&make_sheets::make_export(1, 300)),
+        fingerprint(&make_play::make(1, 300)),
         fingerprint(&cases::bench()),
         fingerprint(&cases::trials()),
+        fingerprint(&cases_sheets::import()),
+        fingerprint(&cases_sheets::export()),
+        fingerprint(&cases_sheets::play()),
     ];
     let expected = [
         0xAE94_4990_69F4_38FE,
-        0xFE08_241C_7849_446D,
+        0xC42E_C7D2_4871_AEBB,
+        0xDF8F_A4B1_9618_979E,
+        0x0EED_5718_76AB_3719,
+        0xAC5C_F32A_EF54_E2A0,
         0xFBDD_5CCB_C99E_36CA,
-        0x5193_8B76_F222_4C62,
+        0x5CED_BA5F_45CB_76EF,
+        0xE8E1_26BD_0890_90B0,
+        0x96CB_430D_A3BA_0619,
+        0xC638_55EC_D4C2_B67A,
     ];
     assert_eq!(sums, expected, "{sums:#018X?}");
-}
-
-/// The FNV-1a hash.
-fn fingerprint(bytes: &[u8]) -> u64 {
-    bytes.iter().fold(0xCBF2_9CE4_8422_2325, |hash, byte| {
-        (hash ^ u64::from(*byte)).wrapping_mul(0x0000_0100_0000_01B3)
-    })
 }
 
 /// The packets that are wrong in print: where, and what reading gives.

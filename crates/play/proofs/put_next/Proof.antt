@@ -1,0 +1,18 @@
+-- A packet isn't empty, and lies within the list.
+use borrow.Author.Needs.{needs}
+use Rattle.sheet.proofs.Cutting.{packet-on, packet-within}
+use Rattle.play.proofs.put_next.Statement.{statement}
+use Rattle.play.proofs.put_next.Tie as tie
+
+pub put-next-spec : {M : Type 1} → statement M
+put-next-spec =
+    tie.close
+    (tie.spec
+    (λ c κs. search needs)
+    (λ c κs. search needs)
+    (λ c. search needs)
+    (λ c. search needs)
+    (λ c κs. search needs)
+    (λ c. search needs)
+    (λ c. search needs)
+    (λ c. (search packet-on, search packet-within)))

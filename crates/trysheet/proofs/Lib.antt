@@ -1,0 +1,4 @@
+mod Summing
+mod Copying
+mod Tries
+pub mod Unique

@@ -1,0 +1,22 @@
+-- The room is within the buffer; what lies in it is lent.
+use borrow.Author.Needs.{needs}
+use Rattle.fields.proofs.Fields.{room-fits}
+use Rattle.trysheet.proofs.Tries.{imports, imports-not}
+use Rattle.trysheet.proofs.import.Statement.{statement}
+use Rattle.trysheet.proofs.import.Tie as tie
+
+pub import-spec : {M : Type 1} → statement M
+import-spec =
+    tie.close
+    (tie.spec
+    (λ c κs. search needs)
+    (λ c κs. search needs)
+    (λ c κs. search needs)
+    (λ c κs. search needs)
+    (λ c. search needs)
+    (λ c. search needs)
+    (λ c. search room-fits)
+    (λ c κs. search needs)
+    (λ c. search imports)
+    (λ c κs. search needs)
+    (λ c. search imports-not))

@@ -1,11 +1,14 @@
-//! Before anything is timed: ours and plain Rust read and write sheets alike,
-//! byte for byte, with the same refusals, and leave alone what they must.
+//! Before anything is timed: ours, plain Rust and the independent program read
+//! and write sheets alike, byte for byte, with the same refusals, and leave
+//! alone what they must.
 
 use oracle::prng::Prng;
+use oracle::rules::Rules;
+use oracle::sheet;
 
 use crate::check::Outcome;
-use crate::plain_sheet::{self, Refused};
-use crate::sides::{Convert, EXPORTS, IMPORTS, SHEETS};
+use crate::plain_sheet::Refused;
+use crate::sides::{seeds, Convert, EXPORTS, IMPORTS, SHEETS};
 use crate::{work, SEED};
 
 /// Seeded sheets and lists of packets, whole or spoilt, with every kind of room;
@@ -18,8 +21,8 @@ pub fn all(count: u64) -> Outcome {
             let sheet = spoilt(&mut prng, work::sheet(1, seed), b"0fG HEXx\n\r\t");
             alike(name, import, wanted_import, &sheet)?;
         }
-        for size in SHEETS {
-            alike(name, import, wanted_import, &work::sheet(size, SEED))?;
+        for (size, seed) in timed() {
+            alike(name, import, wanted_import, &work::sheet(size, seed))?;
         }
         alike(name, import, wanted_import, &too_long)?;
     }
@@ -29,22 +32,31 @@ pub fn all(count: u64) -> Outcome {
             let packets = spoilt(&mut prng, work::packets(1, seed).0, b"\xAA\x00\x0E\x1E\xFE");
             alike(name, export, wanted_export, &packets)?;
         }
-        for size in SHEETS {
-            alike(name, export, wanted_export, &work::packets(size, SEED).0)?;
+        for (size, seed) in timed() {
+            alike(name, export, wanted_export, &work::packets(size, seed).0)?;
         }
     }
     Ok(())
 }
 
-/// What an import must answer and leave: plain Rust's answer, so that the two
-/// sides are held to each other.
+/// The sizes and seeds that are timed.
+fn timed() -> impl Iterator<Item = (usize, u64)> {
+    SHEETS
+        .into_iter()
+        .flat_map(|size| seeds(size).map(move |seed| (size, seed)))
+}
+
+/// What an import must answer and leave, as the independent program has it.
 fn wanted_import(sheet: &[u8], out: &mut [u8]) -> Result<usize, Refused> {
-    plain_sheet::import(sheet, out)
+    sheet::import(Rules::RIGHT, sheet, out).map_err(|refused| Refused {
+        number: refused.refusal.number(),
+        line: refused.line,
+    })
 }
 
 /// The same of an export.
 fn wanted_export(packets: &[u8], out: &mut [u8]) -> Result<usize, Refused> {
-    plain_sheet::export(packets, out)
+    sheet::export(Rules::RIGHT, packets, out).map_err(|refusal| Refused::with(refusal.number()))
 }
 
 /// Cut anywhere, and then, half the time, with a byte changed to a telling one.

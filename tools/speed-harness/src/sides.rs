@@ -185,7 +185,7 @@ fn export(side: (&'static str, Convert), size: usize) -> Side {
 
 /// A MiB of sheets in each pass, whatever their size, and no two alike: of the
 /// same few a processor soon guesses every branch.
-fn seeds(size: usize) -> Range<u64> {
+pub fn seeds(size: usize) -> Range<u64> {
     SEED..SEED + 1024 / size as u64
 }
 

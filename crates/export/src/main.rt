@@ -10,20 +10,20 @@ ghost use Prim.Native.Nat.{_+_, _≤_, _<_};
 ghost use lib.ListN.{length};
 
 // The most bytes of packets.
-const MOST: usize = 65536;
+const MOST_PACKETS: usize = 65536;
 
 // Room for them, and for one byte more, which tells that they are more.
-fn packets_room() -> [u8; MOST + 1]
+fn packets_room() -> [u8; MOST_PACKETS + 1]
     ensures { λ r. ⌜ 65537 ≡ length r ⌝ }
 {
-    [0; MOST + 1]
+    [0; MOST_PACKETS + 1]
 }
 
-// Room for their sheet: a line has three characters for each byte of its packet, less two.
-fn sheet_room() -> [u8; 3 * MOST]
+// Room for their sheet: a line has three characters for each byte of its packet, less two (sheet/proofs/Lengths).
+fn sheet_room() -> [u8; 3 * MOST_PACKETS]
     ensures { λ r. ⌜ 196608 ≡ length r ⌝ }
 {
-    [0; 3 * MOST]
+    [0; 3 * MOST_PACKETS]
 }
 
 // The number of the first packet that doesn't read, from 1.
@@ -62,7 +62,7 @@ fn main() {
     let mut input = packets_room();
     let mut sheet = sheet_room();
     let n = io::read_full(STDIN_FILENO, &mut input);
-    if MOST < n {
+    if MOST_PACKETS < n {
         say(b"more than 64 KiB of packets\n");
         return;
     }

@@ -13,7 +13,7 @@ fn sheet_room() -> [u8; sheet::MOST + 1]
     [0; sheet::MOST + 1]
 }
 
-// Room for the packets of any sheet: a packet has fewer bytes than its line.
+// Room for the packets of any sheet: a packet is no longer than its line (sheet/proofs/Lengths).
 fn packets_room() -> [u8; sheet::MOST]
     ensures { λ r. ⌜ 65536 ≡ length r ⌝ }
 {

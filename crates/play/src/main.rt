@@ -12,10 +12,10 @@ ghost use Prim.Native.Nat.{_+_, _≤_, _<_};
 ghost use lib.ListN.{length};
 
 // The bench's longest input.
-const MOST: usize = 65536;
+const MOST_SCRIPT: usize = 65536;
 
 // The most bytes of packets that it has room for: a line has three characters for each byte, and the count's line has at most three.
-const MOST_BYTES: usize = (MOST - 3) / 3;
+const MOST_BYTES: usize = (MOST_SCRIPT - 3) / 3;
 
 // Room for the count's line, the longest sheet, and one byte more, which tells that it is longer.
 fn input_room() -> [u8; 3 + sheet::MOST + 1]
@@ -24,7 +24,7 @@ fn input_room() -> [u8; 3 + sheet::MOST + 1]
     [0; 3 + sheet::MOST + 1]
 }
 
-// Room for the packets of any sheet: a packet has fewer bytes than its line.
+// Room for the packets of any sheet: a packet is no longer than its line (sheet/proofs/Lengths).
 fn packets_room() -> [u8; sheet::MOST]
     ensures { λ r. ⌜ 65536 ≡ length r ⌝ }
 {
@@ -32,10 +32,10 @@ fn packets_room() -> [u8; sheet::MOST]
 }
 
 // Room for the bench's longest input.
-fn script_room() -> [u8; MOST]
+fn script_room() -> [u8; MOST_SCRIPT]
     ensures { λ r. ⌜ 65536 ≡ length r ⌝ }
 {
-    [0; MOST]
+    [0; MOST_SCRIPT]
 }
 
 // Room for its longest output (script/proofs/Bound).

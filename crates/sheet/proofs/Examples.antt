@@ -1,13 +1,20 @@
--- Each sheet of the table comes to what the table says.
-use mathlib.Core.List.{List, map}
+-- Each sheet and each list of the tables comes to what the table says.
+use mathlib.Core.List.{map}
 use mathlib.Core.Path.{_≡_, refl}
-use Rattle.buffer.specs.Sum.{total}
+use Rattle.buffer.specs.Sum.{total, endsInSum}
+use Rattle.packet.specs.Packet.{frontOf, frameOf, isIntact, readOf}
 use Rattle.text.specs.Lines.{linesOf}
-use Rattle.hex.specs.Digits.{digitOf}
+use Rattle.hex.specs.Digits.{digitOf, characterOf}
+use Rattle.hex.specs.Hex.{hexRest}
 use Rattle.sheet.specs.Line.{startsHex, eitherDigit, lineIn}
 use Rattle.sheet.specs.Sheet.{packetsIn}
-use Rattle.sheet.specs.Example.{Sheet, printed}
+use Rattle.sheet.specs.Packets.{packetsOf, sheetOf}
+use Rattle.sheet.specs.Example.{Sheet, imports, Packets, exports}
 
-pub examples : map (λ (e : Sheet). packetsIn (linesOf (e .text))) printed ≡ map (λ (e : Sheet). e .comes) printed
+pub imported : map (λ (e : Sheet). packetsIn (linesOf (e .text))) imports ≡ map (λ (e : Sheet). e .comes) imports
 unfolding total digitOf startsHex eitherDigit lineIn packetsIn
-examples = refl
+imported = refl
+
+pub exported : map (λ (e : Packets). sheetOf (packetsOf (e .packets))) exports ≡ map (λ (e : Packets). e .comes) exports
+unfolding total endsInSum frontOf frameOf isIntact readOf characterOf hexRest sheetOf
+exported = refl

@@ -1,20 +1,22 @@
 -- What imports is of the form, and conversely; the number of a line at fault is that of the first.
-use Prim.Native.Nat.{ℕ, suc, _+_, _*_, _/_, _≤_, _<_}
+use Prim.Native.Nat.{ℕ, suc, _+_, _-_, _*_, _/_, _≤_, _<_}
 use mathlib.Core.Bool.{Bool, true, false, not, cond, false≢true}
 use mathlib.Core.List.{List, [], _∷_, _++_}
-use mathlib.Core.Path.{_≡_, refl, sym, ap, _∙_}
+use mathlib.Core.Path.{_≡_, refl, sym, ap, _∙_, subst}
 use native.Mathlib.Omega.{arith}
 use native.Mathlib.Nat.{not-suc-le-zero}
 use lib.Dec.{eqb, ltb}
 use lib.ListN.{length, drop, getD}
-use borrow.Author.Tests.{le-ltb, ltb-true, ltb-false, eq-eqb, eqb-true, ne-eqb, not-false}
+use borrow.Author.Tests.{lt-ltb, le-ltb, ltb-true, ltb-false, eq-eqb, eqb-true, ne-eqb, not-false}
 use Rattle.wire.proofs.Choice.{chose-first, chose-second}
 use Rattle.wire.proofs.Impossible.{impossible}
 use Rattle.text.specs.Lines.{grown}
+use Rattle.hex.specs.Digits.{digitOf, characterOf}
 use Rattle.hex.specs.Hex.{space, Content, bytes, malformed, before}
+use Rattle.hex.proofs.Meaning.{digit-char, char-digit}
 use Rattle.sheet.specs.Line.{hexWord, startsHex, eitherDigit, byteIn, numeralsOf, numeralBytes, lineIn}
 use Rattle.sheet.specs.Sheet.{Made, made, fault, sheetPacket, onLine, packetsIn}
-use Rattle.sheet.specs.Form.{NumeralForm, one, two, NumeralsForm, last, more, LineForm, SheetForm, end, next, FirstFault, here, later}
+use Rattle.sheet.specs.Form.{DigitForm, decimal, capital, small, NumeralForm, one, two, NumeralsForm, last, more, LineForm, SheetForm, end, next, FirstFault, here, later}
 use Rattle.sheet.proofs.Numerals.{digit-no-space, one-says, two-says}
 use Rattle.sheet.proofs.Said.{not-bytes, Spoken, line-spoken}
 
@@ -58,19 +60,66 @@ spaced-numerals (b ∷ s) = by-space (eqb b space) refl (spaced-numerals s)
 no-byte : {A : Type 0} → 256 < 256 → A
 no-byte h = absurd (let z : ⊥ = omega arith in z)
 
--- "One or two hex digits"
+-- ---- a digit
+
+-- the capital digit of a value
+pub value-form : (v : ℕ) → v < 16 → DigitForm (characterOf v) v
+unfolding characterOf
+value-form v h = by-test (ltb v 10) refl
+  where
+    by-test : (t : Bool) → ltb v 10 ≡ t → DigitForm (cond t (48 + v) (55 + v)) v
+    by-test true e = decimal v (ltb-true v 10 e)
+    by-test false e = capital v (ltb-false v 10 e) h
+
+-- the character of a value, if it is a letter
+letter : (v b : ℕ) → 65 ≤ b → characterOf v ≡ b → v < 16 → (10 ≤ v) × (b ≡ 55 + v)
+unfolding characterOf
+letter v b h e k = by-test (ltb v 10) refl e
+  where
+    by-test : (t : Bool) → ltb v 10 ≡ t → cond t (48 + v) (55 + v) ≡ b → (10 ≤ v) × (b ≡ 55 + v)
+    by-test true f e = absurd (let x : v < 10 = ltb-true v 10 f in let z : ⊥ = omega arith in z)
+    by-test false f e = (ltb-false v 10 f, sym e)
+
+-- what has a value is a digit
+digit-form : (a : ℕ) → eitherDigit a < 16 → DigitForm a (eitherDigit a)
+unfolding eitherDigit
+digit-form a h = by-case (ltb a 97) refl h
+  where
+    by-case : (t : Bool) → ltb a 97 ≡ t → cond t (digitOf a) (digitOf (a - 32)) < 16 → DigitForm a (cond t (digitOf a) (digitOf (a - 32)))
+    by-case true e h = subst (λ (b : ℕ). DigitForm b (digitOf a)) (char-digit a (omega arith)) (value-form (digitOf a) h)
+    by-case false e h =
+        let k : 97 ≤ a = ltb-false a 97 e in
+        let c = letter (digitOf (a - 32)) (a - 32) (omega arith) (char-digit (a - 32) (omega arith)) h in
+        let z : 87 + digitOf (a - 32) ≡ a = omega (arith, c .1) in
+        subst (λ (b : ℕ). DigitForm b (digitOf (a - 32))) z (small (digitOf (a - 32)) (c .0) h)
+
+-- and a digit has its value
+char-value : (v : ℕ) → v < 16 → digitOf (cond (ltb v 10) (48 + v) (55 + v)) ≡ v
+unfolding characterOf
+char-value v h = digit-char v h
+
+pub form-digit : {a v : ℕ} → DigitForm a v → (eitherDigit a ≡ v) × (v < 16)
+unfolding eitherDigit
+form-digit (decimal v h) = (rw (lt-ltb (48 + v) 97 (omega arith)) (rw (lt-ltb v 10 h) at (char-value v (omega arith))), omega arith)
+form-digit (capital v h k) = (rw (lt-ltb (55 + v) 97 (omega arith)) (rw (le-ltb v 10 h) at (char-value v k)), k)
+form-digit (small v h k) =
+    let z : 87 + v - 32 ≡ 55 + v = omega arith in
+    (rw (le-ltb (87 + v) 97 (omega arith), z) (rw (le-ltb v 10 h) at (char-value v k)), k)
+
+-- ---- a numeral
+
 numeral-form : (w : List ℕ) → byteIn w < 256 → NumeralForm w (byteIn w)
 numeral-form [] h = no-byte h
 numeral-form (a ∷ []) h = by-digit (ltb (eitherDigit a) 16) refl h
   where
     by-digit : (t : Bool) → ltb (eitherDigit a) 16 ≡ t → cond t (eitherDigit a) 256 < 256 → NumeralForm (a ∷ []) (cond t (eitherDigit a) 256)
-    by-digit true e h = one a (ltb-true (eitherDigit a) 16 e)
+    by-digit true e h = one (digit-form a (ltb-true (eitherDigit a) 16 e))
     by-digit false e h = no-byte h
 numeral-form (a ∷ b ∷ []) h = by-digits (ltb (eitherDigit a) 16) (ltb (eitherDigit b) 16) refl refl h
   where
     by-digits : (t u : Bool) → ltb (eitherDigit a) 16 ≡ t → ltb (eitherDigit b) 16 ≡ u → cond t (cond u (eitherDigit a * 16 + eitherDigit b) 256) 256 < 256
         → NumeralForm (a ∷ b ∷ []) (cond t (cond u (eitherDigit a * 16 + eitherDigit b) 256) 256)
-    by-digits true true e f h = two a b (ltb-true (eitherDigit a) 16 e) (ltb-true (eitherDigit b) 16 f)
+    by-digits true true e f h = two (digit-form a (ltb-true (eitherDigit a) 16 e)) (digit-form b (ltb-true (eitherDigit b) 16 f))
     by-digits true false e f h = no-byte h
     by-digits false u e f h = no-byte h
 numeral-form (a ∷ b ∷ c ∷ w) h = no-byte h
@@ -100,19 +149,28 @@ spoken-form s d e = go (numeralsOf s) (spaced-numerals s) (some-numeral s) e
 
 -- ---- and what is of the form is read
 
-digit-small : (a : ℕ) → eitherDigit a < 16 → eitherDigit a ≤ 15
-digit-small a h = omega arith
+no-space : {a v : ℕ} → DigitForm a v → eqb a space ≡ false
+no-space {a} f = ne-eqb a space (digit-no-space a (omega (arith, form-digit f .0, form-digit f .1)))
 
-no-space : (a : ℕ) → eitherDigit a < 16 → eqb a space ≡ false
-no-space a h = ne-eqb a space (digit-no-space a (digit-small a h))
+one-reads : {a v : ℕ} → DigitForm a v → (ws : List (List ℕ)) → numeralBytes ((a ∷ []) ∷ ws) ≡ before v (numeralBytes ws)
+one-reads {a} f ws =
+    let k = form-digit f in
+    one-says a ws (omega (arith, k .0, k .1)) ∙ ap (λ (x : ℕ). before x (numeralBytes ws)) (k .0)
+
+two-reads : {a b v w : ℕ} → DigitForm a v → DigitForm b w → (ws : List (List ℕ)) → numeralBytes ((a ∷ b ∷ []) ∷ ws) ≡ before (v * 16 + w) (numeralBytes ws)
+two-reads {a} {b} {v} f g ws =
+    let k = form-digit f in
+    let l = form-digit g in
+    two-says a b ws (omega (arith, k .0, k .1)) (omega (arith, l .0, l .1))
+    ∙ ap (λ (x : ℕ). before (x * 16 + eitherDigit b) (numeralBytes ws)) (k .0)
+    ∙ ap (λ (x : ℕ). before (v * 16 + x) (numeralBytes ws)) (l .0)
 
 form-spoken : {s d : List ℕ} → NumeralsForm s d → numeralBytes (numeralsOf s) ≡ bytes d
-form-spoken (last (one a h)) = rw (no-space a h) (one-says a [] (digit-small a h))
-form-spoken (last (two a b h k)) = rw (no-space a h, no-space b k) (two-says a b [] (digit-small a h) (digit-small b k))
-form-spoken (more {s = s} (one a h) f) = rw (no-space a h) (one-says a (numeralsOf s) (digit-small a h) ∙ ap (before (eitherDigit a)) (form-spoken f))
-form-spoken (more {s = s} (two a b h k) f) =
-    rw (no-space a h, no-space b k)
-    (two-says a b (numeralsOf s) (digit-small a h) (digit-small b k) ∙ ap (before (eitherDigit a * 16 + eitherDigit b)) (form-spoken f))
+form-spoken (last (one f)) = rw (no-space f) (one-reads f [])
+form-spoken (last (two f g)) = rw (no-space f, no-space g) (two-reads f g [])
+form-spoken (more {s = s} (one {v = v} f) g) = rw (no-space f) (one-reads f (numeralsOf s) ∙ ap (before v) (form-spoken g))
+form-spoken (more {s = s} (two {v = v} {w = w} f h) g) =
+    rw (no-space f, no-space h) (two-reads f h (numeralsOf s) ∙ ap (before (v * 16 + w)) (form-spoken g))
 
 -- ---- a line
 

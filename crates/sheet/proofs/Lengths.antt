@@ -1,4 +1,4 @@
--- How much room is enough: a sheet's packets are never longer than the sheet, and a list's sheet is shorter than three times the list.
+-- How much room is enough: a sheet's packets are never longer than the sheet, and a list's sheet is no longer than three times the list.
 use Prim.Native.Nat.{ℕ, suc, _+_, _*_, _≤_}
 use mathlib.Core.Bool.{Bool, true, false, cond}
 use mathlib.Core.List.{List, [], _∷_, _++_}
@@ -18,10 +18,10 @@ use Rattle.sheet.proofs.Forms.{sheet-formed}
 
 -- a numeral has a character, and each but the last a space behind it
 numerals-long : {s d : List ℕ} → NumeralsForm s d → 2 * length d ≤ length s + 1
-numerals-long (last (one a h)) = omega arith
-numerals-long (last (two a b h k)) = omega arith
-numerals-long (more (one a h) f) = omega (arith, numerals-long f)
-numerals-long (more (two a b h k) f) = omega (arith, numerals-long f)
+numerals-long (last (one f)) = omega arith
+numerals-long (last (two f g)) = omega arith
+numerals-long (more (one f) r) = omega (arith, numerals-long r)
+numerals-long (more (two f g) r) = omega (arith, numerals-long r)
 
 -- a packet is no longer than its line
 line-room : {l d : List ℕ} → LineForm l d → length (sheetPacket d) ≤ length l

@@ -8,6 +8,7 @@ pub mod Cutting
 mod Exports
 pub mod Forms
 pub mod Trips
+pub mod Misreads
 pub mod Lengths
 pub mod Refusals
 pub mod Examples

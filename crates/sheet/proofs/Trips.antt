@@ -8,7 +8,7 @@ use native.Mathlib.Nat.{not-suc-le-zero}
 use lib.Dec.{ltb}
 use lib.ListN.{length, take, drop, getD, length-append, length-take, length-drop, List·getD-append}
 use lib.Seq.{getD-take, getD-drop, take-at, drop-at, take-append-seam}
-use borrow.Author.Tests.{lt-ltb, le-ltb, ltb-true, ltb-false}
+use borrow.Author.Tests.{le-ltb}
 use Rattle.wire.specs.Promise.{Outcome}
 use Rattle.wire.specs.Numbers.{done}
 use Rattle.wire.specs.Address.{addressOf, byteOf}
@@ -32,8 +32,7 @@ use Rattle.text.specs.Lines.{newline, linesOf}
 use Rattle.text.proofs.Meaning.{Plain, lines-ended}
 use Rattle.hex.specs.Digits.{characterOf}
 use Rattle.hex.specs.Hex.{space, hexPair, hexRest, hexText, hexLine, bytes}
-use Rattle.hex.proofs.Meaning.{digit-char}
-use Rattle.sheet.specs.Line.{hexWord, eitherDigit, lineIn}
+use Rattle.sheet.specs.Line.{hexWord, lineIn}
 use Rattle.sheet.specs.Sheet.{Made, made, fault, sheetPacket, packetsIn, mostText, importRefused, importMade, importOf}
 use Rattle.sheet.specs.Packets.{firstPacket, packetsOf, bareOf, sheetLine, onPacket, sheetOf, exportMade, exportOf}
 use Rattle.sheet.specs.Form.{NumeralForm, one, two, NumeralsForm, last, more, LineForm, SheetForm, end, next, ListForm, none, then}
@@ -41,7 +40,7 @@ use Rattle.sheet.specs.declared.importing.Imported.{Imported}
 use Rattle.sheet.specs.declared.importing.Imported.the-variants as imported
 use Rattle.sheet.proofs.Said.{Said, line-says, said-some, packet-says}
 use Rattle.sheet.proofs.Cutting.{packets-step, joined, cut-joined}
-use Rattle.sheet.proofs.Forms.{line-formed, form-line, sheet-formed}
+use Rattle.sheet.proofs.Forms.{value-form, form-line, sheet-formed}
 
 -- ---- a packet that reads
 
@@ -74,25 +73,10 @@ bare-inside d =
 
 -- ---- its line: the numerals are its bytes
 
-char-small : (v : ℕ) → v < 16 → characterOf v < 97
-unfolding characterOf
-char-small v h = by-test (ltb v 10) refl
-  where
-    by-test : (t : Bool) → ltb v 10 ≡ t → cond t (48 + v) (55 + v) < 97
-    by-test true e = omega (arith, ltb-true v 10 e)
-    by-test false e = omega arith
-
-char-value : (v : ℕ) → v < 16 → eitherDigit (characterOf v) ≡ v
-unfolding eitherDigit
-char-value v h = rw (lt-ltb (characterOf v) 97 (char-small v h), digit-char v h)
-
 pair-form : (b : ℕ) → b < 256 → NumeralForm (hexPair b) b
 pair-form b h =
-    let x : b / 16 < 16 = omega arith in
-    let y : b % 16 < 16 = omega arith in
     let z : b / 16 * 16 + b % 16 ≡ b = omega arith in
-    let f = two (characterOf (b / 16)) (characterOf (b % 16)) (rw (char-value (b / 16) x) x) (rw (char-value (b % 16) y) y) in
-    rw (char-value (b / 16) x, char-value (b % 16) y, z) at f
+    subst (λ (n : ℕ). NumeralForm (hexPair b) n) z (two (value-form (b / 16) (omega arith)) (value-form (b % 16) (omega arith)))
 
 text-form : (b : ℕ) (d : List ℕ) → b < 256 → AllBytes d → NumeralsForm (hexText (b ∷ d)) (b ∷ d)
 unfolding hexRest

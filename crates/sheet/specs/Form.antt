@@ -1,18 +1,26 @@
 -- Document 02, request 1, once more as a form: what a line, a sheet and a list of packets are. `proofs/Forms` joins it to what is read.
-use Prim.Native.Nat.{ℕ, suc, _+_, _*_, _/_, _<_}
+use Prim.Native.Nat.{ℕ, suc, _+_, _*_, _/_, _≤_, _<_}
 use mathlib.Core.List.{List, [], _∷_, _++_}
 use mathlib.Core.Path.{_≡_}
 use lib.ListN.{length, getD}
-use Rattle.packet.specs.Packet.{readOf, framedNumber}
 use Rattle.wire.specs.Numbers.{done}
+use Rattle.wire.specs.declared.refusal.Refusal.{Refusal}
+use Rattle.packet.specs.Packet.{readOf, framedNumber}
+use Rattle.packet.specs.declared.Framed.the-variants as framed
 use Rattle.hex.specs.Hex.{space}
-use Rattle.sheet.specs.Line.{hexWord, eitherDigit}
+use Rattle.sheet.specs.Line.{hexWord}
 use Rattle.sheet.specs.Sheet.{sheetPacket}
 
--- "One or two hex digits .., either case"
+-- a hex digit and its value, "either case": 0 to 9, A to F, a to f by their ASCII codes
+pub data DigitForm : ℕ → ℕ → Type 0 where
+  decimal : (v : ℕ) → v < 10 → DigitForm (48 + v) v
+  capital : (v : ℕ) → 10 ≤ v → v < 16 → DigitForm (55 + v) v
+  small : (v : ℕ) → 10 ≤ v → v < 16 → DigitForm (87 + v) v
+
+-- "One or two hex digits are read"
 pub data NumeralForm : List ℕ → ℕ → Type 0 where
-  one : (a : ℕ) → eitherDigit a < 16 → NumeralForm (a ∷ []) (eitherDigit a)
-  two : (a b : ℕ) → eitherDigit a < 16 → eitherDigit b < 16 → NumeralForm (a ∷ b ∷ []) (eitherDigit a * 16 + eitherDigit b)
+  one : {a v : ℕ} → DigitForm a v → NumeralForm (a ∷ []) v
+  two : {a b v w : ℕ} → DigitForm a v → DigitForm b w → NumeralForm (a ∷ b ∷ []) (v * 16 + w)
 
 -- "single spaces": one between each two
 pub data NumeralsForm : List ℕ → List ℕ → Type 0 where
@@ -35,6 +43,11 @@ pub data SheetForm : List (List ℕ) → List ℕ → Type 0 where
 pub data FirstFault : List (List ℕ) → ℕ → Type 0 where
   here : {l : List ℕ} {ls : List (List ℕ)} → ((d : List ℕ) → LineForm l d → ⊥) → FirstFault (l ∷ ls) 1
   later : {l d : List ℕ} {ls : List (List ℕ)} {k : ℕ} → LineForm l d → FirstFault ls k → FirstFault (l ∷ ls) (suc k)
+
+-- "1, 2 or 4 for the first packet that doesn't read"
+pub data FirstMisread : List (List ℕ) → Refusal → Type 0 where
+  this : {p : List ℕ} {ps : List (List ℕ)} {why : Refusal} → readOf p ≡ framed.Refused why → FirstMisread (p ∷ ps) why
+  behind : {p : List ℕ} {ps : List (List ℕ)} {why : Refusal} → framedNumber (readOf p) ≡ done → FirstMisread ps why → FirstMisread (p ∷ ps) why
 
 -- packets that read, and the bytes that they are back to back
 pub data ListForm : List (List ℕ) → List ℕ → Type 0 where

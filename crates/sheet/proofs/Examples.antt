@@ -9,12 +9,12 @@ use Rattle.hex.specs.Hex.{hexRest}
 use Rattle.sheet.specs.Line.{startsHex, eitherDigit, lineIn}
 use Rattle.sheet.specs.Sheet.{packetsIn}
 use Rattle.sheet.specs.Packets.{packetsOf, sheetOf}
-use Rattle.sheet.specs.Example.{Sheet, imports, Packets, exports}
+use Rattle.sheet.specs.Example.{Sheet, imports, Listing, exports}
 
 pub imported : map (λ (e : Sheet). packetsIn (linesOf (e .text))) imports ≡ map (λ (e : Sheet). e .comes) imports
 unfolding total digitOf startsHex eitherDigit lineIn packetsIn
 imported = refl
 
-pub exported : map (λ (e : Packets). sheetOf (packetsOf (e .packets))) exports ≡ map (λ (e : Packets). e .comes) exports
+pub exported : map (λ (e : Listing). sheetOf (packetsOf (e .packets))) exports ≡ map (λ (e : Listing). e .comes) exports
 unfolding total endsInSum frontOf frameOf isIntact readOf characterOf hexRest sheetOf
 exported = refl

@@ -50,11 +50,11 @@ imports =
     []
 
 -- a list of packets, and what exporting it comes to
-pub record Packets : Type 0 where
+pub record Listing : Type 0 where
   pub packets : List ℕ
   pub comes : Made Refusal
 
-abbrev pub exports : List Packets
+abbrev pub exports : List Listing
 exports =
     -- AA 01 13 04 18
     record { packets = 0xAA ∷ 0x01 ∷ 0x13 ∷ 0x04 ∷ 0x18 ∷ []; comes = made (hexWord ++ 48 ∷ 49 ∷ 32 ∷ 49 ∷ 51 ∷ 32 ∷ 48 ∷ 52 ∷ newline ∷ []) } ∷

@@ -98,6 +98,11 @@ const SHOW: [&str; 42] = [
     "HEX FF 0f",
 ];
 
+/// The sheets of the document `shows/README.md`, which plays the first with 2
+/// nodes and the second with 3.
+const PASS: &str = include_str!("../../../shows/pass.hex");
+const REGROUP: &str = include_str!("../../../shows/regroup.hex");
+
 /// The stored input of `import`: typed lines, then the packets of all manuals
 /// that read. The last line lacks its newline.
 pub fn import() -> Vec<u8> {
@@ -176,9 +181,9 @@ pub fn further_exports() -> Vec<Named> {
     ]
 }
 
-/// Further inputs for `play`: the tests in their sequence, and sizes about
-/// 64 KiB, of the sheet and of the bench program's form. There a line for a Nop
-/// has 12 bytes, and the first one two or three.
+/// Further inputs for `play`: the sheets of `shows/`, the tests in their
+/// sequence, and sizes about 64 KiB, of the sheet and of the bench program's
+/// form. There a line for a Nop has 12 bytes, and the first one two or three.
 pub fn further_plays() -> Vec<Named> {
     let nops = |count: usize| SHORTEST.repeat(count);
     named([
@@ -189,6 +194,8 @@ pub fn further_plays() -> Vec<Named> {
             "document",
             "2\nHEX 0 21 1 FF\nHEX 0 21 2 FF\nHEX 2 26 5 0\n".to_string(),
         ),
+        ("pass", format!("2\n{PASS}")),
+        ("regroup", format!("3\n{REGROUP}")),
         ("walk-of-31", format!("31\n{}", walk(31))),
         ("count-0", format!("0\n{SHORTEST}")),
         ("count-32", format!("32\n{SHORTEST}")),

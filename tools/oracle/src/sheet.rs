@@ -3,10 +3,11 @@
 //! packet; a list is packets back to back.
 
 use std::borrow::Cow;
+use std::cmp::Ordering;
 
 use crate::buffer;
 use crate::hex;
-use crate::packet::{self, Packet};
+use crate::packet::{self, Packet, HEADER};
 use crate::refusal::{require, Refusal};
 use crate::rules::{Mistake, Rules};
 
@@ -128,11 +129,14 @@ fn packet_of(rules: Rules, line: &[u8]) -> Option<Vec<u8>> {
     let [address, command_byte, data @ ..] = numbers.as_slice() else {
         return None;
     };
-    let counted = usize::from(command_byte >> 4) == data.len();
+    let counted = match data.len().cmp(&usize::from(command_byte >> 4)) {
+        Ordering::Less => rules.slips(Mistake::TooFewDataTaken),
+        Ordering::Equal => true,
+        Ordering::Greater => rules.slips(Mistake::TooManyDataTaken),
+    };
     let refused = rules.slips(Mistake::Data15Refused) && data.len() == 15
         || rules.slips(Mistake::GroupLineRefused) && *address >= 0x80;
-    ((counted || rules.slips(Mistake::DataUncounted)) && !refused)
-        .then(|| packet::assemble(rules, *address, command_byte & 0x0F, data))
+    (counted && !refused).then(|| packet::assemble(rules, *address, command_byte & 0x0F, data))
 }
 
 /// The numbers behind the word: "one or two hex digits .., single spaces".
@@ -234,7 +238,11 @@ fn split(rules: Rules, list: &[u8]) -> Result<Vec<Packet<'_>>, Misread> {
 
 /// The packet at the start of a list, read, and what follows it.
 fn front(rules: Rules, list: &[u8]) -> Result<(Packet<'_>, &[u8]), Refusal> {
-    let (packet, rest) = packet::front(rules, list)?;
+    let (packet, rest) = if rules.slips(Mistake::HeaderCutsList) {
+        front_to_header(rules, list)?
+    } else {
+        packet::front(rules, list).map_err(|refusal| told(rules, refusal))?
+    };
     if rules.slips(Mistake::ExportGives3) {
         require(rest.is_empty(), Refusal::TooLong)?;
     }
@@ -287,6 +295,21 @@ fn indulged(rules: Rules, line: &[u8]) -> Cow<'_, [u8]> {
         return Cow::Borrowed(line);
     };
     Cow::Owned(changed.into_bytes())
+}
+
+/// What stands before a list's next 0xAA, as a packet, and what follows it.
+fn front_to_header(rules: Rules, list: &[u8]) -> Result<(Packet<'_>, &[u8]), Refusal> {
+    let next = (1..list.len()).find(|at| list[*at] == HEADER);
+    let (own, rest) = list.split_at(next.unwrap_or(list.len()));
+    Ok((packet::frame(rules, own)?, rest))
+}
+
+/// Why a packet doesn't read, as a mistaken export tells it.
+fn told(rules: Rules, refusal: Refusal) -> Refusal {
+    match refusal {
+        Refusal::NoHeader if rules.slips(Mistake::NoHeaderGives1) => Refusal::Short,
+        _ => refusal,
+    }
 }
 
 /// What the lines before the first one at fault give.

@@ -5,6 +5,7 @@ mod mistakes;
 mod programs;
 mod properties;
 mod sheets;
+mod shows;
 mod stored;
 
 use crate::rules::Rules;

@@ -352,6 +352,8 @@ fn play_tells() {
         let expected = match name {
             "count-alone" | "count-ended" => "0 bytes",
             "document" => "18 bytes",
+            "pass" => "50 bytes",
+            "regroup" => "74 bytes",
             "walk-of-31" => "186 bytes",
             "bench-form" | "blank-line" => "line 1: not a HEX line",
             "line-2" => "line 2: not a HEX line",

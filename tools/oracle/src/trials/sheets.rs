@@ -3,7 +3,7 @@
 use super::FILL;
 use crate::layout::{self, Cursor};
 use crate::refusal::{number_of, Refusal, DONE};
-use crate::rules::Rules;
+use crate::rules::{Mistake, Rules};
 use crate::sheet::{self, Refused};
 
 /// The largest `room(2)`.
@@ -21,8 +21,9 @@ pub const MOST_LONG_LIST: usize = 32_768;
 /// `40 room(2) text..`
 pub fn import(rules: Rules, mut line: Cursor) -> Option<Vec<u8>> {
     let mut buffer = lent(line.wide::<2>()?, MOST_ROOM)?;
-    let imported = sheet::import(rules, line.rest(), &mut buffer);
-    let (number, value) = import_answer(imported);
+    let sheet = line.rest();
+    let imported = sheet::import(rules, sheet, &mut buffer);
+    let (number, value) = import_answer(rules, sheet, imported);
     Some([&[number], &layout::wide::<2>(value)[..], &buffer].concat())
 }
 
@@ -39,7 +40,7 @@ pub fn long_import(rules: Rules, mut line: Cursor) -> Option<Vec<u8>> {
     let mut buffer = lent(line.wide::<3>()?, MOST_LONG_ROOM)?;
     let sheet = copies(line, MOST_LONG_SHEET)?;
     let imported = sheet::import(rules, &sheet, &mut buffer);
-    let (number, value) = import_answer(imported);
+    let (number, value) = import_answer(rules, &sheet, imported);
     Some([&[number], &layout::wide::<3>(value)[..], &sums(&buffer)].concat())
 }
 
@@ -59,10 +60,21 @@ fn lent(room: usize, most: usize) -> Option<Vec<u8>> {
 
 /// "The length written; for 0E the line's number from 1; for other refusals
 /// 0000."
-fn import_answer(imported: Result<usize, Refused>) -> (u8, usize) {
+fn import_answer(rules: Rules, sheet: &[u8], imported: Result<usize, Refused>) -> (u8, usize) {
     match imported {
         Ok(length) => (DONE, length),
-        Err(refused) => (refused.refusal.number(), refused.line),
+        Err(refused) => (refused.refusal.number(), shown_with(rules, sheet, refused)),
+    }
+}
+
+/// The value of a refused import: the line's number, which is 0 but for 0E.
+fn shown_with(rules: Rules, sheet: &[u8], refused: Refused) -> usize {
+    match refused.refusal {
+        Refusal::NoRoom if rules.slips(Mistake::NoRoomMeasured) => {
+            sheet::packets(rules, sheet).map_or(0, |packets| packets.concat().len())
+        }
+        Refusal::OffRange if rules.slips(Mistake::LongSheetMeasured) => sheet.len(),
+        _ => refused.line,
     }
 }
 

@@ -4,16 +4,15 @@ use mathlib.Core.Bool.{Bool, true, false, cond, false≢true}
 use mathlib.Core.List.{List, [], _∷_}
 use mathlib.Core.Path.{_≡_, refl, sym, ap, _∙_}
 use native.Mathlib.Omega.{arith}
-use native.Mathlib.Nat.{add-suc, suc-add, zero-add, not-suc-le-zero}
-use native.Mathlib.Numerals.{add-one}
+use native.Mathlib.Nat.{zero-add, not-suc-le-zero}
 use lib.Dec.{eqb, ltb}
-use lib.ListN.{length, drop, getD, set, length-drop, length-set}
+use lib.ListN.{length, drop, getD, set, length-drop}
 use lib.Seq.{drop-drop, sets, take-nil}
 use borrow.Author.Tests.{le-ltb, ltb-false}
 use Rattle.wire.specs.Promise.{Lending, lent}
 use Rattle.wire.proofs.Impossible.{impossible}
 use Rattle.hex.specs.Digits.{digitOf}
-use Rattle.hex.specs.Hex.{space, Content, bytes, malformed, pairBy, readPair, before, onPair, packetIn, bytesIn, over, readBytes, parsedNumber}
+use Rattle.hex.specs.Hex.{space, Content, bytes, malformed, pairBy, readPair, onPair, packetIn, bytesIn, over, readBytes, parsedNumber}
 use Rattle.hex.specs.Gathering.{Gathered, whole, none, gathered, readPairs}
 use Rattle.hex.proofs.Storing.{laid-before}
 use Rattle.hex.specs.declared.pairs.Pair.{Pair}

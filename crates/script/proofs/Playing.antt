@@ -1,10 +1,9 @@
 -- One line, and all lines, as the code plays them.
-use Prim.Native.Nat.{ℕ, suc, _+_, _*_, _≤_, _<_}
-use mathlib.Core.List.{List, _∷_}
+use Prim.Native.Nat.{ℕ, _+_, _*_, _≤_, _<_}
+use mathlib.Core.List.{List}
 use mathlib.Core.Path.{_≡_, refl, sym, ap, _∙_, subst}
 use native.Mathlib.Omega.{arith}
-use lib.ListN.{length, take, drop, replicate, length-drop, drop-of-length-le}
-use lib.Seq.{drop-drop}
+use lib.ListN.{length, take, drop, replicate, drop-of-length-le}
 use Rattle.wire.specs.Promise.{Outcome, Lending}
 use Rattle.wire.proofs.Impossible.{impossible}
 use Rattle.buffer.specs.Change.{AllBytes}

@@ -1,16 +1,15 @@
 -- A list of packets cut into its packets: one behind the other, nothing lost.
 use Prim.Native.Nat.{ℕ, zero, suc, _+_, _-_, _*_, _/_, _≤_, _<_}
-use mathlib.Core.Bool.{true}
 use mathlib.Core.List.{List, [], _∷_, _++_}
 use mathlib.Core.Path.{_≡_, refl, sym, ap, _∙_}
 use native.Mathlib.Omega.{arith}
 use native.Mathlib.Nat.{not-suc-le-zero}
-use lib.ListN.{length, take, drop, getD, length-append, length-take, length-drop, take-append-drop, List·getD-eq-default}
+use lib.ListN.{length, take, drop, length-append, length-take, length-drop, take-append-drop, List·getD-eq-default}
 use lib.Seq.{getD-take, length-take-le, take-all}
 use Rattle.wire.specs.declared.address.Address.{Address}
-use Rattle.packet.specs.Packet.{countOf, endOf, frameOf, isIntact, readOf}
+use Rattle.packet.specs.Packet.{countOf, endOf, readOf}
 use Rattle.packet.specs.declared.Framed.the-variants as framed
-use Rattle.packet.proofs.Packets.{Framing, framing, read-says}
+use Rattle.packet.proofs.Packets.{framing, read-says}
 use Rattle.hex.specs.Hex.{hexLine}
 use Rattle.hex.proofs.Puts.{length-line}
 use Rattle.sheet.specs.Line.{hexWord}

@@ -1,15 +1,11 @@
 -- A list of packets, as the code exports it: they are counted and read first, then their lines are written.
 use Prim.Native.Nat.{ℕ, suc, _+_, _-_, _*_, _/_, _≤_, _<_}
-use mathlib.Core.Bool.{Bool, true, false, cond}
 use mathlib.Core.List.{List, [], _∷_, _++_, append-nil, append-assoc}
 use mathlib.Core.Path.{_≡_, refl, sym, ap, _∙_}
 use native.Mathlib.Omega.{arith}
 use native.Mathlib.Nat.{zero-add}
-use native.Mathlib.Numerals.{add-one}
-use lib.Dec.{ltb}
-use lib.ListN.{length, take, drop, length-append, length-take, length-drop, drop-of-length-le}
+use lib.ListN.{length, take, drop, length-append, length-drop, drop-of-length-le}
 use lib.Seq.{sets, sets-eq, length-sets, drop-drop, take-all}
-use borrow.Author.Tests.{lt-ltb, le-ltb, ltb-true, ltb-false}
 use Rattle.wire.specs.Promise.{Outcome, Promise, Lending, lent}
 use Rattle.wire.proofs.Impossible.{impossible}
 use Rattle.wire.specs.declared.address.Address.{Address}
@@ -23,14 +19,13 @@ use Rattle.buffer.specs.declared.Built.the-variants as built
 use Rattle.buffer.proofs.Writing.{sets-start, no-room, has-room, written-fits}
 use Rattle.buffer.proofs.Appends.{put-wrote, wrote-then}
 use Rattle.hex.specs.Hex.{hexLine}
-use Rattle.hex.proofs.Puts.{length-line}
 use Rattle.sheet.specs.Line.{hexWord}
 use Rattle.packet.specs.Packet.{endOf, readOf, framedNumber}
 use Rattle.packet.specs.declared.Framed.{Framed}
 use Rattle.packet.specs.declared.Framed.the-variants as framed
 use Rattle.sheet.specs.Sheet.{Made, made, fault}
 use Rattle.sheet.specs.Packets.{firstPacket, packetsOf, bareOf, sheetLine, onPacket, sheetOf, exportMade, exportOf}
-use Rattle.sheet.specs.Reading.{countBehind, countPackets, HasRoom, madeFrom, sheetLines}
+use Rattle.sheet.specs.Reading.{countBehind, countPackets, HasRoom, sheetLines}
 use Rattle.sheet.specs.declared.exporting.Listed.{Listed}
 use Rattle.sheet.specs.declared.exporting.Listed.the-variants as listed
 use Rattle.packet.proofs.Packets.{framing, read-says}

@@ -18,7 +18,7 @@ use Rattle.sheet.specs.Line.{hexWord, startsHex, eitherDigit, byteIn, nu
 use Rattle.sheet.specs.Sheet.{Made, made, fault, sheetPacket, onLine, packetsIn}
 use Rattle.sheet.specs.Form.{DigitForm, decimal, capital, small, NumeralForm, one, two, NumeralsForm, last, more, LineForm, SheetForm, end, next, FirstFault, here, later}
 use Rattle.sheet.proofs.Numerals.{digit-no-space, one-says, two-says}
-use Rattle.sheet.proofs.Said.{not-bytes, Spoken, line-spoken}
+use Rattle.sheet.proofs.Said.{not-bytes, line-spoken}
 
 -- ---- numerals, with a space between each two
 

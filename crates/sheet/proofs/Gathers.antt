@@ -8,20 +8,18 @@ use native.Mathlib.Nat.{zero-add, not-suc-le-zero}
 use lib.Dec.{eqb, ltb}
 use lib.ListN.{length, drop, getD, set, length-drop, length-set}
 use lib.Seq.{drop-drop, sets, getD-set-same, getD-set-other}
-use borrow.Author.Tests.{lt-ltb, le-ltb, eq-eqb, ne-eqb, ltb-true, ltb-false, eqb-true}
-use Rattle.wire.proofs.Choice.{chose-first}
+use borrow.Author.Tests.{le-ltb, eq-eqb, ne-eqb, ltb-false, eqb-true}
 use Rattle.wire.proofs.Impossible.{impossible}
-use Rattle.buffer.specs.Change.{AllBytes}
-use Rattle.hex.specs.Hex.{space, Content, bytes, malformed, before}
+use Rattle.hex.specs.Hex.{space, Content, bytes, malformed}
 use Rattle.hex.specs.Gathering.{Gathered, whole, none, gathered, readPairs}
 use Rattle.hex.specs.declared.pairs.Parsed.{Parsed}
 use Rattle.hex.specs.declared.pairs.Parsed.the-variants.{Bytes, Malformed}
 use Rattle.hex.proofs.Storing.{laid-before}
-use Rattle.sheet.specs.Line.{startsHex, eitherDigit, byteIn, numeralsOf, numeralBytes, rightCount, lineIn}
+use Rattle.sheet.specs.Line.{startsHex, eitherDigit, numeralsOf, numeralBytes, rightCount, lineIn}
 use Rattle.sheet.specs.Reading.{twoNumeral, numeralBy, readNumeral, readNumerals, countedBy, readCounted, readLine}
 use Rattle.sheet.specs.declared.line.Numeral.{Numeral}
 use Rattle.sheet.specs.declared.line.Numeral.the-variants.{Last, More, Bad}
-use Rattle.sheet.proofs.Numerals.{onNumeral, taken, numeral-step}
+use Rattle.sheet.proofs.Numerals.{numeral-step}
 
 -- ---- a numeral
 

@@ -2,13 +2,13 @@
 use Prim.Native.Nat.{ℕ, suc, _+_, _/_, _≤_, _<_}
 use mathlib.Core.Bool.{Bool, true, false, cond}
 use mathlib.Core.List.{List, [], _∷_, _++_}
-use mathlib.Core.Path.{_≡_, refl, sym, ap, _∙_, subst}
+use mathlib.Core.Path.{_≡_, refl, sym, ap, _∙_}
 use native.Mathlib.Omega.{arith}
 use native.Mathlib.Nat.{zero-add}
 use lib.Dec.{ltb}
 use lib.ListN.{length, getD, take, drop, set, length-append, drop-of-length-le}
 use lib.Seq.{sets, length-sets, take-at}
-use borrow.Author.Tests.{lt-ltb, le-ltb, ltb-true, ltb-false}
+use borrow.Author.Tests.{lt-ltb, le-ltb, ltb-false}
 use Rattle.wire.specs.Promise.{Outcome, Lending, lent}
 use Rattle.wire.specs.Numbers.{done}
 use Rattle.wire.proofs.Impossible.{impossible}
@@ -22,8 +22,8 @@ use Rattle.buffer.proofs.Writing.{sets-append, sets-start}
 use Rattle.buffer.proofs.Appends.{put-wrote}
 use Rattle.text.specs.Lines.{firstLine, linesOf}
 use Rattle.text.proofs.Parts.{lines-next}
-use Rattle.hex.specs.Hex.{Content, bytes, malformed}
-use Rattle.hex.specs.Gathering.{whole, none, gathered}
+use Rattle.hex.specs.Hex.{bytes}
+use Rattle.hex.specs.Gathering.{whole, gathered}
 use Rattle.hex.specs.declared.pairs.Parsed.{Parsed}
 use Rattle.hex.specs.declared.pairs.Parsed.the-variants as parsed
 use Rattle.sheet.specs.Line.{lineIn}

@@ -1,17 +1,16 @@
 -- How much room is enough: a sheet's packets are never longer than the sheet, and a list's sheet is no longer than three times the list.
 use Prim.Native.Nat.{ℕ, suc, _+_, _*_, _≤_}
 use mathlib.Core.Bool.{Bool, true, false, cond}
-use mathlib.Core.List.{List, [], _∷_, _++_}
-use mathlib.Core.Path.{_≡_, refl, sym, ap, _∙_}
+use mathlib.Core.List.{List, [], _∷_}
+use mathlib.Core.Path.{_≡_, refl, ap}
 use native.Mathlib.Omega.{arith}
 use lib.Dec.{eqb}
 use lib.ListN.{length, length-append}
-use Rattle.wire.specs.declared.refusal.Refusal.{Refusal}
 use Rattle.text.specs.Lines.{newline, linesOf, grown}
 use Rattle.hex.specs.Hex.{space}
 use Rattle.sheet.specs.Sheet.{made, sheetPacket, packetsIn}
 use Rattle.sheet.specs.Packets.{packetsOf, sheetOf}
-use Rattle.sheet.specs.Form.{NumeralForm, one, two, NumeralsForm, last, more, LineForm, SheetForm, end, next}
+use Rattle.sheet.specs.Form.{one, two, NumeralsForm, last, more, LineForm, SheetForm, end, next}
 use Rattle.sheet.proofs.Said.{packet-long}
 use Rattle.sheet.proofs.Exports.{list-long}
 use Rattle.sheet.proofs.Forms.{sheet-formed}

@@ -1,5 +1,5 @@
 -- Text read numeral by numeral says what the numerals between its spaces say.
-use Prim.Native.Nat.{ℕ, suc, _+_, _*_, _≤_, _<_}
+use Prim.Native.Nat.{ℕ, _+_, _*_, _≤_, _<_}
 use mathlib.Core.Bool.{Bool, true, false, cond, false≢true}
 use mathlib.Core.List.{List, [], _∷_}
 use mathlib.Core.Path.{_≡_, refl, sym, ap, _∙_}
@@ -8,11 +8,10 @@ use lib.Dec.{eqb, ltb}
 use lib.ListN.{length, drop, getD}
 use borrow.Author.Tests.{lt-ltb, le-ltb, eq-eqb, ne-eqb, ltb-true, ltb-false, eqb-true}
 use Rattle.wire.proofs.Choice.{same}
-use Rattle.wire.proofs.Impossible.{impossible}
 use Rattle.text.specs.Lines.{grown}
 use Rattle.hex.specs.Digits.{digitOf}
 use Rattle.hex.specs.Hex.{space, Content, bytes, malformed, before}
-use Rattle.sheet.specs.Line.{eitherDigit, byteIn, numeralsOf, numeralBytes}
+use Rattle.sheet.specs.Line.{eitherDigit, numeralsOf, numeralBytes}
 use Rattle.sheet.specs.Reading.{twoNumeral, numeralBy, readNumeral}
 use Rattle.sheet.specs.declared.line.Numeral.{Numeral}
 use Rattle.sheet.specs.declared.line.Numeral.the-variants.{Last, More, Bad}

@@ -5,7 +5,6 @@ use mathlib.Core.List.{List}
 use mathlib.Core.Path.{_≡_, refl}
 use lib.Dec.{ltb}
 use lib.ListN.{length}
-use Rattle.wire.specs.Promise.{Outcome}
 use Rattle.wire.specs.Numbers.{done}
 use Rattle.wire.specs.declared.refusal.Refusal.{Refusal}
 use Rattle.wire.specs.declared.refusal.Refusal.the-variants.{Range}
@@ -13,7 +12,6 @@ use Rattle.buffer.proofs.Refusals.{Spares, written-spares}
 use Rattle.text.specs.Lines.{linesOf}
 use Rattle.sheet.specs.Sheet.{Made, made, fault, packetsIn, mostText, importRefused, importMade, importOf, importedNumber}
 use Rattle.sheet.specs.Packets.{packetsOf, sheetOf, exportMade, exportOf}
-use Rattle.sheet.specs.declared.importing.Imported.{Imported}
 use Rattle.sheet.specs.declared.importing.Imported.the-variants as imported
 use Rattle.sheet.proofs.Imports.{spared}
 

@@ -7,11 +7,11 @@ use native.Mathlib.Omega.{arith}
 use native.Mathlib.Nat.{not-suc-le-zero}
 use lib.Dec.{ltb}
 use lib.ListN.{length, take, drop, getD, length-append, length-take, length-drop, List·getD-append}
-use lib.Seq.{getD-take, getD-drop, take-at, drop-at, take-append-seam}
+use lib.Seq.{take-at, drop-at, take-append-seam}
 use borrow.Author.Tests.{le-ltb}
 use Rattle.wire.specs.Promise.{Outcome}
 use Rattle.wire.specs.Numbers.{done}
-use Rattle.wire.specs.Address.{addressOf, byteOf}
+use Rattle.wire.specs.Address.{byteOf}
 use Rattle.wire.specs.declared.address.Address.{Address}
 use Rattle.wire.specs.declared.refusal.Refusal.{Refusal}
 use Rattle.wire.specs.declared.refusal.Refusal.the-variants.{Range, Room}
@@ -19,10 +19,10 @@ use Rattle.wire.proofs.Impossible.{impossible}
 use Rattle.wire.proofs.Numbers.{not-done}
 use Rattle.buffer.specs.Sum.{sumOf, withSum}
 use Rattle.buffer.specs.Change.{AllBytes}
-use Rattle.buffer.specs.Buffer.{written, atStart, refused}
-use Rattle.buffer.proofs.Bytes.{byte-at, take-bytes, drop-bytes}
+use Rattle.buffer.specs.Buffer.{written, refused}
+use Rattle.buffer.proofs.Bytes.{take-bytes, drop-bytes}
 use Rattle.buffer.proofs.Sums.{length-with-sum}
-use Rattle.buffer.proofs.Writing.{wrote, wrote-not, written-wrote, written-fits}
+use Rattle.buffer.proofs.Writing.{wrote, wrote-not, written-wrote}
 use Rattle.packet.specs.Packet.{endOf, readOf, framedNumber, dataPart}
 use Rattle.packet.specs.Build.{headOf, packetOf}
 use Rattle.packet.specs.declared.Framed.{Framed}
@@ -31,11 +31,11 @@ use Rattle.packet.proofs.Packets.{framing, read-says, accepted-built, built-rea
 use Rattle.text.specs.Lines.{newline, linesOf}
 use Rattle.text.proofs.Meaning.{Plain, lines-ended}
 use Rattle.hex.specs.Digits.{characterOf}
-use Rattle.hex.specs.Hex.{space, hexPair, hexRest, hexText, hexLine, bytes}
+use Rattle.hex.specs.Hex.{hexPair, hexRest, hexText, hexLine, bytes}
 use Rattle.sheet.specs.Line.{hexWord, lineIn}
 use Rattle.sheet.specs.Sheet.{Made, made, fault, sheetPacket, packetsIn, mostText, importRefused, importMade, importOf}
-use Rattle.sheet.specs.Packets.{firstPacket, packetsOf, bareOf, sheetLine, onPacket, sheetOf, exportMade, exportOf}
-use Rattle.sheet.specs.Form.{NumeralForm, one, two, NumeralsForm, last, more, LineForm, SheetForm, end, next, ListForm, none, then}
+use Rattle.sheet.specs.Packets.{packetsOf, bareOf, sheetLine, onPacket, sheetOf, exportMade, exportOf}
+use Rattle.sheet.specs.Form.{NumeralForm, one, two, NumeralsForm, last, more, SheetForm, end, next, ListForm, none, then}
 use Rattle.sheet.specs.declared.importing.Imported.{Imported}
 use Rattle.sheet.specs.declared.importing.Imported.the-variants as imported
 use Rattle.sheet.proofs.Said.{Said, line-says, said-some, packet-says}

@@ -6,7 +6,6 @@ use lib.Dec.{ltb}
 use lib.ListN.{length, getD, drop}
 use Rattle.wire.specs.Promise.{Outcome}
 use Rattle.wire.specs.Numbers.{done, numberOf}
-use Rattle.wire.specs.declared.refusal.Refusal.{Refusal}
 use Rattle.wire.specs.declared.refusal.Refusal.the-variants.{Range, Room, Line}
 use Rattle.packet.specs.Build.{packetWith}
 use Rattle.text.specs.Lines.{linesOf}

@@ -1,8 +1,7 @@
 -- The invariant: what the rest of the text lays, behind the bytes so far, is what the whole text lays.
-use Prim.Native.Nat.{_≤_, _-_, _+_}
+use Prim.Native.Nat.{_≤_, _-_}
 use mathlib.Core.Path.{_≡_, refl}
 use borrow.Author.Needs.{needs}
-use native.Mathlib.Omega.{arith}
 use lib.ListN.{length, drop}
 use Rattle.hex.specs.Gathering.{readPairs}
 use Rattle.hex.proofs.Storing.{store-long}

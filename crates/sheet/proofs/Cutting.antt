@@ -6,14 +6,19 @@ use native.Mathlib.Omega.{arith}
 use native.Mathlib.Nat.{not-suc-le-zero}
 use lib.ListN.{length, take, drop, length-append, length-take, length-drop, take-append-drop, List·getD-eq-default}
 use lib.Seq.{getD-take, length-take-le, take-all}
+use Rattle.wire.specs.Numbers.{done}
 use Rattle.wire.specs.declared.address.Address.{Address}
-use Rattle.packet.specs.Packet.{countOf, endOf, readOf}
+use Rattle.wire.specs.declared.refusal.Refusal.{Refusal}
+use Rattle.wire.proofs.Numbers.{not-done}
+use Rattle.packet.specs.Packet.{countOf, endOf, readOf, framedNumber}
+use Rattle.packet.specs.declared.Framed.{Framed}
 use Rattle.packet.specs.declared.Framed.the-variants as framed
 use Rattle.packet.proofs.Packets.{framing, read-says}
 use Rattle.hex.specs.Hex.{hexLine}
 use Rattle.hex.proofs.Puts.{length-line}
 use Rattle.sheet.specs.Line.{hexWord}
-use Rattle.sheet.specs.Packets.{firstPacket, packetsFrom, packetsOf, bareOf, sheetLine}
+use Rattle.sheet.specs.Sheet.{Made, made, fault}
+use Rattle.sheet.specs.Packets.{firstPacket, packetsFrom, packetsOf, bareOf, sheetLine, onPacket}
 
 -- the bytes of the packet before are passed
 skipped : (k : ℕ) (s : List ℕ) → packetsFrom k s ≡ packetsOf (drop k s)
@@ -53,6 +58,24 @@ pub first-reads : (s : List ℕ) (a : Address) (c e : ℕ) → readOf (firstPack
 first-reads s a c e h =
     let f = framing (firstPacket s) a c e (read-says (firstPacket s) a c e h .0) in
     record { end = sym (f .end) ∙ first-end s; long = f .size; within = omega (arith, f .size, length-take (endOf s) s) }
+
+-- a packet that reads is as long as its count says
+pub whole-long : (p : List ℕ) → framedNumber (readOf p) ≡ done → length p ≡ endOf p
+whole-long p h = go (readOf p) refl h
+  where
+    go : (f : Framed) → readOf p ≡ f → framedNumber f ≡ done → length p ≡ endOf p
+    go (framed.Whole a c e) r h = let f = framing p a c e (read-says p a c e r .0) in f .size ∙ sym (f .end)
+    go (framed.Refused why) r h = absurd (not-done why h)
+
+-- and its line stands in front of what is behind it, if that is a sheet
+abbrev pub ahead : List ℕ → Made Refusal → Made Refusal
+ahead p (made t) = made (sheetLine p ++ t)
+ahead p (fault why) = fault why
+
+pub on-whole : (p : List ℕ) (f : Framed) (m : Made Refusal) → framedNumber f ≡ done → onPacket p f m ≡ ahead p m
+on-whole p (framed.Whole a c e) (made t) h = refl
+on-whole p (framed.Whole a c e) (fault why) h = refl
+on-whole p (framed.Refused why) m h = absurd (not-done why h)
 
 -- the line of a packet has three characters for each byte but two
 pub line-long : (p : List ℕ) → 4 ≤ length p → length (sheetLine p) + 2 ≡ 3 * length p

@@ -28,13 +28,12 @@ use Rattle.sheet.specs.Packets.{firstPacket, packetsOf, bareOf, sheetLin
 use Rattle.sheet.specs.Reading.{countBehind, countPackets, HasRoom, sheetLines}
 use Rattle.sheet.specs.declared.exporting.Listed.{Listed}
 use Rattle.sheet.specs.declared.exporting.Listed.the-variants as listed
-use Rattle.packet.proofs.Packets.{framing, read-says}
-use Rattle.sheet.proofs.Cutting.{packets-step, joined, First, first-reads, line-long, cut-joined}
+use Rattle.sheet.proofs.Cutting.{packets-step, joined, First, first-reads, whole-long, line-long, cut-joined}
 use Rattle.sheet.proofs.Laying.{Laying, laid-on}
 
 -- what the packets from `at` on come to
-abbrev pub ahead : ℕ → List ℕ → ℕ → Listed
-ahead count s at = countBehind count (sheetOf (packetsOf (drop at s))) (length (packetsOf (drop at s)))
+abbrev pub coming : ℕ → List ℕ → ℕ → Listed
+coming count s at = countBehind count (sheetOf (packetsOf (drop at s))) (length (packetsOf (drop at s)))
 
 module _ (s d : List ℕ) (at : ℕ) (h : at < length s) (ed : d ≡ drop at s) where
   step : packetsOf (drop at s) ≡ firstPacket d ∷ packetsOf (drop (at + endOf d) s)
@@ -45,7 +44,7 @@ module _ (s d : List ℕ) (at : ℕ) (h : at < length s) (ed : d ≡ drop at s) 
 
   -- ---- counted
 
-  module _ (p : List ℕ) (f : Framed) (count : ℕ) (t : Listed) (ep : p ≡ firstPacket d) (r : Promise framedNumber f (readOf p)) (inv : ahead count s at ≡ t) where
+  module _ (p : List ℕ) (f : Framed) (count : ℕ) (t : Listed) (ep : p ≡ firstPacket d) (r : Promise framedNumber f (readOf p)) (inv : coming count s at ≡ t) where
     here : countBehind count (onPacket p f (sheetOf (packetsOf (drop (at + endOf d) s)))) (suc (length (packetsOf (drop (at + endOf d) s)))) ≡ t
     unfolding sheetOf
     here = rw (r .answer, ep) (rw step at inv)
@@ -73,12 +72,12 @@ module _ (s d : List ℕ) (at : ℕ) (h : at < length s) (ed : d ≡ drop at s) 
       on (made x) n = let z : count + suc n ≡ count + 1 + n = omega arith in rw z
       on (fault why) n = refl
 
-      pub count-on : ahead (count + 1) s (at + length p) ≡ t
+      pub count-on : coming (count + 1) s (at + length p) ≡ t
       count-on =
           rw as-long
           (sym (on (sheetOf (packetsOf (drop (at + endOf d) s))) (length (packetsOf (drop (at + endOf d) s)))) ∙ (rw ef at here))
 
-pub count-done : (s : List ℕ) (at count : ℕ) (t : Listed) → length s ≤ at → ahead count s at ≡ t → listed.Packets count ≡ t
+pub count-done : (s : List ℕ) (at count : ℕ) (t : Listed) → length s ≤ at → coming count s at ≡ t → listed.Packets count ≡ t
 unfolding sheetOf
 count-done s at count t h inv =
     let z : count + 0 ≡ count = omega arith in
@@ -89,11 +88,6 @@ count-done s at count t h inv =
 pub record Long (n packets bytes : ℕ) : Type 0 where
   pub exact : n + 2 * packets ≡ 3 * bytes
   pub few : 4 * packets ≤ bytes
-
-whole-long : (p : List ℕ) (a : Address) (c e : ℕ) → readOf p ≡ framed.Whole a c e → 4 ≤ length p
-whole-long p a c e h =
-    let f = framing p a c e (read-says p a c e h .0) in
-    omega (arith, f .size, f .end)
 
 sheet-long : (ps : List (List ℕ)) (t : List ℕ) → sheetOf ps ≡ made t → Long (length t) (length ps) (length (joined ps))
 unfolding sheetOf
@@ -107,7 +101,7 @@ sheet-long (p ∷ ps) t e = by-packet (readOf p) (sheetOf ps) refl (sheet-long p
     by-packet (framed.Whole a c n) (made x) r ih e =
         let z : t ≡ sheetLine p ++ x = cc in
         let l = ih x refl in
-        let k = whole-long p a c n r in
+        let k : 4 ≤ length p = omega (arith, whole-long p (ap framedNumber r)) in
         rw z (record {
           exact = omega (arith, l .exact, line-long p k, length-append (sheetLine p) x, length-append p (joined ps));
           few = omega (arith, l .few, k, length-append p (joined ps));

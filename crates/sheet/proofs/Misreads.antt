@@ -19,7 +19,7 @@ use Rattle.packet.proofs.Packets.{fronting}
 use Rattle.sheet.specs.Sheet.{Made, made, fault}
 use Rattle.sheet.specs.Packets.{firstPacket, packetsFrom, packetsOf, onPacket, sheetOf}
 use Rattle.sheet.specs.Form.{FirstMisread, this, behind}
-use Rattle.sheet.proofs.Cutting.{first-end}
+use Rattle.sheet.proofs.Cutting.{first-end, on-whole}
 
 -- ---- the list is refused as its first packet that doesn't read
 
@@ -33,14 +33,10 @@ misread-first (p ∷ ps) why e = by-packet (readOf p) (sheetOf ps) refl (λ w. m
     by-packet (framed.Whole a c n) (made t) r ih e = impossible cc
     by-packet (framed.Whole a c n) (fault w) r ih e = let z : w ≡ why = cc in behind (ap framedNumber r) (rw z at (ih w refl))
 
-on-whole : (p : List ℕ) (f : Framed) (why : Refusal) → framedNumber f ≡ done → onPacket p f (fault why) ≡ fault why
-on-whole p (framed.Whole a c n) why h = refl
-on-whole p (framed.Refused w) why h = absurd (not-done w h)
-
 pub first-misread : {ps : List (List ℕ)} {why : Refusal} → FirstMisread ps why → sheetOf ps ≡ fault why
 unfolding sheetOf
 first-misread (this r) = rw r
-first-misread (behind {p = p} {why = why} h f) = rw (first-misread f) (on-whole p (readOf p) why h)
+first-misread (behind {p = p} {why = why} h f) = rw (first-misread f) (on-whole p (readOf p) (fault why) h)
 
 -- ---- 1, 2 or 4
 

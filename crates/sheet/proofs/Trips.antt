@@ -39,7 +39,7 @@ use Rattle.sheet.specs.Form.{NumeralForm, one, two, NumeralsForm, last, 
 use Rattle.sheet.specs.declared.importing.Imported.{Imported}
 use Rattle.sheet.specs.declared.importing.Imported.the-variants as imported
 use Rattle.sheet.proofs.Said.{Said, line-says, said-some, packet-says}
-use Rattle.sheet.proofs.Cutting.{packets-step, joined, cut-joined}
+use Rattle.sheet.proofs.Cutting.{packets-step, joined, cut-joined, whole-long, on-whole}
 use Rattle.sheet.proofs.Forms.{value-form, form-line, sheet-formed}
 
 -- ---- a packet that reads
@@ -132,13 +132,6 @@ append-bytes : (p s : List ℕ) → AllBytes (p ++ s) → AllBytes p × AllBytes
 append-bytes [] s h = (tt, h)
 append-bytes (b ∷ p) s h = let k = append-bytes p s (h .1) in ((h .0, k .0), k .1)
 
-whole-long : (p : List ℕ) → framedNumber (readOf p) ≡ done → length p ≡ endOf p
-whole-long p h = go (readOf p) refl h
-  where
-    go : (f : Framed) → readOf p ≡ f → framedNumber f ≡ done → length p ≡ endOf p
-    go (framed.Whole a c e) r h = let f = framing p a c e (read-says p a c e r .0) in f .size ∙ sym (f .end)
-    go (framed.Refused why) r h = absurd (not-done why h)
-
 pub list-cuts : {ps : List (List ℕ)} {s : List ℕ} → ListForm ps s → packetsOf s ≡ ps
 list-cuts none = refl
 list-cuts (then {p = p} {s = s} {ps = ps} h f) =
@@ -150,14 +143,10 @@ list-cuts (then {p = p} {s = s} {ps = ps} h f) =
     ∙ ap (λ (q : List ℕ). p ∷ packetsOf q) (drop-at p s (endOf (p ++ s)) n)
     ∙ ap (λ (q : List (List ℕ)). p ∷ q) (list-cuts f)
 
-on-whole : (p : List ℕ) (f : Framed) (t : List ℕ) → framedNumber f ≡ done → onPacket p f (made t) ≡ made (sheetLine p ++ t)
-on-whole p (framed.Whole a c e) t h = refl
-on-whole p (framed.Refused why) t h = absurd (not-done why h)
-
 pub list-exports : {ps : List (List ℕ)} {s : List ℕ} → ListForm ps s → sheetOf ps ≡ made (textOf ps)
 unfolding sheetOf
 list-exports none = refl
-list-exports (then {p = p} {ps = ps} h f) = rw (list-exports f) (on-whole p (readOf p) (textOf ps) h)
+list-exports (then {p = p} {ps = ps} h f) = rw (list-exports f) (on-whole p (readOf p) (made (textOf ps)) h)
 
 -- what is exported was such a list
 listed : (ps : List (List ℕ)) (t : List ℕ) → sheetOf ps ≡ made t → ListForm ps (joined ps)

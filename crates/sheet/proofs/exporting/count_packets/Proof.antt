@@ -4,12 +4,12 @@ use mathlib.Core.Path.{_≡_, refl}
 use borrow.Author.Needs.{needs}
 use native.Mathlib.Omega.{arith}
 use lib.ListN.{length}
-use Rattle.sheet.proofs.Exports.{ahead, count-refused, count-within, count-less, count-few, count-on, count-done}
+use Rattle.sheet.proofs.Exports.{coming, count-refused, count-within, count-less, count-few, count-on, count-done}
 use Rattle.sheet.proofs.exporting.count_packets.Statement.{statement}
 use Rattle.sheet.proofs.exporting.count_packets.Tie as tie
 
 abbrev Inv-loop : tie.InvT-loop
-Inv-loop packets at₀ count₀ at count = (at ≤ length packets) × ((count ≤ at) × (ahead count packets at ≡ ahead 0 packets 0))
+Inv-loop packets at₀ count₀ at count = (at ≤ length packets) × ((count ≤ at) × (coming count packets at ≡ coming 0 packets 0))
 
 abbrev μ-loop : tie.MeasureT-loop
 μ-loop packets at₀ count₀ at count = length packets - at

@@ -82,13 +82,20 @@ wrote-not why out left n e =
     let f : Refused why ≡ Bytes n = ap (λ (o : Outcome Built (List ℕ)). o .answer) e in
     impossible cc
 
--- then the first n bytes are the packet
+-- then the packet has n bytes
+pub written-count : (p out left : List ℕ) (n : ℕ) → written p out ≡ wrote n left → length p ≡ n
+unfolding written
+written-count p out left n e =
+    let w = chose-second (ltb (length out) (length p)) e (wrote-not Room out left n) .1 in
+    let b : Bytes (length p) ≡ Bytes n = ap (λ (o : Outcome Built (List ℕ)). o .answer) w in
+    cc
+
+-- which are the first of what is left
 pub written-wrote : (p out left : List ℕ) (n : ℕ) → written p out ≡ wrote n left → take n left ≡ p
 unfolding written
 written-wrote p out left n e =
     let w = chose-second (ltb (length out) (length p)) e (wrote-not Room out left n) .1 in
-    let b : Bytes (length p) ≡ Bytes n = ap (λ (o : Outcome Built (List ℕ)). o .answer) w in
-    rw (← (ap (λ (o : Outcome Built (List ℕ)). o .left) w)) (take-at p (drop (length p) out) n (cc))
+    rw (← (ap (λ (o : Outcome Built (List ℕ)). o .left) w)) (take-at p (drop (length p) out) n (written-count p out left n e))
 
 at-start-long : (t : Bool) (p out : List ℕ) → ltb (length out) (length p) ≡ t → length (cond t (refused Room out) (atStart p out) .left) ≡ length out
 at-start-long true p out e = refl

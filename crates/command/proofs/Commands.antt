@@ -1,10 +1,12 @@
--- Commands: what the builder writes reads back as the same command, an accepted packet is what it writes from its parts, a refused builder leaves the buffer as it stood.
+-- Commands: what the builder writes, whatever follows it, reads back as the same command and ends at its length; up to its end an accepted packet is what it writes from its parts;
+-- a refused builder leaves the buffer as it stood.
 use Prim.Native.Nat.{ℕ, _+_, _%_, _/_, _<_, _≤_}
 use mathlib.Core.Bool.{Bool, true, false, cond}
-use mathlib.Core.List.{List}
+use mathlib.Core.List.{List, _++_}
 use mathlib.Core.Path.{_≡_, refl, _∙_}
 use native.Mathlib.Omega.{arith}
 use lib.ListN.{length, getD, take}
+use lib.Seq.{length-take-le}
 use borrow.Author.Tests.{lt-ltb, le-ltb, leb-true}
 use Rattle.wire.specs.Address.{individualInRange, groupInRange, inRange, byteOf}
 use Rattle.buffer.specs.Buffer.{atStart, written}
@@ -13,7 +15,7 @@ use Rattle.wire.specs.declared.address.Address.{Address}
 use Rattle.wire.specs.declared.refusal.Refusal.the-variants.{Range}
 use Rattle.wire.proofs.Addresses.{address-back, address-in-range}
 use Rattle.wire.proofs.Choice.{chose-first, both}
-use Rattle.buffer.proofs.Writing.{written-fits, wrote, wrote-not, written-wrote}
+use Rattle.buffer.proofs.Writing.{written-fits, wrote, wrote-not, written-count, written-wrote}
 use Rattle.buffer.proofs.Refusals.{Spares, written-spares, else-spares}
 use Rattle.packet.specs.Packet.{dataPart}
 use Rattle.packet.proofs.Packets as packets
@@ -63,29 +65,31 @@ read-from k d c h e = let s = says k (length d) d c e in (s .code, s .bytes refl
 
 -- ---- from bytes to bytes
 
--- a built packet reads back as the same command
-pub built-reads : (a : Address) (c : Command) → inRange a ≡ true → fitsOf c ≡ true → Typed c → ReadsAs (packetFor a c) a c
-built-reads a c h f t =
+built-length : (a : Address) (c : Command) → length (packetFor a c) ≡ 4 + length (ownData c)
+built-length a c = packets.built-length (byteOf a) (codeOf c) (ownData c)
+
+-- a built packet, whatever follows it, reads back as the same command and ends at its length
+pub built-reads : (a : Address) (c : Command) → inRange a ≡ true → fitsOf c ≡ true → Typed c → (more : List ℕ) → ReadsAs (packetFor a c ++ more) a c (length (packetFor a c))
+built-reads a c h f t more =
     let z = sized c in
     let small : codeOf c < 16 = omega arith in
     record {
       command = codeOf c;
-      end = 4 + length (ownData c);
-      whole = rw (address-back a h) at (packets.built-reads (byteOf a) (codeOf c) (ownData c) small);
-      known = rw (packets.built-data (byteOf a) (codeOf c) (ownData c) small) (read-back c f t);
+      whole = rw (built-length a c) (rw (address-back a h) at (packets.built-reads (byteOf a) (codeOf c) (ownData c) more small));
+      known = rw (packets.built-data (byteOf a) (codeOf c) (ownData c) more small) (read-back c f t);
     }
 
--- an accepted packet is the one that we would build from its parts
-pub reads-built : (s : List ℕ) (a : Address) (c : Command) → AllBytes s → ReadsAs s a c → s ≡ packetFor a c
-reads-built s a c h r =
+-- up to its end an accepted packet is the one that we would build from its parts
+pub reads-built : (s : List ℕ) (a : Address) (c : Command) (n : ℕ) → AllBytes s → ReadsAs s a c n → take n s ≡ packetFor a c
+reads-built s a c n h r =
     let e = read-from (r .command) (dataPart s) c (packet.data-bytes s h) (r .known) in
-    rw (e .0, e .1) (packets.accepted-built s a (r .command) (r .end) (r .whole))
+    rw (e .0, e .1) (packets.accepted-built s a (r .command) n (r .whole))
 
 -- whose address and command are of their ranges, so that they are built and read back
-pub reads-in-range : (s : List ℕ) (a : Address) (c : Command) → ReadsAs s a c → (inRange a ≡ true) × (fitsOf c ≡ true) × Typed c
+pub reads-in-range : (s : List ℕ) (a : Address) (c : Command) (n : ℕ) → ReadsAs s a c n → (inRange a ≡ true) × (fitsOf c ≡ true) × Typed c
 unfolding commandRead
-reads-in-range s a c r =
-    let f = packets.framing s a (r .command) (r .end) (packets.read-says s a (r .command) (r .end) (r .whole) .0) in
+reads-in-range s a c n r =
+    let f = packets.read-framing s a (r .command) n (r .whole) in
     let g = says (r .command) (length (dataPart s)) (dataPart s) c (r .known) in
     (rw (← (f .address)) (address-in-range (getD s 1 0)), g .fits, g .typed)
 
@@ -95,19 +99,22 @@ pub built-written : (to : Address) (c : Command) (out : List ℕ) → inRange to
 unfolding commandBuild buildFor
 built-written to c out h f = rw (h, f)
 
--- what the builder writes, n bytes, reads back as the same command
-pub written-reads : (to : Address) (c : Command) (out left : List ℕ) (n : ℕ) → Typed c → commandBuild to c out ≡ wrote n left → ReadsAs (take n left) to c
+-- what the builder writes, n bytes, reads back as the same command and ends there, whatever follows it
+pub written-reads : (to : Address) (c : Command) (out left : List ℕ) (n : ℕ) → Typed c → commandBuild to c out ≡ wrote n left → (more : List ℕ) → ReadsAs (take n left ++ more) to c n
 unfolding commandBuild buildFor
-written-reads to c out left n t e =
+written-reads to c out left n t e more =
     let h = chose-first (inRange to) e (wrote-not Range out left n) in
     let f = chose-first (fitsOf c) (h .1) (wrote-not Range out left n) in
-    rw (written-wrote (packetFor to c) out left n (f .1)) (built-reads to c (h .0) (f .0) t)
+    let k : length (packetFor to c) ≡ n = written-count (packetFor to c) out left n (f .1) in
+    rw (written-wrote (packetFor to c) out left n (f .1)) (rw k at (built-reads to c (h .0) (f .0) t more))
 
--- an accepted packet is, where it has room, the one that the builder writes from its address and command
-pub reads-written : (s : List ℕ) (a : Address) (c : Command) (out : List ℕ) → AllBytes s → ReadsAs s a c → length s ≤ length out → commandBuild a c out ≡ atStart s out
-reads-written s a c out b r h =
-    let f = reads-in-range s a c r in
-    built-written a c out (f .0) (f .1) ∙ rw (← (reads-built s a c b r)) (written-fits s out h)
+-- up to its end an accepted packet is, where it has room, what the builder writes from its address and command
+pub reads-written : (s : List ℕ) (a : Address) (c : Command) (n : ℕ) (out : List ℕ) → AllBytes s → ReadsAs s a c n → n ≤ length out → commandBuild a c out ≡ atStart (take n s) out
+reads-written s a c n out b r h =
+    let f = reads-in-range s a c n r in
+    let g = packets.read-framing s a (r .command) n (r .whole) in
+    let k : length (take n s) ≡ n = length-take-le n s (g .reaches) in
+    built-written a c out (f .0) (f .1) ∙ rw (← (reads-built s a c n b r)) (written-fits (take n s) out (omega arith))
 
 -- any number but 0 leaves the buffer as it stood
 pub command-spares : (to : Address) (c : Command) (out : List ℕ) → Spares out (commandBuild to c out)

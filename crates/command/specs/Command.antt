@@ -50,9 +50,8 @@ listedOf k n d =
 unfoldable pub commandRead : ℕ → List ℕ → Reading
 commandRead k d = listedOf k (length d) d
 
--- some bytes are one whole packet with a right sum, which says command c to address a
-pub record ReadsAs (s : List ℕ) (a : Address) (c : Command) : Type 0 where
+-- some bytes begin with a packet with a right sum, which ends at `end` and says command c to address a
+pub record ReadsAs (s : List ℕ) (a : Address) (c : Command) (end : ℕ) : Type 0 where
   pub command : ℕ
-  pub end : ℕ
   pub whole : readOf s ≡ Whole a command end
   pub known : commandRead command (dataPart s) ≡ Known c

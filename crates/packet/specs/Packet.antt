@@ -1,4 +1,4 @@
--- Document 01, "Packets": reading one whole command packet.
+-- Document 01, "Packets", and document 02, request 2: reading a command packet, which says "where the packet ends" and accepts "what follows".
 use Prim.Native.Nat.{ℕ, _+_, _/_, _%_}
 use mathlib.Core.Bool.{Bool, not, cond}
 use mathlib.Core.List.{List}
@@ -7,7 +7,7 @@ use lib.Dec.{ltb, eqb}
 use Rattle.wire.specs.Numbers.{done, numberOf}
 use Rattle.buffer.specs.Sum.{endsInSum}
 use Rattle.wire.specs.Address.{addressOf}
-use Rattle.wire.specs.declared.refusal.Refusal.the-variants.{Short, Header, Long, Sum}
+use Rattle.wire.specs.declared.refusal.Refusal.the-variants.{Short, Header, Sum}
 use Rattle.packet.specs.declared.Framed.{Framed}
 use Rattle.packet.specs.declared.Framed.the-variants.{Whole, Refused}
 
@@ -35,29 +35,21 @@ unfoldable pub dataPart : List ℕ → List ℕ
 dataPart s = take (countOf s) (drop dataFrom s)
 
 -- "empty, 1; first byte not 0xAA, 2; fewer than 4 bytes or fewer than 4 + count, 1", whatever follows the packet
-unfoldable pub frontOf : List ℕ → Framed
-frontOf s =
+unfoldable pub frameOf : List ℕ → Framed
+frameOf s =
     cond (ltb (length s) 1) (Refused Short)
     (cond (not (eqb (getD s 0 0) 0xAA)) (Refused Header)
     (cond (ltb (length s) 4) (Refused Short)
     (cond (ltb (length s) (endOf s)) (Refused Short)
     (partsOf s))))
 
--- "more, 3": what is found ends where the bytes do
-abbrev pub alone : List ℕ → Framed → Framed
-alone s (Whole a c e) = cond (ltb e (length s)) (Refused Long) (Whole a c e)
-alone s (Refused why) = Refused why
-
-unfoldable pub frameOf : List ℕ → Framed
-frameOf s = alone s (frontOf s)
-
--- the sum is right; "the header isn't in it"
+-- the sum of a packet's bytes is right; "the header isn't in it"
 unfoldable pub isIntact : List ℕ → Bool
 isIntact s = endsInSum (drop 1 s)
 
--- "sum, 4", the last of the checks
+-- "sum, 4", the last of the checks: of "the bytes up to that end"
 abbrev pub checked : List ℕ → Framed → Framed
-checked s (Whole a c e) = cond (isIntact s) (Whole a c e) (Refused Sum)
+checked s (Whole a c e) = cond (isIntact (take e s)) (Whole a c e) (Refused Sum)
 checked s (Refused why) = Refused why
 
 unfoldable pub readOf : List ℕ → Framed

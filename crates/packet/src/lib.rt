@@ -1,5 +1,5 @@
 // Command packets: 0xAA; address; command byte; 0 to 15 data bytes; sum.
-// Promised: a built packet reads back as its parts, an accepted one is the one built from its parts.
+// Promised: a built packet, whatever follows it, reads back as its parts and ends at its length; up to its end an accepted one is the one built from its parts.
 // Left to others: which command a nibble with its data is (command), and that a wrong sum is answered (message).
 use buffer::Built;
 use wire::Address;
@@ -10,14 +10,14 @@ ghost use lib.ListN.{length, drop};
 ghost use Prim.Native.Nat.{_+_, _≤_};
 ghost use Rattle.wire.specs.Promise.{Promise, Lending};
 ghost use Rattle.wire.specs.Part.{Part};
-ghost use Rattle.packet.specs.Packet.{frontOf, frameOf, framedNumber, isIntact, readOf, dataFrom, dataPart};
+ghost use Rattle.packet.specs.Packet.{frameOf, framedNumber, isIntact, readOf, dataFrom, dataPart};
 ghost use Rattle.buffer.specs.Buffer.{builtNumber};
 ghost use Rattle.packet.specs.Build.{packetWith, buildOf};
 
 // The first byte of every command packet.
 pub const HEADER: u8 = 0xAA;
 
-// What reading a command packet finds: its parts and where it ends, or the refusal. The data bytes are `data_part`.
+// What reading a command packet finds: its parts and where it ends, or the refusal; never 3. The data bytes are `data_part`.
 pub enum Framed {
     Whole {
         address: Address,
@@ -43,9 +43,9 @@ impl Framed {
     }
 }
 
-// The packet at the front of some bytes, whatever its sum and whatever follows it.
-fn front(s: &[u8]) -> Framed
-    ensures { λ r. ⌜ r ≡ frontOf (now (s .entry)) ⌝ }
+// The command packet that some bytes begin with, whatever its sum and whatever follows it: the chain takes a wrong sum too.
+pub fn frame(s: &[u8]) -> Framed
+    ensures { λ r. ⌜ Promise framedNumber r (frameOf (now (s .entry))) ⌝ }
 {
     if s.len() < 1 {
         return Framed::Refused(Refusal::Short);
@@ -68,32 +68,7 @@ fn front(s: &[u8]) -> Framed
     }
 }
 
-// One whole command packet, whatever its sum: the chain takes a wrong sum too.
-pub fn frame(s: &[u8]) -> Framed
-    ensures { λ r. ⌜ Promise framedNumber r (frameOf (now (s .entry))) ⌝ }
-{
-    match front(s) {
-        Framed::Whole {
-            address,
-            command,
-            end,
-        } => {
-            // Here alone is it a fault that bytes follow the packet.
-            if end < s.len() {
-                Framed::Refused(Refusal::Long)
-            } else {
-                Framed::Whole {
-                    address,
-                    command,
-                    end,
-                }
-            }
-        }
-        Framed::Refused(fault) => Framed::Refused(fault),
-    }
-}
-
-// Whether a packet's sum is right: the header isn't in it.
+// Whether the sum of a packet, which is all of these bytes, is right: the header isn't in it.
 pub fn is_intact(s: &[u8]) -> bool
     ensures { λ r. ⌜ r ≡ isIntact (now (s .entry)) ⌝ }
 {
@@ -103,7 +78,7 @@ pub fn is_intact(s: &[u8]) -> bool
     buffer::ends_in_sum(&s[1..])
 }
 
-// One whole command packet with a right sum.
+// The command packet that some bytes begin with, if its sum is right. The next one begins where it ends.
 pub fn read(s: &[u8]) -> Framed
     ensures { λ r. ⌜ Promise framedNumber r (readOf (now (s .entry))) ⌝ }
 {
@@ -113,7 +88,7 @@ pub fn read(s: &[u8]) -> Framed
             command,
             end,
         } => {
-            if is_intact(s) {
+            if is_intact(&s[..end]) {
                 Framed::Whole {
                     address,
                     command,
@@ -127,18 +102,18 @@ pub fn read(s: &[u8]) -> Framed
     }
 }
 
-// The data bytes of a packet: the part of the input that starts at its fourth byte.
+// The data bytes of a packet, whatever follows it: the part of the input that starts at its fourth byte.
 pub fn data_part(s: &[u8]) -> &[u8]
     ensures { λ r. ⌜ Part (s .entry) dataFrom (dataPart (now (s .entry))) r ⌝ }
 {
     if s.len() < 3 {
         return &s[s.len()..];
     }
-    let end = 3 + (s[2] / 16) as usize;
-    if s.len() < end {
+    let sum_at = 3 + (s[2] / 16) as usize;
+    if s.len() < sum_at {
         return &s[3..];
     }
-    &s[3..end]
+    &s[3..sum_at]
 }
 
 // Writes a packet that fits.

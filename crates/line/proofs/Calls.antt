@@ -10,7 +10,6 @@ use borrow.Author.Tests.{le-leb, le-ltb}
 use Rattle.wire.specs.Promise.{Outcome}
 use Rattle.buffer.specs.Buffer.{written}
 use Rattle.wire.specs.declared.address.Address.{Address}
-use Rattle.packet.specs.Packet.{frameOf}
 use Rattle.packet.specs.declared.Framed.{Framed}
 use Rattle.packet.specs.declared.Framed.the-variants as framed
 use Rattle.status.specs.Status.{T}
@@ -22,7 +21,7 @@ use Rattle.reply.proofs.Replies.{reply-length}
 use Rattle.survey.specs.declared.decision.Delivery.{Delivery}
 use Rattle.survey.specs.One.{messageAs, isRanged}
 use Rattle.survey.specs.Chain.{after, Said, silence, reply, collided, said, allRanged}
-use Rattle.survey.specs.Delivery.{Lent, valid, onSaid, deliveredTo, onFrame, deliverOf}
+use Rattle.survey.specs.Delivery.{Lent, valid, onSaid, deliveredTo, frameAlone, onFrame, deliverOf}
 use Rattle.survey.proofs.Meaning.{said-says}
 use Rattle.line.specs.Line.{takenBy, spokenBy}
 use Rattle.line.specs.Demand3.{saidIn, Delivers}
@@ -55,7 +54,7 @@ module _ (ns : List Node) (out : List ℕ) (room : T + 2 ≤ length out) where
   pub delivers : 1 ≤ length ns → length ns ≤ 31 → ((i : ℕ) → i < length ns → isRanged (at ns i .settings .place) ≡ true) → (q : List ℕ) → Delivers ns q out
   unfolding deliverOf valid
   delivers least few f q =
-      let d = does-frame (frameOf q) q in
+      let d = does-frame (frameAlone q) q in
       record { taken = sure; nodes = rw sure (d .nodes); says = rw sure (d .says) }
     where
       sure : valid ns ≡ true

@@ -7,7 +7,7 @@ use mathlib.Core.Path.{_≡_, refl, ap, _∙_}
 use lib.ListN.{getD, replicate}
 use Rattle.buffer.specs.Sum.{total, endsInSum}
 use Rattle.buffer.specs.Buffer.{written}
-use Rattle.packet.specs.Packet.{dataPart, frontOf, frameOf, isIntact}
+use Rattle.packet.specs.Packet.{dataPart, frameOf, isIntact}
 use Rattle.command.specs.declared.Place.{Place}
 use Rattle.command.specs.declared.Command.the-variants.{SetAddress, SetOutputs, Nop}
 use Rattle.command.specs.Command.{listedOf, commandRead}
@@ -22,6 +22,7 @@ use Rattle.reply.specs.Items.{replyItems}
 use Rattle.reply.specs.Reply.{replyOf}
 use Rattle.survey.specs.One.{doesAct, doesReply, turned}
 use Rattle.survey.specs.Chain.{blankNode, after, replierIn, reply, said}
+use Rattle.survey.specs.Delivery.{frameAlone}
 use Rattle.entry.specs.declared.Entry.{Entry}
 use Rattle.entry.specs.Entry.{entryPowerUp}
 use Rattle.ledger.specs.Ledger.{ledgerPowerUp, ledgerLeast, eachFrom, settleOf}
@@ -139,35 +140,35 @@ judged-good = refl
 
 -- the packets at the nodes
 takes-1 : nodesAfter (came (given 1)) (up ∷ up ∷ []) ≡ placed 1 0 ∷ up ∷ []
-unfolding frontOf frameOf dataPart isIntact endsInSum total commandRead listedOf after turned doesAct
+unfolding frameOf frameAlone dataPart isIntact endsInSum total commandRead listedOf after turned doesAct
 takes-1 = refl
 
 takes-2 : nodesAfter (came (given 2)) (placed 1 0 ∷ up ∷ []) ≡ placed 1 0 ∷ placed 2 0 ∷ []
-unfolding frontOf frameOf dataPart isIntact endsInSum total commandRead listedOf after turned doesAct
+unfolding frameOf frameAlone dataPart isIntact endsInSum total commandRead listedOf after turned doesAct
 takes-2 = refl
 
 takes-ask : nodesAfter (came nop1) (placed 1 0 ∷ up ∷ []) ≡ placed 1 0 ∷ up ∷ []
-unfolding frontOf frameOf dataPart isIntact endsInSum total commandRead listedOf after turned doesAct
+unfolding frameOf frameAlone dataPart isIntact endsInSum total commandRead listedOf after turned doesAct
 takes-ask = refl
 
 takes-5 : (old : ℕ) → nodesAfter (came set5) (placed 1 0 ∷ placed 2 old ∷ []) ≡ placed 1 0 ∷ placed 2 5 ∷ []
-unfolding frontOf frameOf dataPart isIntact endsInSum total commandRead listedOf after turned doesAct
+unfolding frameOf frameAlone dataPart isIntact endsInSum total commandRead listedOf after turned doesAct
 takes-5 old = refl
 
 says-1 : saidAfter (came (given 1)) (up ∷ up ∷ []) ≡ reply good
-unfolding frontOf frameOf dataPart isIntact endsInSum total commandRead listedOf said replierIn doesReply replyOf replyItems
+unfolding frameOf frameAlone dataPart isIntact endsInSum total commandRead listedOf said replierIn doesReply replyOf replyItems
 says-1 = refl
 
 says-2 : saidAfter (came (given 2)) (placed 1 0 ∷ up ∷ []) ≡ reply good
-unfolding frontOf frameOf dataPart isIntact endsInSum total commandRead listedOf said replierIn doesReply replyOf replyItems
+unfolding frameOf frameAlone dataPart isIntact endsInSum total commandRead listedOf said replierIn doesReply replyOf replyItems
 says-2 = refl
 
 says-ask : saidAfter (came nop1) (placed 1 0 ∷ up ∷ []) ≡ reply good
-unfolding frontOf frameOf dataPart isIntact endsInSum total commandRead listedOf said replierIn doesReply replyOf replyItems
+unfolding frameOf frameAlone dataPart isIntact endsInSum total commandRead listedOf said replierIn doesReply replyOf replyItems
 says-ask = refl
 
 says-5 : (old : ℕ) → saidAfter (came set5) (placed 1 0 ∷ placed 2 old ∷ []) ≡ reply good
-unfolding frontOf frameOf dataPart isIntact endsInSum total commandRead listedOf said replierIn doesReply replyOf replyItems
+unfolding frameOf frameAlone dataPart isIntact endsInSum total commandRead listedOf said replierIn doesReply replyOf replyItems
 says-5 old = refl
 
 -- the first "next": the reply is lost; "ask" is replied to

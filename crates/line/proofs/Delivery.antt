@@ -1,19 +1,23 @@
 -- From the sending of a packet to its report: what the line does to bytes, as what it does to nodes and what the answer tells.
 use Prim.Native.Nat.{ℕ}
 use mathlib.Core.Bool.{Bool, true, false, cond, true≢false, false≢true}
-use mathlib.Core.List.{List}
+use mathlib.Core.List.{List, [], append-nil}
 use mathlib.Core.Option.{Option}
 use mathlib.Core.Path.{_≡_, refl, sym, ap, subst, _∙_}
-use lib.ListN.{getD}
+use native.Mathlib.Nat.{le-refl, le-of-eq}
+use lib.ListN.{length, getD}
+use lib.Seq.{take-length}
 use Rattle.wire.specs.Address.{inRange, addressOf}
 use Rattle.buffer.specs.Change.{Altered, Damaged}
 use Rattle.wire.specs.declared.address.Address.{Address}
 use Rattle.wire.specs.declared.address.Address.the-variants as address
 use Rattle.wire.proofs.Choice.{both}
-use Rattle.packet.specs.Packet.{frameOf}
+use Rattle.packet.specs.Packet.{frameOf, isIntact}
 use Rattle.packet.specs.declared.Framed.the-variants.{Whole}
+use Rattle.buffer.proofs.Sums.{changed-length}
 use Rattle.packet.proofs.Packets.{read-says, damaged-frames, damaged-spoilt}
 use Rattle.command.specs.declared.Command.{Command}
+use Rattle.command.specs.Command.{ReadsAs}
 use Rattle.command.specs.Build.{fitsOf, Typed, packetFor}
 use Rattle.command.proofs.Commands.{built-reads}
 use Rattle.command.specs.Role.{roleOf}
@@ -29,6 +33,8 @@ use Rattle.reply.specs.Reply.{statusByte}
 use Rattle.reply.proofs.Replies.{reply-judged, altered-silent}
 use Rattle.survey.specs.One.{messageAs, isMeant, isAnswering}
 use Rattle.survey.specs.Chain.{after, Said, silence, collided, said, hearsAt, repliesAt}
+use Rattle.survey.specs.Delivery.{frameAlone}
+use Rattle.survey.proofs.Lengths.{stands-alone}
 use Rattle.survey.proofs.Meaning.{length-after, after-at, spoilt-stays, Replying, said-says}
 use Rattle.line.specs.Line.{Arrival, came, Arrives, Nothing, Returns, nodesAfter, saidAfter, answerIn}
 use Rattle.line.specs.Line as line
@@ -58,8 +64,8 @@ voice to message ns n e (line.altered {r = r} {t = t} a) =
 voice to message ns n e (line.lost o) = rw (nothing-silent o) silent
 voice to message ns n e line.mixed = absurd (n e)
 
--- bytes that read as a whole packet
-module _ (ns : List Node) (q : List ℕ) (to : Address) (k n : ℕ) (message : Message) (f : frameOf q ≡ Whole to k n) (e : messageAs k q ≡ message) where
+-- bytes that are a whole packet
+module _ (ns : List Node) (q : List ℕ) (to : Address) (k n : ℕ) (message : Message) (f : frameAlone q ≡ Whole to k n) (e : messageAs k q ≡ message) where
   nodes-are : nodesAfter (came q) ns ≡ after to message ns
   nodes-are = rw (f, e) refl
 
@@ -133,24 +139,34 @@ module _ (to : Address) (c : Command) (ns : List Node) where
       pub nodes : nodesAfter (came q) ns ≡ after a message ns
       pub speaks : saidAfter (came q) ns ≡ said a message ns
 
+    abbrev long : ℕ
+    long = length (packetFor to c)
+
+    reads : ReadsAs (packetFor to c) to c long
+    reads = subst (λ (s : List ℕ). ReadsAs s to c long) (append-nil (packetFor to c)) (built-reads to c range fits typed [])
+
+    own : (frameOf (packetFor to c) ≡ Whole to (reads .command) long) × (isIntact (packetFor to c) ≡ true)
+    own =
+        let s = read-says (packetFor to c) to (reads .command) long (reads .whole) in
+        (s .0, ap isIntact (sym (take-length (packetFor to c))) ∙ s .1)
+
     pub whole-means : Means (packetFor to c) to (Intact c)
     whole-means =
-        let r = built-reads to c range fits typed in
-        let s = read-says (packetFor to c) to (r .command) (r .end) (r .whole) in
-        let h : messageAs (r .command) (packetFor to c) ≡ Intact c = rw (s .1, r .known) refl in
+        let f = stands-alone (packetFor to c) to (reads .command) long (own .0) (le-refl long) in
+        let h : messageAs (reads .command) (packetFor to c) ≡ Intact c = rw (own .1, reads .known) refl in
         record {
-          nodes = nodes-are ns (packetFor to c) to (r .command) (r .end) (Intact c) (s .0) h;
-          speaks = said-is ns (packetFor to c) to (r .command) (r .end) (Intact c) (s .0) h;
+          nodes = nodes-are ns (packetFor to c) to (reads .command) long (Intact c) f h;
+          speaks = said-is ns (packetFor to c) to (reads .command) long (Intact c) f h;
         }
 
     pub damaged-means : (q : List ℕ) → Damaged (packetFor to c) q → Means q (addressOf (getD q 1 0)) Spoilt
     damaged-means q d =
-        let r = built-reads to c range fits typed in
-        let f = damaged-frames (packetFor to c) q to (r .command) (r .end) (r .whole) d in
-        let h : messageAs (r .command) q ≡ Spoilt = rw (damaged-spoilt (packetFor to c) q to (r .command) (r .end) (r .whole) d) refl in
+        let g = damaged-frames (packetFor to c) q to (reads .command) long (reads .whole) d (d .change .inside) in
+        let f = stands-alone q (addressOf (getD q 1 0)) (reads .command) long g (le-of-eq (changed-length (d .change))) in
+        let h : messageAs (reads .command) q ≡ Spoilt = rw (damaged-spoilt (packetFor to c) q (own .1) d) refl in
         record {
-          nodes = nodes-are ns q _ (r .command) (r .end) Spoilt f h;
-          speaks = said-is ns q _ (r .command) (r .end) Spoilt f h;
+          nodes = nodes-are ns q _ (reads .command) long Spoilt f h;
+          speaks = said-is ns q _ (reads .command) long Spoilt f h;
         }
 
     -- from the sending to the report

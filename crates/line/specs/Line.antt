@@ -3,7 +3,6 @@ use Prim.Native.Nat.{ℕ}
 use mathlib.Core.List.{List, []}
 use mathlib.Core.Option.{Option, none, some}
 use Rattle.buffer.specs.Change.{Altered, Damaged}
-use Rattle.packet.specs.Packet.{frameOf}
 use Rattle.packet.specs.declared.Framed.{Framed}
 use Rattle.packet.specs.declared.Framed.the-variants as framed
 use Rattle.status.specs.Status.{judgeOf}
@@ -12,6 +11,7 @@ use Rattle.status.specs.declared.Answer.the-variants.{Silent}
 use Rattle.node.specs.declared.state.Node.{Node}
 use Rattle.survey.specs.One.{messageAs}
 use Rattle.survey.specs.Chain.{after, Said, silence, reply, collided, said}
+use Rattle.survey.specs.Delivery.{frameAlone}
 use Rattle.session.specs.declared.Session.{Session}
 use Rattle.session.specs.declared.Step.{Step}
 use Rattle.reports.specs.Report.{finishOf, reportOf}
@@ -47,7 +47,7 @@ takenBy (framed.Refused why) q ns = ns
 
 abbrev pub nodesAfter : Arrival → List Node → List Node
 nodesAfter nowhere ns = ns
-nodesAfter (came q) ns = takenBy (frameOf q) q ns
+nodesAfter (came q) ns = takenBy (frameAlone q) q ns
 
 -- and what they say
 abbrev pub spokenBy : Framed → List ℕ → List Node → Said
@@ -56,7 +56,7 @@ spokenBy (framed.Refused why) q ns = silence
 
 abbrev pub saidAfter : Arrival → List Node → Said
 saidAfter nowhere ns = silence
-saidAfter (came q) ns = spokenBy (frameOf q) q ns
+saidAfter (came q) ns = spokenBy (frameAlone q) q ns
 
 -- nothing came: silence is reported, or no bytes
 pub data Nothing : Option (List ℕ) → Type 0 where

@@ -3,7 +3,7 @@ use mathlib.Core.List.{map}
 use mathlib.Core.Path.{_≡_, refl}
 use Rattle.buffer.specs.Buffer.{written}
 use Rattle.buffer.specs.Sum.{total, endsInSum}
-use Rattle.packet.specs.Packet.{dataPart, frontOf, frameOf, isIntact}
+use Rattle.packet.specs.Packet.{dataPart, frameOf, isIntact}
 use Rattle.command.specs.Command.{listedOf, commandRead}
 use Rattle.text.specs.Digits.{valueOf, oneDigit, twoDigits, decimalOf, readDecimal}
 use Rattle.hex.specs.Digits.{digitOf, characterOf}
@@ -12,16 +12,16 @@ use Rattle.reply.specs.Items.{replyItems}
 use Rattle.reply.specs.Reply.{replyOf}
 use Rattle.survey.specs.One.{doesAct, doesReply, turned, isRanged}
 use Rattle.survey.specs.Chain.{after, replierIn, said}
-use Rattle.survey.specs.Delivery.{valid, deliveredTo, deliverOf}
+use Rattle.survey.specs.Delivery.{valid, deliveredTo, frameAlone, deliverOf}
 use Rattle.table.specs.Table.{tableDeliver}
 use Rattle.script.specs.Answers.{numberEnd}
 use Rattle.script.specs.Bench.{startOf, playOf, runOf, runWith, rehearseOf}
 use Rattle.script.specs.Example.{Rehearsal, paper, edges}
 
 pub example : rehearseOf (paper .input) ≡ paper .output
-unfolding written total endsInSum dataPart frontOf frameOf isIntact listedOf commandRead valueOf oneDigit twoDigits decimalOf readDecimal digitOf characterOf hexRest pairBy readPair replyItems replyOf doesAct doesReply turned isRanged after replierIn said valid deliveredTo deliverOf tableDeliver numberEnd startOf playOf runOf runWith rehearseOf
+unfolding written total endsInSum dataPart frameOf isIntact listedOf commandRead valueOf oneDigit twoDigits decimalOf readDecimal digitOf characterOf hexRest pairBy readPair replyItems replyOf doesAct doesReply turned isRanged after replierIn said valid deliveredTo frameAlone deliverOf tableDeliver numberEnd startOf playOf runOf runWith rehearseOf
 example = refl
 
 pub edge : map (λ (e : Rehearsal). rehearseOf (e .input)) edges ≡ map (λ (e : Rehearsal). e .output) edges
-unfolding written total endsInSum dataPart frontOf frameOf isIntact listedOf commandRead valueOf oneDigit twoDigits decimalOf readDecimal digitOf characterOf hexRest pairBy readPair replyItems replyOf doesAct doesReply turned isRanged after replierIn said valid deliveredTo deliverOf tableDeliver numberEnd startOf playOf runOf runWith rehearseOf
+unfolding written total endsInSum dataPart frameOf isIntact listedOf commandRead valueOf oneDigit twoDigits decimalOf readDecimal digitOf characterOf hexRest pairBy readPair replyItems replyOf doesAct doesReply turned isRanged after replierIn said valid deliveredTo frameAlone deliverOf tableDeliver numberEnd startOf playOf runOf runWith rehearseOf
 edge = refl

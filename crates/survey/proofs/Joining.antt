@@ -16,7 +16,6 @@ use Rattle.wire.specs.declared.refusal.Refusal.the-variants.{Range}
 use Rattle.buffer.specs.declared.Built.{Built}
 use Rattle.buffer.specs.declared.Built.the-variants as built
 use Rattle.wire.proofs.Choice.{both}
-use Rattle.packet.specs.Packet.{frameOf}
 use Rattle.packet.specs.declared.Framed.{Framed}
 use Rattle.packet.specs.declared.Framed.the-variants as framed
 use Rattle.node.specs.declared.state.Node.{Node}
@@ -37,7 +36,7 @@ use Rattle.survey.specs.One.{doesAct, doesReply, messageAs}
 use Rattle.survey.specs.Chain.{after, searchOf, replierIn, Said, silence, said, saidBy, blankNode, allRanged}
 use Rattle.survey.specs.Survey.{receiveBy, receiveOf, chainStart, glancesOf, replierTo, planBy, planOf, speakerIn, speakerOf, nobody, surveyAll}
 use Rattle.survey.specs.Decision.{decideBuilt, decideOne, decideBy, decidePlan, decideOf, actAll}
-use Rattle.survey.specs.Delivery.{Lent, valid, onBuilt, onSaid, deliveredTo, onFrame, deliverOf, refusedDelivery, deliveryNumber}
+use Rattle.survey.specs.Delivery.{Lent, valid, onBuilt, onSaid, deliveredTo, frameAlone, onFrame, deliverOf, refusedDelivery, deliveryNumber}
 use Rattle.survey.proofs.Flags.{flagsFrom, setOf, seen-acting, seen-replying, seen-ranged, repliers-are, actors-turn}
 use Rattle.survey.proofs.Visiting.{visit-none}
 use Rattle.survey.proofs.Meaning.{none-one, replier-below}
@@ -120,10 +119,10 @@ tabled-plan c false q ns out o f = refused-all Range nobody ns out
 pub delivers : (ns : List Node) (p out : List ℕ) → came (decideOf (surveyAll (receiveOf p) ns) out) ns ≡ deliverOf ns p out
 unfolding receiveOf planOf surveyAll deliverOf valid
 delivers ns p out =
-    let c = receiveBy (frameOf p) p in
+    let c = receiveBy (frameAlone p) p in
     rw (seen-ranged c chainStart ns)
-    (tabled-plan c (leb 1 (length ns) && leb (length ns) mostNodes && allRanged ns) (planBy c (glancesOf c chainStart ns) (length ns)) ns out (onFrame (frameOf p) p ns out)
-    (λ v. framed-plan (frameOf p) p ns out (leb-true (length ns) mostNodes (both (leb 1 (length ns)) _ (both _ (allRanged ns) v .0) .1))))
+    (tabled-plan c (leb 1 (length ns) && leb (length ns) mostNodes && allRanged ns) (planBy c (glancesOf c chainStart ns) (length ns)) ns out (onFrame (frameAlone p) p ns out)
+    (λ v. framed-plan (frameAlone p) p ns out (leb-true (length ns) mostNodes (both (leb 1 (length ns)) _ (both _ (allRanged ns) v .0) .1))))
 
 pub joined : (ns : List Node) (p out : List ℕ) (c : Incoming) (s : Survey) (d : Decided) (left : List ℕ) (zs : List Node)
     → c ≡ receiveOf p → s ≡ surveyAll c ns → record { answer = d; left = left } ≡ decideOf s out → zs ≡ actAll (d .message) (d .acting) ns

@@ -1,5 +1,5 @@
--- What a delivery tells of long and of brief packets, and of the reply buffer.
-use Prim.Native.Nat.{ℕ, _+_, _≤_, _<_}
+-- What a delivery tells of packets that stand alone, of those with bytes left over, of long and of brief ones, and of the reply buffer.
+use Prim.Native.Nat.{ℕ, _≤_, _<_}
 use mathlib.Core.Bool.{Bool, true, false, cond, not}
 use mathlib.Core.List.{List}
 use mathlib.Core.Path.{_≡_, refl, ap, _∙_}
@@ -11,12 +11,15 @@ use borrow.Author.Tests.{lt-ltb, le-ltb}
 use Rattle.wire.specs.Promise.{Outcome}
 use Rattle.buffer.specs.Buffer.{written}
 use Rattle.wire.specs.declared.address.Address.{Address}
+use Rattle.wire.specs.declared.refusal.Refusal.{Refusal}
 use Rattle.wire.specs.declared.refusal.Refusal.the-variants.{Short, Header, Long, Room, Range}
 use Rattle.wire.proofs.Impossible.{impossible}
 use Rattle.buffer.specs.declared.Built.{Built}
 use Rattle.buffer.specs.declared.Built.the-variants as built
 use Rattle.buffer.proofs.Writing.{written-long}
-use Rattle.packet.specs.Packet.{endOf, partsOf, frontOf, alone, frameOf}
+use Rattle.packet.specs.Packet.{endOf, partsOf, frameOf}
+use Rattle.packet.proofs.Refusals.{Unframed, frame-refuses}
+use Rattle.packet.proofs.Refusals as unframed
 use Rattle.packet.specs.declared.Framed.{Framed}
 use Rattle.packet.specs.declared.Framed.the-variants as framed
 use Rattle.status.specs.Status.{mostReply}
@@ -29,16 +32,28 @@ use Rattle.survey.specs.declared.decision.Delivery.{Delivery}
 use Rattle.survey.specs.declared.decision.Delivery.the-variants.{Replied, Refused}
 use Rattle.survey.specs.One.{messageAs}
 use Rattle.survey.specs.Chain.{Said, silence, reply, collided, said, blankNode}
-use Rattle.survey.specs.Delivery.{Lent, valid, onBuilt, onSaid, onFrame, deliveredTo, deliverOf, refusedDelivery}
+use Rattle.survey.specs.Delivery.{Lent, valid, onBuilt, onSaid, alone, frameAlone, onFrame, deliveredTo, deliverOf, refusedDelivery}
 use Rattle.survey.proofs.Meaning.{said-says}
+
+-- ---- a packet with nothing behind it is the one that reading finds
+
+pub stands-alone : (p : List ℕ) (to : Address) (k n : ℕ) → frameOf p ≡ framed.Whole to k n → length p ≤ n → frameAlone p ≡ framed.Whole to k n
+unfolding frameAlone
+stands-alone p to k n f h = rw (f, le-ltb n (length p) h)
+
+-- left-over bytes are 3, whatever the sum, whoever is meant, whatever room there is; 6 comes first
+pub left-over : (ns : List Node) (p out : List ℕ) (to : Address) (k n : ℕ) → valid ns ≡ true → frameOf p ≡ framed.Whole to k n → n < length p
+    → deliverOf ns p out ≡ refusedDelivery Long ns out
+unfolding deliverOf frameAlone
+left-over ns p out to k n v f h = rw (v, f, lt-ltb n (length p) h)
 
 -- ---- a packet of 20 bytes or more is refused for what its first 20 are refused for: no packet has more than 19
 
 abbrev overlong : ℕ → Framed
 overlong head = cond (not (eqb head 0xAA)) (framed.Refused Header) (framed.Refused Long)
 
-frame-over : (p : List ℕ) → 20 ≤ length p → getD p 2 0 < 256 → frameOf p ≡ overlong (getD p 0 0)
-unfolding frontOf frameOf
+frame-over : (p : List ℕ) → 20 ≤ length p → getD p 2 0 < 256 → frameAlone p ≡ overlong (getD p 0 0)
+unfolding frameOf frameAlone
 frame-over p h b =
     rw (le-ltb (length p) 1 (omega arith), le-ltb (length p) 4 (omega arith), le-ltb (length p) (endOf p) (omega arith)) (go (not (eqb (getD p 0 0) 0xAA)))
   where
@@ -57,7 +72,7 @@ deliver-long ns p out h b =
     let n : length (take 20 p) ≡ 20 = length-take-le 20 p h in
     let b2 : getD (take 20 p) 2 0 ≡ getD p 2 0 = getD-take 20 p 2 0 (omega arith) in
     let b0 : getD (take 20 p) 0 0 ≡ getD p 0 0 = getD-take 20 p 0 0 (omega arith) in
-    let f : frameOf (take 20 p) ≡ overlong (getD p 0 0) = frame-over (take 20 p) (omega arith) (omega arith) ∙ ap overlong b0 in
+    let f : frameAlone (take 20 p) ≡ overlong (getD p 0 0) = frame-over (take 20 p) (omega arith) (omega arith) ∙ ap overlong b0 in
     rw (f, frame-over p h b, on-overlong (not (eqb (getD p 0 0) 0xAA)) (take 20 p) p ns out)
 
 -- ---- fewer than 4 bytes are never replied to
@@ -65,7 +80,7 @@ deliver-long ns p out h b =
 -- what holds of the three refusals holds of such a delivery
 pub deliver-brief : (ns : List Node) (p out : List ℕ) → length p < 4 → (Q : Outcome Delivery Lent → Type 0)
     → Q (refusedDelivery Short ns out) → Q (refusedDelivery Header ns out) → Q (refusedDelivery Range ns out) → Q (deliverOf ns p out)
-unfolding deliverOf frontOf frameOf
+unfolding deliverOf frameOf frameAlone
 deliver-brief ns p out h Q short header range =
     rw (lt-ltb (length p) 4 h) (go (valid ns) (ltb (length p) 1) (not (eqb (getD p 0 0) 0xAA)))
   where
@@ -95,29 +110,29 @@ pub deliver-left : (ns : List Node) (p out : List ℕ) → length (deliverOf ns 
 unfolding deliverOf
 deliver-left ns p out = go (valid ns)
   where
-    go : (v : Bool) → length (cond v (onFrame (frameOf p) p ns out) (refusedDelivery Range ns out) .left .reply) ≡ length out
-    go true = frame-left (frameOf p) p ns out
+    go : (v : Bool) → length (cond v (onFrame (frameAlone p) p ns out) (refusedDelivery Range ns out) .left .reply) ≡ length out
+    go true = frame-left (frameAlone p) p ns out
     go false = refl
 
 -- ---- 5 never comes up over a reply buffer as long as the longest reply
 
--- reading refuses a frame for its length or its header
-frame-whys : (p : List ℕ) → frameOf p ≡ framed.Refused Room → ⊥
-unfolding frontOf frameOf
-frame-whys p = go (ltb (length p) 1) (not (eqb (getD p 0 0) 0xAA)) (ltb (length p) 4) (ltb (length p) (endOf p))
-  where
-    ends : (e : Bool) → cond e (framed.Refused Long) (partsOf p) ≡ framed.Refused Room → ⊥
-    ends true x = impossible cc
-    ends false x = impossible cc
+-- none of these is 5
+not-room : {why : Refusal} → Unframed why → why ≡ Room → ⊥
+not-room unframed.short e = impossible cc
+not-room unframed.header e = impossible cc
 
-    go : (a b c d : Bool)
-        → alone p (cond a (framed.Refused Short) (cond b (framed.Refused Header) (cond c (framed.Refused Short) (cond d (framed.Refused Short) (partsOf p)))))
-        ≡ framed.Refused Room → ⊥
-    go true b c d x = impossible cc
-    go false true c d x = impossible cc
-    go false false true d x = impossible cc
-    go false false false true x = impossible cc
-    go false false false false x = ends (ltb (endOf p) (length p)) x
+-- the chain refuses a packet for what the frame is refused for, or for left-over bytes
+frame-whys : (p : List ℕ) → frameAlone p ≡ framed.Refused Room → ⊥
+unfolding frameAlone
+frame-whys p e = by-frame (frameOf p) refl e
+  where
+    ends : (t : Bool) (to : Address) (k n : ℕ) → cond t (framed.Refused Long) (framed.Whole to k n) ≡ framed.Refused Room → ⊥
+    ends true to k n e = impossible cc
+    ends false to k n e = impossible cc
+
+    by-frame : (f : Framed) → frameOf p ≡ f → alone p f ≡ framed.Refused Room → ⊥
+    by-frame (framed.Whole to k n) r e = ends (ltb n (length p)) to k n e
+    by-frame (framed.Refused why) r e = let z : why ≡ Room = cc in not-room (frame-refuses p why r) z
 
 module _ (ns : List Node) (out : List ℕ) (room : mostReply ≤ length out) where
   reply-fits : (to : Address) (h : Message) (r : List ℕ) → said to h ns ≡ reply r → length r ≤ length out
@@ -134,7 +149,7 @@ module _ (ns : List Node) (out : List ℕ) (room : mostReply ≤ length out) whe
       impossible cc
   said-roomy collided to h e x = impossible cc
 
-  frame-roomy : (f : Framed) (p : List ℕ) → frameOf p ≡ f → onFrame f p ns out .answer ≡ Refused Room → ⊥
+  frame-roomy : (f : Framed) (p : List ℕ) → frameAlone p ≡ f → onFrame f p ns out .answer ≡ Refused Room → ⊥
   unfolding deliveredTo
   frame-roomy (framed.Whole to k n) p e x = said-roomy (said to (messageAs k p) ns) to (messageAs k p) refl x
   frame-roomy (framed.Refused why) p e x =
@@ -145,6 +160,6 @@ module _ (ns : List Node) (out : List ℕ) (room : mostReply ≤ length out) whe
   unfolding deliverOf
   never-five p = go (valid ns)
     where
-      go : (v : Bool) → cond v (onFrame (frameOf p) p ns out) (refusedDelivery Range ns out) .answer ≡ Refused Room → ⊥
-      go true x = frame-roomy (frameOf p) p refl x
+      go : (v : Bool) → cond v (onFrame (frameAlone p) p ns out) (refusedDelivery Range ns out) .answer ≡ Refused Room → ⊥
+      go true x = frame-roomy (frameAlone p) p refl x
       go false x = impossible cc

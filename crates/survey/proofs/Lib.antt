@@ -2,7 +2,6 @@ mod Ones
 pub mod Members
 mod Searching
 pub mod Visiting
-mod Surveying
 mod Deciding
 pub mod Meaning
 pub mod Collisions
@@ -10,4 +9,5 @@ pub mod Flags
 pub mod Joining
 pub mod Refusals
 pub mod Lengths
+mod Surveying
 pub mod Unique

@@ -11,7 +11,6 @@ use Rattle.wire.specs.declared.refusal.Refusal.the-variants.{Range}
 use Rattle.buffer.specs.declared.Built.{Built}
 use Rattle.buffer.specs.declared.Built.the-variants as built
 use Rattle.buffer.proofs.Refusals as wire
-use Rattle.packet.specs.Packet.{frameOf}
 use Rattle.packet.specs.declared.Framed.{Framed}
 use Rattle.packet.specs.declared.Framed.the-variants as framed
 use Rattle.node.specs.declared.state.Node.{Node}
@@ -19,7 +18,7 @@ use Rattle.message.specs.declared.Message.{Message}
 use Rattle.survey.specs.declared.decision.Delivery.{Delivery}
 use Rattle.survey.specs.One.{messageAs}
 use Rattle.survey.specs.Chain.{Said, silence, reply, collided, said}
-use Rattle.survey.specs.Delivery.{Lent, valid, refusedDelivery, onBuilt, onSaid, deliveredTo, onFrame, deliverOf, deliveryNumber}
+use Rattle.survey.specs.Delivery.{Lent, valid, refusedDelivery, onBuilt, onSaid, deliveredTo, frameAlone, onFrame, deliverOf, deliveryNumber}
 
 -- o leaves the nodes ns and the buffer `out` as they stood, unless its number is 0 or 13
 abbrev pub Spares : List Node → List ℕ → Outcome Delivery Lent → Type 0
@@ -41,8 +40,8 @@ unfolding deliveredTo
 frame-spares ns p out (framed.Whole to c n) = said-spares to (messageAs c p) ns out (said to (messageAs c p) ns)
 frame-spares ns p out (framed.Refused why) = λ d k. (refl, refl)
 
-valid-spares : (v : Bool) (ns : List Node) (p out : List ℕ) → Spares ns out (cond v (onFrame (frameOf p) p ns out) (refusedDelivery Range ns out))
-valid-spares true ns p out = frame-spares ns p out (frameOf p)
+valid-spares : (v : Bool) (ns : List Node) (p out : List ℕ) → Spares ns out (cond v (onFrame (frameAlone p) p ns out) (refusedDelivery Range ns out))
+valid-spares true ns p out = frame-spares ns p out (frameAlone p)
 valid-spares false ns p out = λ d k. (refl, refl)
 
 pub deliver-spares : (ns : List Node) (p out : List ℕ) → Spares ns out (deliverOf ns p out)

@@ -4,12 +4,13 @@ use mathlib.Core.Bool.{Bool, true, false, cond, _&&_}
 use mathlib.Core.List.{List}
 use mathlib.Core.Path.{_≡_, sym, ap, _∙_}
 use lib.Dec.{leb}
-use borrow.Author.Tests.{le-leb, lt-leb}
+use lib.ListN.{length}
+use borrow.Author.Tests.{le-leb, lt-leb, lt-ltb}
 use Rattle.wire.specs.Numbers.{mostNodes}
 use Rattle.wire.specs.Promise.{Promise}
 use Rattle.wire.specs.declared.address.Address.{Address}
 use Rattle.wire.specs.declared.refusal.Refusal.{Refusal}
-use Rattle.wire.specs.declared.refusal.Refusal.the-variants.{Range}
+use Rattle.wire.specs.declared.refusal.Refusal.the-variants.{Long, Range}
 use Rattle.packet.specs.Packet.{frameOf, framedNumber, dataPart, isIntact}
 use Rattle.packet.specs.declared.Framed.{Framed}
 use Rattle.packet.specs.declared.Framed.the-variants as framed
@@ -29,17 +30,24 @@ use Rattle.survey.specs.declared.plan.Plan.the-variants.{Refuse}
 use Rattle.survey.specs.One.{doesAct, doesReply, isRanged}
 use Rattle.survey.specs.Chain.{searchOf}
 use Rattle.survey.specs.Sets.{joinOf, members}
+use Rattle.survey.specs.Delivery.{frameAlone}
 use Rattle.survey.specs.Survey.{receiveOf, isStillRanged, glanceFor, glancePast, glanceOf, replierTo, planBy, planOf, speakerOf}
+use Rattle.survey.proofs.Lengths.{stands-alone}
 
 -- ---- a packet as it comes in
 module _ (p : List ℕ) (f : Framed) (e : Promise framedNumber f (frameOf p)) where
-  pub came-whole : (to : Address) (k n : ℕ) (d : List ℕ) (r : Reading) (ok : Bool) (h : Message) → f ≡ framed.Whole to k n
-      → d ≡ dataPart p → r ≡ commandRead k d → ok ≡ isIntact p → h ≡ messageOf r ok → Whole to h ≡ receiveOf p
-  unfolding receiveOf
-  came-whole to k n d r ok h q a b c i = rw (← (e .answer), q, i, b, a, c)
+  module _ (to : Address) (k n : ℕ) (q : f ≡ framed.Whole to k n) where
+    pub came-long : n < length p → Unread Long ≡ receiveOf p
+    unfolding receiveOf frameAlone
+    came-long l = rw (← (e .answer), q, lt-ltb n (length p) l)
+
+    pub came-whole : (d : List ℕ) (r : Reading) (ok : Bool) (h : Message) → length p ≤ n
+        → d ≡ dataPart p → r ≡ commandRead k d → ok ≡ isIntact p → h ≡ messageOf r ok → Whole to h ≡ receiveOf p
+    unfolding receiveOf
+    came-whole d r ok h l a b c i = rw (stands-alone p to k n (sym (e .answer) ∙ q) l, i, b, a, c)
 
   pub came-unread : (why : Refusal) → f ≡ framed.Refused why → Unread why ≡ receiveOf p
-  unfolding receiveOf
+  unfolding receiveOf frameAlone
   came-unread why q = rw (← (e .answer), q)
 
 -- ---- one node more

@@ -1,15 +1,15 @@
--- Document 01, "The chain" and "Numbers returned": a packet delivered to a lent table of nodes.
+-- Document 01, "The chain" and "Numbers returned", with document 02, request 2: a packet delivered to a lent table of nodes.
 use Prim.Native.Nat.{ℕ}
 use mathlib.Core.Bool.{Bool, cond, _&&_}
 use mathlib.Core.List.{List}
-use lib.Dec.{leb}
+use lib.Dec.{leb, ltb}
 use lib.ListN.{length}
 use Rattle.wire.specs.Promise.{Outcome}
 use Rattle.wire.specs.Numbers.{done, collision, mostNodes, numberOf}
 use Rattle.buffer.specs.Buffer.{written}
 use Rattle.wire.specs.declared.address.Address.{Address}
 use Rattle.wire.specs.declared.refusal.Refusal.{Refusal}
-use Rattle.wire.specs.declared.refusal.Refusal.the-variants.{Range}
+use Rattle.wire.specs.declared.refusal.Refusal.the-variants.{Long, Range}
 use Rattle.buffer.specs.declared.Built.{Built}
 use Rattle.buffer.specs.declared.Built.the-variants as built
 use Rattle.packet.specs.Packet.{frameOf}
@@ -52,14 +52,23 @@ onSaid collided to h ns out = acted Collision to h ns out
 unfoldable pub deliveredTo : Address → Message → List Node → List ℕ → Outcome Delivery Lent
 deliveredTo to h ns out = onSaid (said to h ns) to h ns out
 
--- "then 1, 2, 3 in reading order"; "Wrong sum isn't refused by the chain"
+-- "the chain and bench program then refuse left-over bytes with 3 themselves": 3, unless what reading finds ends where the bytes do
+abbrev pub alone : List ℕ → Framed → Framed
+alone p (framed.Whole to k n) = cond (ltb n (length p)) (framed.Refused Long) (framed.Whole to k n)
+alone p (framed.Refused why) = framed.Refused why
+
+-- "then 1, 2, 3 in reading order"
+unfoldable pub frameAlone : List ℕ → Framed
+frameAlone p = alone p (frameOf p)
+
+-- "Wrong sum isn't refused by the chain"
 abbrev pub onFrame : Framed → List ℕ → List Node → List ℕ → Outcome Delivery Lent
 onFrame (framed.Whole to k n) p ns out = deliveredTo to (messageAs k p) ns out
 onFrame (framed.Refused why) p ns out = refusedDelivery why ns out
 
 -- "For the chain 6 comes first"
 unfoldable pub deliverOf : List Node → List ℕ → List ℕ → Outcome Delivery Lent
-deliverOf ns p out = cond (valid ns) (onFrame (frameOf p) p ns out) (refusedDelivery Range ns out)
+deliverOf ns p out = cond (valid ns) (onFrame (frameAlone p) p ns out) (refusedDelivery Range ns out)
 
 -- the number of a delivery
 abbrev pub deliveryNumber : Delivery → ℕ

@@ -7,7 +7,6 @@ use lib.ListN.{length, getD}
 use Rattle.wire.specs.Numbers.{done, numberOf, mostNodes}
 use Rattle.wire.specs.declared.address.Address.{Address}
 use Rattle.wire.specs.declared.refusal.Refusal.the-variants.{Range}
-use Rattle.packet.specs.Packet.{frameOf}
 use Rattle.packet.specs.declared.Framed.{Framed}
 use Rattle.packet.specs.declared.Framed.the-variants as framed
 use Rattle.command.specs.declared.Place.{Place}
@@ -25,6 +24,7 @@ use Rattle.survey.specs.declared.plan.Plan.the-variants.{Refuse, Deliver
 use Rattle.survey.specs.declared.plan.Survey.{Survey}
 use Rattle.survey.specs.One.{doesAct, doesReply, isRanged, messageAs}
 use Rattle.survey.specs.Chain.{searchOf}
+use Rattle.survey.specs.Delivery.{frameAlone}
 use Rattle.survey.specs.Sets.{setWidth, joinOf, members}
 
 -- a packet as it comes in
@@ -33,9 +33,9 @@ receiveBy (framed.Whole to k n) p = Whole to (messageAs k p)
 receiveBy (framed.Refused why) p = Unread why
 
 unfoldable pub receiveOf : List ℕ → Incoming
-receiveOf p = receiveBy (frameOf p) p
+receiveOf p = receiveBy (frameAlone p) p
 
--- the number that a packet which can't be read is refused with
+-- the number that a packet is refused with before it comes to the nodes
 abbrev pub incomingNumber : Incoming → ℕ
 incomingNumber (Whole to m) = done
 incomingNumber (Unread why) = numberOf why

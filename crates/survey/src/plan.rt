@@ -15,7 +15,7 @@ use wire::Refusal;
 ghost use mathlib.Core.Path.{_≡_};
 ghost use Rattle.survey.specs.Survey.{receiveOf, isStillRanged, glanceFor, glancePast, glanceOf, replierTo, planFor, planOf, speakerIn, speakerOf};
 
-// A packet as it comes in: whom it is for and what it says, or why it can't be read.
+// A packet as it comes in: whom it is for and what it says, or why it is refused.
 pub enum Incoming {
     Whole { to: Address, message: Message },
     Unread(Refusal),
@@ -55,8 +55,12 @@ pub fn receive(p: &[u8]) -> Incoming
         Framed::Whole {
             address,
             command,
-            end: _,
+            end,
         } => {
+            // Reading accepts what follows a packet; the chain is handed one at a time.
+            if end < p.len() {
+                return Incoming::Unread(Refusal::Long);
+            }
             let reading = command::read(command, packet::data_part(p));
             let message = Message::of(reading, packet::is_intact(p));
             Incoming::Whole {
@@ -90,7 +94,7 @@ fn glance_for(seen: Seen, n: Node, to: Address) -> Seen
     }
 }
 
-// One node more, of a packet that can't be read: only its record is looked at.
+// One node more, of a packet that is refused: only its record is looked at.
 fn glance_past(seen: Seen, n: Node) -> Seen
     ensures { λ r. ⌜ r ≡ glancePast seen n ⌝ }
 {
@@ -130,7 +134,7 @@ pub fn plan_for(message: Message, seen: Seen, n: usize) -> Plan
     }
 }
 
-// A packet, and all n nodes seen. 6 comes first, then what the packet can't be read for.
+// A packet, and all n nodes seen. 6 comes first, then what the packet is refused for.
 pub fn plan_of(incoming: Incoming, seen: Seen, n: usize) -> Plan
     ensures { λ r. ⌜ r ≡ planOf incoming seen n ⌝ }
 {

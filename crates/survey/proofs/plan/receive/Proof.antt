@@ -1,6 +1,6 @@
--- Its frame, then its reading by its data part, and its sum.
+-- Its frame, whether it stands alone, then its reading by its data part, and its sum.
 use borrow.Author.Needs.{needs}
-use Rattle.survey.proofs.Surveying.{came-whole, came-unread}
+use Rattle.survey.proofs.Surveying.{came-long, came-whole, came-unread}
 use Rattle.survey.proofs.plan.receive.Statement.{statement}
 use Rattle.survey.proofs.plan.receive.Tie as tie
 
@@ -10,6 +10,7 @@ receive-spec =
     (tie.spec
     (λ c κs. search needs)
     (λ c. search needs)
+    (λ c. search came-long)
     (λ c κs. search needs)
     (λ c κs. search needs)
     (λ c κs. search needs)

@@ -6,7 +6,7 @@ use mathlib.Core.Path.{_≡_, refl}
 use Rattle.buffer.specs.Sum.{total, endsInSum}
 use Rattle.buffer.specs.Buffer.{written}
 use Rattle.wire.specs.declared.refusal.Refusal.the-variants.{NotDue, Led}
-use Rattle.packet.specs.Packet.{frontOf, frameOf, isIntact, readOf}
+use Rattle.packet.specs.Packet.{frameOf, isIntact, readOf}
 use Rattle.command.specs.declared.Command.{Command}
 use Rattle.command.specs.declared.Command.the-variants.{SetAddress, SynchOutput, SetSynchOutput, Nop}
 use Rattle.command.specs.Build.{buildFor, commandBuild}
@@ -94,7 +94,7 @@ module _ (rest : List Entry) where
   confirmed = refl
 
   pub further : Further rest
-  unfolding total endsInSum frontOf frameOf isIntact readOf
+  unfolding total endsInSum frameOf isIntact readOf
   further =
       refl and
       refl and

@@ -4,7 +4,7 @@ use mathlib.Core.List.{List}
 use mathlib.Core.Path.{_≡_, refl}
 use Rattle.buffer.specs.Sum.{total, endsInSum}
 use Rattle.buffer.specs.Buffer.{written}
-use Rattle.packet.specs.Packet.{dataPart, frontOf, frameOf, isIntact, readOf}
+use Rattle.packet.specs.Packet.{dataPart, frameOf, isIntact, readOf}
 use Rattle.packet.specs.Build.{buildOf}
 use Rattle.command.specs.declared.Command.the-variants.{SetOutputs}
 use Rattle.command.specs.Command.{listedOf, commandRead}
@@ -45,17 +45,17 @@ module _ (rest : List Entry) where
   kept = refl
 
   pub starred : Starred rest
-  unfolding total endsInSum dataPart frontOf frameOf isIntact readOf buildOf listedOf commandRead buildFor commandBuild
+  unfolding total endsInSum dataPart frameOf isIntact readOf buildOf listedOf commandRead buildFor commandBuild
   starred =
-      (record { built = λ out. refl; packed = λ out. refl; reads = record { command = 0xE; end = 4; whole = refl; known = refl } }) and
-      (record { built = λ out. refl; packed = λ out. refl; reads = record { command = 0x1; end = 6; whole = refl; known = refl } }) and
-      (record { built = λ out. refl; packed = λ out. refl; reads = record { command = 0x3; end = 5; whole = refl; known = refl } }) and
-      (record { built = λ out. refl; packed = λ out. refl; reads = record { command = 0x6; end = 6; whole = refl; known = refl } }) and
-      (record { built = λ out. refl; packed = λ out. refl; reads = record { command = 0x5; end = 4; whole = refl; known = refl } }) and
-      (record { built = λ out. refl; packed = λ out. refl; reads = record { command = 0x1; end = 6; whole = refl; known = refl } }) and
+      (record { built = λ out. refl; packed = λ out. refl; reads = record { command = 0xE; whole = refl; known = refl } }) and
+      (record { built = λ out. refl; packed = λ out. refl; reads = record { command = 0x1; whole = refl; known = refl } }) and
+      (record { built = λ out. refl; packed = λ out. refl; reads = record { command = 0x3; whole = refl; known = refl } }) and
+      (record { built = λ out. refl; packed = λ out. refl; reads = record { command = 0x6; whole = refl; known = refl } }) and
+      (record { built = λ out. refl; packed = λ out. refl; reads = record { command = 0x5; whole = refl; known = refl } }) and
+      (record { built = λ out. refl; packed = λ out. refl; reads = record { command = 0x1; whole = refl; known = refl } }) and
       refl and
       refl and
-      refl and
+      (record { command = 0xE; whole = refl; known = refl }) and
       (rw (sent true, lost) refl) and
       (rw (sent true, lost, sent false, clear (waiting false), confirmed) refl) and
       (rw (sent true, marked (waiting true), kept) refl) and

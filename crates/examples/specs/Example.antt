@@ -3,7 +3,7 @@ use Prim.Native.Nat.{ℕ}
 use mathlib.Core.Bool.{Bool, true, false}
 use mathlib.Core.List.{List, [], _∷_}
 use mathlib.Core.Path.{_≡_}
-use lib.ListN.{replicate}
+use lib.ListN.{length, replicate}
 use Rattle.wire.specs.Promise.{Outcome}
 use Rattle.wire.specs.Address.{byteOf}
 use Rattle.buffer.specs.Buffer.{written}
@@ -100,23 +100,25 @@ shown r rest = pair (r .walk) Idle (r .first) (r .second) rest
 abbrev pub ready : Entry → Entry → TwoNodes
 ready first second = record { walk = 2; first = first; second = second }
 
--- an example: a command, where it goes, and its packet; some bytes, and the number that reading them gives;
+-- an example: a command, where it goes, and its packet; some bytes, and the number that reading them gives; some bytes, the address and command that they read as, and where the packet ends;
 -- a record, a course of events, the numbers that it gives and the record that it comes to
 pub data Example : Type 0 where
   packet : Address → Command → List ℕ → Example
   number : List ℕ → ℕ → Example
+  reading : List ℕ → Address → Command → ℕ → Example
   course : TwoNodes → List Event → List ℕ → TwoNodes → Example
 
--- a packet is built, from the command and from its parts, at the start of whatever buffer is lent, and reads as that command
+-- a packet is built, from the command and from its parts, at the start of whatever buffer is lent, and reads as that command, to its last byte
 pub record Packets (to : Address) (c : Command) (bytes : List ℕ) : Type 0 where
   pub built : (out : List ℕ) → commandBuild to c out ≡ written bytes out
   pub packed : (out : List ℕ) → buildOf (byteOf to) (codeOf c) (ownData c) out ≡ written bytes out
-  pub reads : ReadsAs bytes to c
+  pub reads : ReadsAs bytes to c (length bytes)
 
 -- what an example says, whatever the further 29 entries are
 abbrev pub Holds : List Entry → Example → Type 0
 Holds rest (packet to c bytes) = Packets to c bytes
 Holds rest (number bytes n) = framedNumber (readOf bytes) ≡ n
+Holds rest (reading bytes to c end) = ReadsAs bytes to c end
 Holds rest (course r es numbers t) = ran es (shown r rest) ≡ record { answer = numbers; left = shown t rest }
 
 -- every example of a table holds

@@ -1,4 +1,4 @@
--- Document 01, "Examples; those with * are proved together": one table, in the paper's order.
+-- Document 01, "Examples; those with * are proved together": one table, in the paper's order, with the example that document 02 changes.
 use mathlib.Core.Bool.{true, false}
 use mathlib.Core.List.{List, [], _∷_}
 use Rattle.wire.specs.declared.address.Address.the-variants as address
@@ -6,7 +6,7 @@ use Rattle.command.specs.declared.Place.{Place}
 use Rattle.command.specs.declared.Command.the-variants.{SetAddress, ReadStatus, SynchOutput, SetOutputs, Nop}
 use Rattle.entry.specs.declared.Entry.{Entry}
 use Rattle.session.specs.Session.{nodeAt, givenPlace}
-use Rattle.examples.specs.Example.{Event, order, silence, reply, knownBut, entryWith, addressed, TwoNodes, ready, Example, packet, number, course, Hold}
+use Rattle.examples.specs.Example.{Event, order, silence, reply, knownBut, entryWith, addressed, TwoNodes, ready, Example, packet, number, reading, course, Hold}
 
 -- "Set Outputs 5 to node 2"
 abbrev pub outputs5 : Event
@@ -45,8 +45,8 @@ table =
     number (0xAA ∷ 0x01 ∷ 0x0E ∷ 0x10 ∷ []) 4 ∷
     -- "AA 01 13 04: 1"
     number (0xAA ∷ 0x01 ∷ 0x13 ∷ 0x04 ∷ []) 1 ∷
-    -- "AA 01 0E 0F 00: 3"
-    number (0xAA ∷ 0x01 ∷ 0x0E ∷ 0x0F ∷ 0x00 ∷ []) 3 ∷
+    -- "The example AA 01 0E 0F 00 becomes: read, ends at 4"
+    reading (0xAA ∷ 0x01 ∷ 0x0E ∷ 0x0F ∷ 0x00 ∷ []) (nodeAt 1) Nop 4 ∷
     -- "Set Outputs 5 to node 2, silence: only its outputs in doubt"
     course fresh (outputs5 ∷ silence ∷ []) (0 ∷ 0 ∷ []) doubtful ∷
     -- "sent again, reply 00 00: known, 5"

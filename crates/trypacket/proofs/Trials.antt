@@ -5,7 +5,8 @@ use mathlib.Core.List.{List}
 use mathlib.Core.Path.{_≡_, sym, _∙_}
 use native.Mathlib.Nat.{sub-zero}
 use borrow.Author.Tests.{lt-ltb, le-ltb}
-use lib.ListN.{length, take, drop}
+use native.Mathlib.Omega.{arith}
+use lib.ListN.{length, getD, take, drop}
 use Rattle.wire.specs.Promise.{Promise, Lending}
 use Rattle.wire.specs.Address.{byteOf}
 use Rattle.wire.specs.declared.address.Address.{Address}
@@ -16,6 +17,7 @@ use Rattle.packet.specs.declared.Framed.{Framed}
 use Rattle.packet.specs.declared.Framed.the-variants as framed
 use Rattle.packet.specs.Packet.{readOf, framedNumber, dataPart}
 use Rattle.packet.specs.Build.{buildOf}
+use Rattle.packet.proofs.Packets.{most-end, read-says}
 use Rattle.status.specs.declared.Status.{Status}
 use Rattle.status.specs.declared.Status.the-variants as status
 use Rattle.status.specs.Status.{statusNumber, itemsPart}
@@ -43,13 +45,17 @@ module _ (s : List ℕ) (t : Bool) (r : Answer) (e : t ≡ isLending s 3 mostRoo
   unfolding trypacketBuild
   not-built y er = rw (sym e ∙ y, er)
 
+-- where a packet ends is a byte
+pub end-small : (s : List ℕ) (f : Framed) (a : Address) (c e : ℕ) → Promise framedNumber f (readOf s) → f ≡ framed.Whole a c e → getD s 2 0 < 256 → e < 256
+end-small s f a c e p ef h = let k = most-end s a c e (read-says s a c e (sym (p .answer) ∙ ef) .0) h in omega arith
+
 module _ (s : List ℕ) (f : Framed) (n : ℕ) (x₀ x₁ : Answer) (p : Promise framedNumber f (readOf s)) (en : n ≡ framedNumber f)
     (e₀ : x₀ ≡ fieldsNothing) (e₁ : x₁ ≡ answerPut x₀ n) where
-  -- the parts of a packet
-  pub read-whole : (a : Address) (c e b : ℕ) (x₂ x₃ r : Answer) (d : List ℕ) → f ≡ framed.Whole a c e → b ≡ byteOf a → x₂ ≡ answerPut x₁ b
-      → x₃ ≡ answerPut x₂ c → d ≡ dataPart s → r ≡ answerPutAll x₃ d → r ≡ trypacketRead s
+  -- the end and the parts of a packet
+  pub read-whole : (a : Address) (c e b : ℕ) (x₂ x₃ x₄ r : Answer) (d : List ℕ) → f ≡ framed.Whole a c e → x₂ ≡ answerPut x₁ e → b ≡ byteOf a → x₃ ≡ answerPut x₂ b
+      → x₄ ≡ answerPut x₃ c → d ≡ dataPart s → r ≡ answerPutAll x₄ d → r ≡ trypacketRead s
   unfolding trypacketRead answerPutAll
-  read-whole a c e b x₂ x₃ r d ef eb e₂ e₃ ed er = rw (sym (p .answer) ∙ ef, er, ed, e₃, e₂, eb, e₁, e₀, en, ef)
+  read-whole a c e b x₂ x₃ x₄ r d ef e₂ eb e₃ e₄ ed er = rw (sym (p .answer) ∙ ef, er, ed, e₄, e₃, eb, e₂, e₁, e₀, en, ef)
 
   -- the refusal alone
   pub read-refused : (why : Refusal) → f ≡ framed.Refused why → x₁ ≡ trypacketRead s

@@ -34,12 +34,12 @@ buildInto s out = builtShown (buildOf (fieldsByte s 1) (fieldsByte s 2) (drop 3 
 unfoldable pub trypacketBuild : List ℕ → Answer
 trypacketBuild s = cond (isLending s 3 mostRoom) (buildInto s (take (roomOf s mostRoom) filledOf)) malformedOf
 
--- what reading a packet shows: its parts, or the refusal
+-- what reading a packet shows: where it ends and its parts, or the refusal
 abbrev pub partsShown : List ℕ → Framed → Answer
-partsShown s (framed.Whole a c e) = numberedOf done (byteOf a ∷ c ∷ dataPart s)
+partsShown s (framed.Whole a c e) = numberedOf done (e ∷ byteOf a ∷ c ∷ dataPart s)
 partsShown s (framed.Refused why) = numberedOf (numberOf why) []
 
--- "`11 bytes..` read a packet: `00 address command data..`, else `NN`"
+-- "`11 bytes..` read a packet: `00 end address command data..`, else `NN`"
 unfoldable pub trypacketRead : List ℕ → Answer
 trypacketRead s = partsShown s (readOf s)
 

@@ -36,7 +36,7 @@ pub fn build(args: &[u8]) -> Answer
     malformed()
 }
 
-// `bytes..`: `00 address command data..`, else `NN`.
+// `bytes..`: `00 end address command data..`, else `NN`. Of what follows the packet nothing is shown.
 pub fn read(args: &[u8]) -> Answer
     ensures { λ r. ⌜ r ≡ trypacketRead (now (args .entry)) ⌝ }
 {
@@ -46,8 +46,9 @@ pub fn read(args: &[u8]) -> Answer
         Framed::Whole {
             address,
             command,
-            end: _,
+            end,
         } => answer
+            .put(end as u8)
             .put(address.byte())
             .put(command)
             .put_all(packet::data_part(args)),

@@ -6,7 +6,6 @@ use libc::STDOUT_FILENO;
 use packet::Framed;
 use wire::Refusal;
 ghost use mathlib.Core.Path.{_≡_};
-ghost use Prim.Native.Nat.{_+_, _≤_, _<_};
 ghost use lib.ListN.{length};
 
 // The most bytes of packets.
@@ -29,16 +28,23 @@ fn sheet_room() -> [u8; 3 * MOST_PACKETS]
 // The number of the first packet that doesn't read, from 1.
 fn first_fault(packets: &[u8]) -> usize {
     let mut at = 0;
-    let mut number = 1;
+    let mut passed = 0;
     while at < packets.len() {
-        let packet = sheet::first_packet(text::rest(packets, at));
-        if let Framed::Refused(_) = packet::read(packet) {
-            return number;
+        match packet::read(text::rest(packets, at)) {
+            Framed::Refused(_) => {
+                return passed + 1;
+            }
+            Framed::Whole {
+                address: _,
+                command: _,
+                end,
+            } => {
+                passed += 1;
+                at += end;
+            }
         }
-        number += 1;
-        at += packet.len();
     }
-    number
+    passed + 1
 }
 
 fn say(words: &[u8]) {

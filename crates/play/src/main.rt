@@ -4,11 +4,12 @@ use buffer::Built;
 use libc::STDERR_FILENO;
 use libc::STDIN_FILENO;
 use libc::STDOUT_FILENO;
+use packet::Framed;
 use sheet::Imported;
 use text::Decimal;
 use wire::MOST_NODES;
 ghost use mathlib.Core.Path.{_≡_};
-ghost use Prim.Native.Nat.{_+_, _≤_, _<_};
+ghost use Prim.Native.Nat.{_≤_, _<_};
 ghost use lib.ListN.{length};
 
 // The bench's longest input.
@@ -76,9 +77,19 @@ fn put_next(script: &mut [u8], count: &[u8], packets: &[u8], at: usize) -> usize
     requires { ⌜ (at < length (now packets)) × (length (now packets) ≤ 21844) ⌝ }
     ensures { λ r. ⌜ (at < r) × (r ≤ length (now (packets .entry))) ⌝ }
 {
-    let packet = sheet::first_packet(text::rest(packets, at));
-    put_line(script, count.len() + 3 * at, packet);
-    at + packet.len()
+    let tail = text::rest(packets, at);
+    match packet::frame(tail) {
+        Framed::Whole {
+            address: _,
+            command: _,
+            end,
+        } => {
+            put_line(script, count.len() + 3 * at, text::first(tail, end));
+            at + end
+        }
+        // It never comes to this: what was imported are packets.
+        Framed::Refused(_) => packets.len(),
+    }
 }
 
 // The bench's input: the count's line, then a line for each packet. Where it ends.

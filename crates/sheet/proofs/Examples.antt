@@ -2,7 +2,7 @@
 use mathlib.Core.List.{map}
 use mathlib.Core.Path.{_≡_, refl}
 use Rattle.buffer.specs.Sum.{total, endsInSum}
-use Rattle.packet.specs.Packet.{frontOf, frameOf, isIntact, readOf}
+use Rattle.packet.specs.Packet.{frameOf, isIntact, readOf}
 use Rattle.text.specs.Lines.{linesOf}
 use Rattle.hex.specs.Digits.{digitOf, characterOf}
 use Rattle.hex.specs.Hex.{hexRest}
@@ -16,5 +16,5 @@ unfolding total digitOf startsHex eitherDigit lineIn packetsIn
 imported = refl
 
 pub exported : map (λ (e : Listing). sheetOf (packetsOf (e .packets))) exports ≡ map (λ (e : Listing). e .comes) exports
-unfolding total endsInSum frontOf frameOf isIntact readOf characterOf hexRest sheetOf
+unfolding total endsInSum frameOf isIntact readOf characterOf hexRest packetsOf sheetOf
 exported = refl

@@ -1,11 +1,11 @@
 -- A list of packets, as the code exports it: they are counted and read first, then their lines are written.
 use Prim.Native.Nat.{ℕ, suc, _+_, _-_, _*_, _/_, _≤_, _<_}
-use mathlib.Core.List.{List, [], _∷_, _++_, append-nil, append-assoc}
+use mathlib.Core.List.{List, [], _++_, append-nil, append-assoc}
 use mathlib.Core.Path.{_≡_, refl, sym, ap, _∙_}
 use native.Mathlib.Omega.{arith}
-use native.Mathlib.Nat.{zero-add}
+use native.Mathlib.Nat.{add-zero, zero-add}
 use lib.ListN.{length, take, drop, length-append, length-drop, drop-of-length-le}
-use lib.Seq.{sets, sets-eq, length-sets, drop-drop, take-all}
+use lib.Seq.{sets, sets-eq, length-sets, length-take-le, drop-drop, take-all}
 use Rattle.wire.specs.Promise.{Outcome, Promise, Lending, lent}
 use Rattle.wire.proofs.Impossible.{impossible}
 use Rattle.wire.specs.declared.address.Address.{Address}
@@ -20,68 +20,40 @@ use Rattle.buffer.proofs.Writing.{sets-start, no-room, has-room, written-fits}
 use Rattle.buffer.proofs.Appends.{put-wrote, wrote-then}
 use Rattle.hex.specs.Hex.{hexLine}
 use Rattle.sheet.specs.Line.{hexWord}
-use Rattle.packet.specs.Packet.{endOf, readOf, framedNumber}
+use Rattle.packet.specs.Packet.{frameOf, readOf, framedNumber}
 use Rattle.packet.specs.declared.Framed.{Framed}
 use Rattle.packet.specs.declared.Framed.the-variants as framed
 use Rattle.sheet.specs.Sheet.{Made, made, fault}
-use Rattle.sheet.specs.Packets.{firstPacket, packetsOf, bareOf, sheetLine, onPacket, sheetOf, exportMade, exportOf}
+use Rattle.packet.proofs.Packets.{framing, read-says}
+use Rattle.sheet.specs.Packets.{Found, over, packet, misread, packetsOf, bareOf, sheetLine, ahead, sheetOf, exportMade, exportOf}
+use Rattle.sheet.specs.Form.{ListForm}
+use Rattle.sheet.specs.Form as form
 use Rattle.sheet.specs.Reading.{countBehind, countPackets, HasRoom, sheetLines}
 use Rattle.sheet.specs.declared.exporting.Listed.{Listed}
 use Rattle.sheet.specs.declared.exporting.Listed.the-variants as listed
-use Rattle.sheet.proofs.Cutting.{packets-step, joined, First, first-reads, whole-long, line-long, cut-joined}
+use Rattle.sheet.proofs.Lists.{packets-over, packets-then, packets-not, list-formed, form-long, line-long}
 use Rattle.sheet.proofs.Laying.{Laying, laid-on}
+
+-- ---- counted
 
 -- what the packets from `at` on come to
 abbrev pub coming : ℕ → List ℕ → ℕ → Listed
-coming count s at = countBehind count (sheetOf (packetsOf (drop at s))) (length (packetsOf (drop at s)))
+coming count s at = countBehind count (packetsOf (drop at s))
 
-module _ (s d : List ℕ) (at : ℕ) (h : at < length s) (ed : d ≡ drop at s) where
-  step : packetsOf (drop at s) ≡ firstPacket d ∷ packetsOf (drop (at + endOf d) s)
-  step =
+module _ (s d : List ℕ) (at : ℕ) (ed : d ≡ drop at s) (f : Framed) (r : Promise framedNumber f (readOf d)) where
+  pub count-refused : (count : ℕ) (t : Listed) (why : Refusal) → at < length s → coming count s at ≡ t → f ≡ framed.Refused why → listed.Refused why ≡ t
+  count-refused count t why h inv e =
       let k : 0 < length (drop at s) = omega (arith, length-drop at s) in
-      packets-step (drop at s) k
-      ∙ rw ed (ap (λ (l : List ℕ). firstPacket (drop at s) ∷ packetsOf l) (drop-drop (endOf (drop at s)) at s))
+      rw (packets-not (drop at s) why k (rw ed at (sym (r .answer) ∙ e))) at inv
 
-  -- ---- counted
-
-  module _ (p : List ℕ) (f : Framed) (count : ℕ) (t : Listed) (ep : p ≡ firstPacket d) (r : Promise framedNumber f (readOf p)) (inv : coming count s at ≡ t) where
-    here : countBehind count (onPacket p f (sheetOf (packetsOf (drop (at + endOf d) s)))) (suc (length (packetsOf (drop (at + endOf d) s)))) ≡ t
-    unfolding sheetOf
-    here = rw (r .answer, ep) (rw step at inv)
-
-    pub count-refused : (why : Refusal) → f ≡ framed.Refused why → listed.Refused why ≡ t
-    count-refused why e = rw e at here
-
-    module _ (a : Address) (c e : ℕ) (ef : f ≡ framed.Whole a c e) where
-      first : First d e
-      first = first-reads d a c e (rw (← ep) (sym (r .answer) ∙ ef))
-
-      as-long : length p ≡ endOf d
-      as-long = ap (λ (l : List ℕ). length l) ep ∙ first .long ∙ first .end
-
-      pub count-within : at + length p ≤ length s
-      count-within = omega (arith, as-long, first .end, first .within, ap (λ (l : List ℕ). length l) ed, length-drop at s)
-
-      pub count-less : length s - (at + length p) < length s - at
-      count-less = omega (arith, as-long)
-
-      pub count-few : count ≤ at → count + 1 ≤ at + length p
-      count-few k = omega (arith, as-long)
-
-      on : (m : Made Refusal) (n : ℕ) → countBehind count (onPacket p (framed.Whole a c e) m) (suc n) ≡ countBehind (count + 1) m n
-      on (made x) n = let z : count + suc n ≡ count + 1 + n = omega arith in rw z
-      on (fault why) n = refl
-
-      pub count-on : coming (count + 1) s (at + length p) ≡ t
-      count-on =
-          rw as-long
-          (sym (on (sheetOf (packetsOf (drop (at + endOf d) s))) (length (packetsOf (drop (at + endOf d) s)))) ∙ (rw ef at here))
+  module _ (a : Address) (c e : ℕ) (ef : f ≡ framed.Whole a c e) where
+    pub count-on : (count : ℕ) (t : Listed) → coming count s at ≡ t → coming (count + 1) s (at + e) ≡ t
+    count-on count t inv =
+        let step = packets-then (drop at s) a c e (rw ed at (sym (r .answer) ∙ ef)) in
+        rw drop-drop at (rw step at inv)
 
 pub count-done : (s : List ℕ) (at count : ℕ) (t : Listed) → length s ≤ at → coming count s at ≡ t → listed.Packets count ≡ t
-unfolding sheetOf
-count-done s at count t h inv =
-    let z : count + 0 ≡ count = omega arith in
-    rw z at (rw (drop-of-length-le s h) at inv)
+count-done s at count t h inv = rw packets-over at (rw (drop-of-length-le s h) at inv)
 
 -- ---- how long a sheet is: three characters for each byte, but two for each packet
 
@@ -89,26 +61,37 @@ pub record Long (n packets bytes : ℕ) : Type 0 where
   pub exact : n + 2 * packets ≡ 3 * bytes
   pub few : 4 * packets ≤ bytes
 
-sheet-long : (ps : List (List ℕ)) (t : List ℕ) → sheetOf ps ≡ made t → Long (length t) (length ps) (length (joined ps))
+-- a list that is made into a sheet, counted behind `count` packets
+pub record Counted (count : ℕ) (s : List ℕ) (f : Found) (t : List ℕ) : Type 0 where
+  pub packets : ℕ
+  pub counts : countBehind count f ≡ listed.Packets (count + packets)
+  pub long : Long (length t) packets (length s)
+
+counted : {s : List ℕ} {f : Found} → ListForm s f → (count : ℕ) (t : List ℕ) → sheetOf f ≡ made t → Counted count s f t
 unfolding sheetOf
-sheet-long [] t e = let z : t ≡ [] = cc in rw z (record { exact = refl; few = omega arith })
-sheet-long (p ∷ ps) t e = by-packet (readOf p) (sheetOf ps) refl (sheet-long ps) e
+counted form.none count t e =
+    let z : t ≡ [] = cc in
+    rw z (record { packets = 0; counts = ap listed.Packets (sym (add-zero count)); long = record { exact = refl; few = omega arith } })
+counted (form.not h r) count t e = impossible cc
+counted (form.then {p = p} {s = s} {f = f} h l) count t e = by-rest (sheetOf f) (λ x r. counted l (count + 1) x r) e
   where
-    by-packet : (f : Framed) (m : Made Refusal) → readOf p ≡ f → ((x : List ℕ) → m ≡ made x → Long (length x) (length ps) (length (joined ps)))
-        → onPacket p f m ≡ made t → Long (length t) (length (p ∷ ps)) (length (joined (p ∷ ps)))
-    by-packet (framed.Refused why) m r ih e = impossible cc
-    by-packet (framed.Whole a c n) (fault why) r ih e = impossible cc
-    by-packet (framed.Whole a c n) (made x) r ih e =
+    by-rest : (m : Made Refusal) → ((x : List ℕ) → m ≡ made x → Counted (count + 1) s f x) → ahead p m ≡ made t → Counted count (p ++ s) (packet p f) t
+    by-rest (fault why) ih e = impossible cc
+    by-rest (made x) ih e =
         let z : t ≡ sheetLine p ++ x = cc in
-        let l = ih x refl in
-        let k : 4 ≤ length p = omega (arith, whole-long p (ap framedNumber r)) in
+        let n = ih x refl in
+        let k : count + 1 + n .packets ≡ count + suc (n .packets) = omega arith in
         rw z (record {
-          exact = omega (arith, l .exact, line-long p k, length-append (sheetLine p) x, length-append p (joined ps));
-          few = omega (arith, l .few, k, length-append p (joined ps));
+          packets = suc (n .packets);
+          counts = n .counts ∙ ap listed.Packets k;
+          long = record {
+            exact = omega (arith, n .long .exact, line-long p (form-long h), length-append (sheetLine p) x, length-append p s);
+            few = omega (arith, n .long .few, form-long h, length-append p s);
+          };
         })
 
-pub list-long : (s t : List ℕ) → sheetOf (packetsOf s) ≡ made t → Long (length t) (length (packetsOf s)) (length s)
-list-long s t e = rw (cut-joined s) at (sheet-long (packetsOf s) t e)
+pub list-counted : (s t : List ℕ) → sheetOf (packetsOf s) ≡ made t → Counted 0 s (packetsOf s) t
+list-counted s t e = counted (list-formed s) 0 t e
 
 -- ---- a line: the word, and the line of bytes in the part of the buffer behind it
 
@@ -159,63 +142,95 @@ module _ (out a b p d : List ℕ) (at : ℕ) (r : Built) (some : 4 ≤ length p)
 
 -- ---- the lines: those of the packets from `at` on are still to be written, from `to` on
 
-record Taken (p : List ℕ) (m : Made Refusal) (to : ℕ) (out o : List ℕ) : Type 0 where
+record Taken (s : List ℕ) (to : ℕ) (out o : List ℕ) : Type 0 where
   pub address : Address
   pub command : ℕ
   pub end : ℕ
-  pub reads : readOf p ≡ framed.Whole address command end
+  pub reads : readOf s ≡ framed.Whole address command end
   pub rest : List ℕ
-  pub is : m ≡ made rest
-  pub room : to + length (sheetLine p ++ rest) ≤ length out
-  pub laid : sets out to (sheetLine p ++ rest) ≡ o
+  pub is : sheetOf (packetsOf (drop end s)) ≡ made rest
+  pub room : to + length (sheetLine (take end s) ++ rest) ≤ length out
+  pub laid : sets out to (sheetLine (take end s) ++ rest) ≡ o
 
-taken : (p : List ℕ) (f : Framed) (m : Made Refusal) (to : ℕ) (out o : List ℕ) → readOf p ≡ f → Laying (onPacket p f m) to out o → Taken p m to out o
-taken p (framed.Refused why) m to out o r lay = absurd (lay .room)
-taken p (framed.Whole a c e) (fault why) to out o r lay = absurd (lay .room)
-taken p (framed.Whole a c e) (made t) to out o r lay =
-    record { address = a; command = c; end = e; reads = r; rest = t; is = refl; room = lay .room; laid = lay .laid }
+-- what has room isn't refused: so a packet is read there
+taken : (s : List ℕ) (to : ℕ) (out o : List ℕ) → 0 < length s → Laying (sheetOf (packetsOf s)) to out o → Taken s to out o
+unfolding sheetOf
+taken s to out o h lay = by-packet (readOf s) refl
+  where
+    by-rest : (a : Address) (c e : ℕ) → readOf s ≡ framed.Whole a c e → (m : Made Refusal) → sheetOf (packetsOf (drop e s)) ≡ m → Laying (ahead (take e s) m) to out o → Taken s to out o
+    by-rest a c e r (fault why) i lay = absurd (lay .room)
+    by-rest a c e r (made t) i lay = record { address = a; command = c; end = e; reads = r; rest = t; is = i; room = lay .room; laid = lay .laid }
 
-module _ (s d p : List ℕ) (at to : ℕ) (out o : List ℕ) (h : at < length s) (ed : d ≡ drop at s) (ep : p ≡ firstPacket d)
-    (lay : Laying (sheetOf (packetsOf (drop at s))) to out o) where
-  took : Taken p (sheetOf (packetsOf (drop (at + endOf d) s))) to out o
-  unfolding sheetOf
-  took = taken p (readOf p) (sheetOf (packetsOf (drop (at + endOf d) s))) to out o refl (rw ep (rw (step s d at h ed) at lay))
+    by-packet : (f : Framed) → readOf s ≡ f → Taken s to out o
+    by-packet (framed.Refused why) r = absurd ((rw (packets-not s why h r) at lay) .room)
+    by-packet (framed.Whole a c e) r = by-rest a c e r (sheetOf (packetsOf (drop e s))) refl (rw (packets-then s a c e r) at lay)
 
-  begun : First d (took .end)
-  begun = first-reads d (took .address) (took .command) (took .end) (rw (← ep) (took .reads))
+module _ (s d : List ℕ) (at to : ℕ) (out o : List ℕ) (h : at < length s) (ed : d ≡ drop at s) (lay : Laying (sheetOf (packetsOf (drop at s))) to out o)
+    (f : Framed) (r : Promise framedNumber f (frameOf d)) where
+  took : Taken d to out o
+  took =
+      let k : 0 < length d = omega (arith, ap (λ (l : List ℕ). length l) ed, length-drop at s) in
+      taken d to out o k (rw (← ed) at lay)
 
-  taken-long : length p ≡ endOf d
-  taken-long = ap (λ (l : List ℕ). length l) ep ∙ begun .long ∙ begun .end
+  begun : f ≡ framed.Whole (took .address) (took .command) (took .end)
+  begun = r .answer ∙ read-says d (took .address) (took .command) (took .end) (took .reads) .0
 
-  pub line-some : 4 ≤ length p
-  line-some = omega (arith, taken-long)
+  -- it never comes to a packet that can't be read
+  pub lines-never : (why : Refusal) → f ≡ framed.Refused why → out ≡ o
+  lines-never why e = let z : framed.Whole (took .address) (took .command) (took .end) ≡ framed.Refused why = sym begun ∙ e in impossible cc
 
-  pub line-room : to + 3 * length p ≤ length out + 2
-  line-room = omega (arith, took .room, length-append (sheetLine p) (took .rest), line-long p line-some)
+  module _ (a : Address) (c n : ℕ) (e : f ≡ framed.Whole a c n) (p : List ℕ) (ep : p ≡ take n d) where
+    ends : took .end ≡ n
+    ends = let z : framed.Whole (took .address) (took .command) (took .end) ≡ framed.Whole a c n = sym begun ∙ e in cc
 
-  pub line-within : at + length p ≤ length s
-  line-within = omega (arith, taken-long, begun .within, begun .end, ap (λ (l : List ℕ). length l) ed, length-drop at s)
+    long : (length p ≡ n) × (4 ≤ n)
+    long =
+        let g = framing d a c n (sym (r .answer) ∙ e) in
+        (ap (λ (l : List ℕ). length l) ep ∙ length-take-le n d (g .reaches), omega (arith, g .end))
 
-  pub line-less : length s - (at + length p) < length s - at
-  line-less = omega (arith, line-some)
+    own : take (took .end) d ≡ p
+    own = ap (λ (k : ℕ). take k d) ends ∙ sym ep
 
-  pub lines-on : (left : List ℕ) (r : ℕ) → Wrote (sheetLine p) to out r left → Laying (sheetOf (packetsOf (drop (at + length p) s))) r left o
-  lines-on left r w = rw (taken-long, took .is) (laid-on (took .room) (took .laid) w)
+    pub line-some : 4 ≤ length p
+    line-some = omega (arith, long .0, long .1)
+
+    pub line-room : to + 3 * length p ≤ length out + 2
+    line-room = omega (arith, rw own at (took .room), length-append (sheetLine p) (took .rest), line-long p line-some)
+
+    pub lines-on : (left : List ℕ) (q : ℕ) → Wrote (sheetLine p) to out q left → Laying (sheetOf (packetsOf (drop (at + n) s))) q left o
+    lines-on left q w =
+        let i : sheetOf (packetsOf (drop (at + n) s)) ≡ made (took .rest) =
+        ap (λ (l : List ℕ). sheetOf (packetsOf l)) (sym (drop-drop n at s) ∙ ap (drop n) (sym ed) ∙ ap (λ (k : ℕ). drop k d) (sym ends)) ∙ took .is in
+        rw i (laid-on (rw own at (took .room)) (rw own at (took .laid)) w)
 
 pub lines-done : (s out o : List ℕ) (at to : ℕ) → length s ≤ at → Laying (sheetOf (packetsOf (drop at s))) to out o → out ≡ o
 unfolding sheetOf
-lines-done s out o at to h lay = (rw (drop-of-length-le s h) at lay) .laid
+lines-done s out o at to h lay = (rw packets-over at (rw (drop-of-length-le s h) at lay)) .laid
 
 -- ---- the whole list
 
-module _ (s out : List ℕ) (a : Listed) (e : a ≡ countPackets (sheetOf (packetsOf s)) (length (packetsOf s))) where
+-- a list that isn't made into a sheet is refused as its count is
+refuses : (f : Found) (count : ℕ) (why : Refusal) → sheetOf f ≡ fault why → countBehind count f ≡ listed.Refused why
+unfolding sheetOf
+refuses over count why e = impossible cc
+refuses (misread w) count why e = let z : w ≡ why = cc in ap listed.Refused z
+refuses (packet p f) count why e = by-rest (sheetOf f) (refuses f (count + 1) why) e
+  where
+    by-rest : (m : Made Refusal) → (m ≡ fault why → countBehind (count + 1) f ≡ listed.Refused why) → ahead p m ≡ fault why → countBehind (count + 1) f ≡ listed.Refused why
+    by-rest (made t) ih e = impossible cc
+    by-rest (fault w) ih e = let z : w ≡ why = cc in ih (ap fault z)
+
+module _ (s out : List ℕ) (a : Listed) (e : a ≡ countPackets (packetsOf s)) where
   pub export-refused : (why : Refusal) → a ≡ listed.Refused why → Lending builtNumber (built.Refused why) out (exportOf s out)
   unfolding exportOf
-  export-refused why f = go (sheetOf (packetsOf s)) (sym f ∙ e)
+  export-refused why f = go (sheetOf (packetsOf s)) refl
     where
-      go : (m : Made Refusal) → listed.Refused why ≡ countPackets m (length (packetsOf s)) → Lending builtNumber (built.Refused why) out (exportMade m out)
-      go (made t) e = impossible cc
-      go (fault z) e = let k : why ≡ z = cc in lent (rw k)
+      go : (m : Made Refusal) → sheetOf (packetsOf s) ≡ m → Lending builtNumber (built.Refused why) out (exportMade m out)
+      go (made t) r = let z : listed.Refused why ≡ listed.Packets _ = sym f ∙ e ∙ list-counted s t r .counts in impossible cc
+      go (fault w) r =
+          let z : listed.Refused why ≡ listed.Refused w = sym f ∙ e ∙ refuses (packetsOf s) 0 w r in
+          let k : why ≡ w = cc in
+          lent (rw k)
 
   module _ (n : ℕ) (f : a ≡ listed.Packets n) where
     record All : Type 0 where
@@ -224,13 +239,15 @@ module _ (s out : List ℕ) (a : Listed) (e : a ≡ countPackets (sheetOf (packe
       pub long : Long (length text) n (length s)
 
     all : All
-    all = go (sheetOf (packetsOf s)) refl (sym f ∙ e)
+    all = go (sheetOf (packetsOf s)) refl
       where
-        go : (m : Made Refusal) → sheetOf (packetsOf s) ≡ m → listed.Packets n ≡ countPackets m (length (packetsOf s)) → All
-        go (fault why) r e = impossible cc
-        go (made t) r e =
-            let k : n ≡ 0 + length (packetsOf s) = cc in
-            record { text = t; is = r; long = rw (k, zero-add) (list-long s t r) }
+        go : (m : Made Refusal) → sheetOf (packetsOf s) ≡ m → All
+        go (fault w) r = let z : listed.Packets n ≡ listed.Refused w = sym f ∙ e ∙ refuses (packetsOf s) 0 w r in impossible cc
+        go (made t) r =
+            let k = list-counted s t r in
+            let z : listed.Packets n ≡ listed.Packets (0 + k .packets) = sym f ∙ e ∙ k .counts in
+            let y : n ≡ 0 + k .packets = cc in
+            record { text = t; is = r; long = rw (y, zero-add) (k .long) }
 
     exported : exportOf s out ≡ written (all .text) out
     unfolding exportOf

@@ -7,12 +7,11 @@ use native.Mathlib.Omega.{arith}
 use lib.Dec.{eqb}
 use lib.ListN.{length, length-append}
 use Rattle.text.specs.Lines.{newline, linesOf, grown}
-use Rattle.hex.specs.Hex.{space}
 use Rattle.sheet.specs.Sheet.{made, sheetPacket, packetsIn}
 use Rattle.sheet.specs.Packets.{packetsOf, sheetOf}
 use Rattle.sheet.specs.Form.{one, two, NumeralsForm, last, more, LineForm, SheetForm, end, next}
 use Rattle.sheet.proofs.Said.{packet-long}
-use Rattle.sheet.proofs.Exports.{list-long}
+use Rattle.sheet.proofs.Exports.{list-counted}
 use Rattle.sheet.proofs.Forms.{sheet-formed}
 
 -- a numeral has a character, and each but the last a space behind it
@@ -53,4 +52,4 @@ import-short s p e = omega (arith, sheet-room (sheet-formed (linesOf s) p e), li
 
 -- and one three times as long as the list for its sheet
 pub export-short : (s t : List ℕ) → sheetOf (packetsOf s) ≡ made t → length t ≤ 3 * length s
-export-short s t e = omega (arith, list-long s t e .exact)
+export-short s t e = omega (arith, list-counted s t e .long .exact)

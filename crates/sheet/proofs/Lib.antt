@@ -4,7 +4,7 @@ mod Gathers
 mod Said
 mod Laying
 mod Imports
-pub mod Cutting
+pub mod Lists
 mod Exports
 pub mod Forms
 pub mod Trips

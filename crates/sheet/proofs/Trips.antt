@@ -1,69 +1,57 @@
 -- There and back: an exported packet imports as itself, and importing and exporting a sheet twice equals once.
 use Prim.Native.Nat.{ℕ, _+_, _-_, _*_, _/_, _%_, _≤_, _<_}
 use mathlib.Core.Bool.{Bool, true, false, cond}
-use mathlib.Core.List.{List, [], _∷_, _++_, append-assoc}
+use mathlib.Core.List.{List, [], _∷_, _++_, append-assoc, append-nil}
 use mathlib.Core.Path.{_≡_, refl, sym, ap, _∙_, subst}
 use native.Mathlib.Omega.{arith}
 use native.Mathlib.Nat.{not-suc-le-zero}
 use lib.Dec.{ltb}
-use lib.ListN.{length, take, drop, getD, length-append, length-take, length-drop, List·getD-append}
-use lib.Seq.{take-at, drop-at, take-append-seam}
+use lib.ListN.{length, take, drop, getD, length-take, length-drop}
+use lib.Seq.{take-at, take-length, take-append-seam}
 use borrow.Author.Tests.{le-ltb}
 use Rattle.wire.specs.Promise.{Outcome}
-use Rattle.wire.specs.Numbers.{done}
-use Rattle.wire.specs.Address.{byteOf}
-use Rattle.wire.specs.declared.address.Address.{Address}
+use Rattle.wire.specs.Address.{addressOf, byteOf}
 use Rattle.wire.specs.declared.refusal.Refusal.{Refusal}
 use Rattle.wire.specs.declared.refusal.Refusal.the-variants.{Range, Room}
 use Rattle.wire.proofs.Impossible.{impossible}
-use Rattle.wire.proofs.Numbers.{not-done}
 use Rattle.buffer.specs.Sum.{sumOf, withSum}
 use Rattle.buffer.specs.Change.{AllBytes}
-use Rattle.buffer.specs.Buffer.{written, refused}
+use Rattle.buffer.specs.Buffer.{written}
 use Rattle.buffer.proofs.Bytes.{take-bytes, drop-bytes}
 use Rattle.buffer.proofs.Sums.{length-with-sum}
 use Rattle.buffer.proofs.Writing.{wrote, wrote-not, written-wrote}
-use Rattle.packet.specs.Packet.{endOf, readOf, framedNumber, dataPart}
+use Rattle.packet.specs.Packet.{dataPart}
 use Rattle.packet.specs.Build.{headOf, packetOf}
-use Rattle.packet.specs.declared.Framed.{Framed}
-use Rattle.packet.specs.declared.Framed.the-variants as framed
-use Rattle.packet.proofs.Packets.{framing, read-says, accepted-built, built-reads}
+use Rattle.packet.proofs.Packets.{read-says, read-framing, data-length, accepted-built, built-length, built-reads}
 use Rattle.text.specs.Lines.{newline, linesOf}
 use Rattle.text.proofs.Meaning.{Plain, lines-ended}
 use Rattle.hex.specs.Digits.{characterOf}
 use Rattle.hex.specs.Hex.{hexPair, hexRest, hexText, hexLine, bytes}
 use Rattle.sheet.specs.Line.{hexWord, lineIn}
 use Rattle.sheet.specs.Sheet.{Made, made, fault, sheetPacket, packetsIn, mostText, importRefused, importMade, importOf}
-use Rattle.sheet.specs.Packets.{packetsOf, bareOf, sheetLine, onPacket, sheetOf, exportMade, exportOf}
-use Rattle.sheet.specs.Form.{NumeralForm, one, two, NumeralsForm, last, more, SheetForm, end, next, ListForm, none, then}
+use Rattle.sheet.specs.Packets.{Found, over, packet, packetsOf, bareOf, sheetLine, ahead, sheetOf, exportMade, exportOf}
+use Rattle.sheet.specs.Form.{NumeralForm, two, NumeralsForm, last, more, SheetForm, end, next, PacketForm, ListForm, none, then, not}
 use Rattle.sheet.specs.declared.importing.Imported.{Imported}
 use Rattle.sheet.specs.declared.importing.Imported.the-variants as imported
 use Rattle.sheet.proofs.Said.{Said, line-says, said-some, packet-says}
-use Rattle.sheet.proofs.Cutting.{packets-step, joined, cut-joined, whole-long, on-whole}
+use Rattle.sheet.proofs.Lists.{list-formed, form-list}
 use Rattle.sheet.proofs.Forms.{value-form, form-line, sheet-formed}
 
 -- ---- a packet that reads
 
 -- header, its bytes, their sum; and the bytes are as many as the second of them says
-pub record Whole (p : List ℕ) : Type 0 where
+record Whole (p : List ℕ) : Type 0 where
   pub inside : List ℕ
   pub shape : p ≡ 0xAA ∷ withSum inside
   pub count : length inside ≡ 2 + getD inside 1 0 / 16
 
-whole-by : (p : List ℕ) (a : Address) (c e : ℕ) → readOf p ≡ framed.Whole a c e → Whole p
-whole-by p a c e h =
-    let f = framing p a c e (read-says p a c e h .0) in
-    let s : p ≡ packetOf (byteOf a) c (dataPart p) = accepted-built p a c e h in
-    let k : length p ≡ 4 + length (dataPart p) = ap (λ (l : List ℕ). length l) s ∙ omega (arith, length-with-sum (byteOf a ∷ headOf c (dataPart p) ∷ dataPart p)) in
-    let n : c < 16 = omega (arith, f .command) in
-    record { inside = byteOf a ∷ headOf c (dataPart p) ∷ dataPart p; shape = s; count = omega arith }
-
-pub whole : (p : List ℕ) → framedNumber (readOf p) ≡ done → Whole p
-whole p h = go (readOf p) refl h
-  where
-    go : (f : Framed) → readOf p ≡ f → framedNumber f ≡ done → Whole p
-    go (framed.Whole a c e) r h = whole-by p a c e r
-    go (framed.Refused why) r h = absurd (not-done why h)
+whole : (p : List ℕ) → PacketForm p → Whole p
+whole p h =
+    let f = read-framing p (h .address) (h .command) (length p) (h .reads) in
+    let s : p ≡ packetOf (byteOf (h .address)) (h .command) (dataPart p) = sym (take-length p) ∙ accepted-built p (h .address) (h .command) (length p) (h .reads) in
+    let k : length p ≡ 4 + length (dataPart p) = sym (data-length p (h .address) (h .command) (length p) (read-says p (h .address) (h .command) (length p) (h .reads) .0)) in
+    let n : h .command < 16 = omega (arith, f .command) in
+    record { inside = byteOf (h .address) ∷ headOf (h .command) (dataPart p) ∷ dataPart p; shape = s; count = omega arith }
 
 -- "no header, no sum"
 bare-inside : (d : List ℕ) → bareOf (0xAA ∷ withSum d) ≡ d
@@ -121,74 +109,39 @@ ended w x t = simp append-assoc
 line-first : (d t : List ℕ) → linesOf ((hexWord ++ hexLine d) ++ t) ≡ (hexWord ++ hexText d) ∷ linesOf t
 line-first d t = ap linesOf (ended hexWord (hexText d) t) ∙ lines-ended (hexWord ++ hexText d) t (word-plain (hexText d) (text-plain d))
 
--- ---- packets that read are cut as they stand, and exported
-
--- the lines of some packets
-abbrev pub textOf : List (List ℕ) → List ℕ
-textOf [] = []
-textOf (p ∷ ps) = sheetLine p ++ textOf ps
+-- ---- "An exported packet imports as itself"
 
 append-bytes : (p s : List ℕ) → AllBytes (p ++ s) → AllBytes p × AllBytes s
 append-bytes [] s h = (tt, h)
 append-bytes (b ∷ p) s h = let k = append-bytes p s (h .1) in ((h .0, k .0), k .1)
 
-pub list-cuts : {ps : List (List ℕ)} {s : List ℕ} → ListForm ps s → packetsOf s ≡ ps
-list-cuts none = refl
-list-cuts (then {p = p} {s = s} {ps = ps} h f) =
-    let k : length p ≡ endOf p = whole-long p h in
-    let e : endOf (p ++ s) ≡ endOf p = ap (λ (n : ℕ). 4 + n / 16) (List·getD-append p s 0 2 (omega arith)) in
-    let n : length p ≡ endOf (p ++ s) = k ∙ sym e in
-    packets-step (p ++ s) (omega (arith, length-append p s))
-    ∙ ap (λ (q : List ℕ). q ∷ packetsOf (drop (endOf (p ++ s)) (p ++ s))) (take-at p s (endOf (p ++ s)) n)
-    ∙ ap (λ (q : List ℕ). p ∷ packetsOf q) (drop-at p s (endOf (p ++ s)) n)
-    ∙ ap (λ (q : List (List ℕ)). p ∷ q) (list-cuts f)
-
-pub list-exports : {ps : List (List ℕ)} {s : List ℕ} → ListForm ps s → sheetOf ps ≡ made (textOf ps)
-unfolding sheetOf
-list-exports none = refl
-list-exports (then {p = p} {ps = ps} h f) = rw (list-exports f) (on-whole p (readOf p) (made (textOf ps)) h)
-
--- what is exported was such a list
-listed : (ps : List (List ℕ)) (t : List ℕ) → sheetOf ps ≡ made t → ListForm ps (joined ps)
-unfolding sheetOf
-listed [] t e = none
-listed (p ∷ ps) t e = by-packet (readOf p) (sheetOf ps) refl (λ x. listed ps x) e
-  where
-    by-packet : (f : Framed) (m : Made Refusal) → readOf p ≡ f → ((x : List ℕ) → m ≡ made x → ListForm ps (joined ps)) → onPacket p f m ≡ made t
-        → ListForm (p ∷ ps) (joined (p ∷ ps))
-    by-packet (framed.Refused why) m r ih e = impossible cc
-    by-packet (framed.Whole a c n) (fault why) r ih e = impossible cc
-    by-packet (framed.Whole a c n) (made x) r ih e = then (ap framedNumber r) (ih x refl)
-
--- a list that is exported is packets that read, back to back, and its sheet their lines
-pub record Exported (s t : List ℕ) : Type 0 where
-  pub list : ListForm (packetsOf s) s
-  pub text : t ≡ textOf (packetsOf s)
-
-pub exported-form : (s t : List ℕ) → sheetOf (packetsOf s) ≡ made t → Exported s t
-exported-form s t e =
-    let f : ListForm (packetsOf s) s = rw (cut-joined s) at (listed (packetsOf s) t e) in
-    let z : made t ≡ made (textOf (packetsOf s)) = sym e ∙ list-exports f in
-    record { list = f; text = cc }
-
--- ---- "An exported packet imports as itself"
-
-pub lines-import : {ps : List (List ℕ)} {s : List ℕ} → ListForm ps s → AllBytes s → packetsIn (linesOf (textOf ps)) ≡ made s
+-- a packet's line, in front of lines that import
+line-imports : (p s x : List ℕ) → PacketForm p → AllBytes p → packetsIn (linesOf x) ≡ made s → packetsIn (linesOf (sheetLine p ++ x)) ≡ made (p ++ s)
 unfolding packetsIn
-lines-import none b = refl
-lines-import (then {p = p} {s = s} {ps = ps} h f) b =
+line-imports p s x h b e =
     let w = whole p h in
-    let d : List ℕ = w .inside in
     let n : bareOf p ≡ w .inside = ap bareOf (w .shape) ∙ bare-inside (w .inside) in
-    let k : AllBytes (bareOf p) = take-bytes (length p - 2) (drop 1 p) (drop-bytes 1 p (append-bytes p s b .0)) in
+    let k : AllBytes (bareOf p) = take-bytes (length p - 2) (drop 1 p) (drop-bytes 1 p b) in
     let i : lineIn (hexWord ++ hexText (w .inside)) ≡ bytes (w .inside) = line-back (w .inside) (rw n at k) (w .count) in
     let q : sheetPacket (w .inside) ≡ p = packet-says (w .inside) (omega (arith, w .count)) ∙ sym (w .shape) in
-    ap (λ (x : List ℕ). packetsIn (linesOf ((hexWord ++ hexLine x) ++ textOf ps))) n
-    ∙ ap packetsIn (line-first (w .inside) (textOf ps))
-    ∙ rw (i, lines-import f (append-bytes p s b .1)) (ap (λ (x : List ℕ). made (x ++ s)) q)
+    ap (λ (y : List ℕ). packetsIn (linesOf ((hexWord ++ hexLine y) ++ x))) n
+    ∙ ap packetsIn (line-first (w .inside) x)
+    ∙ rw (i, e) (ap (λ (y : List ℕ). made (y ++ s)) q)
+
+lines-import : {s : List ℕ} {f : Found} → ListForm s f → AllBytes s → (t : List ℕ) → sheetOf f ≡ made t → packetsIn (linesOf t) ≡ made s
+unfolding packetsIn sheetOf
+lines-import none b t e = let z : t ≡ [] = cc in rw z
+lines-import (not h r) b t e = impossible cc
+lines-import (then {p = p} {s = s} {f = f} h l) b t e = by-rest (sheetOf f) (λ x r. lines-import l (append-bytes p s b .1) x r) e
+  where
+    by-rest : (m : Made Refusal) → ((x : List ℕ) → m ≡ made x → packetsIn (linesOf x) ≡ made s) → ahead p m ≡ made t → packetsIn (linesOf t) ≡ made (p ++ s)
+    by-rest (fault why) ih e = impossible cc
+    by-rest (made x) ih e =
+        let z : t ≡ sheetLine p ++ x = cc in
+        rw z (line-imports p s x h (append-bytes p s b .0) (ih x refl))
 
 pub exported-imports : (s t : List ℕ) → AllBytes s → sheetOf (packetsOf s) ≡ made t → packetsIn (linesOf t) ≡ made s
-exported-imports s t b e = let f = exported-form s t e in rw (f .text) (lines-import (f .list) b)
+exported-imports s t b e = lines-import (list-formed s) b t e
 
 -- ---- what is imported is packets that read, back to back
 
@@ -199,25 +152,32 @@ bytes-append (b ∷ p) s h k = (h .0, bytes-append p s (h .1) k)
 packet-bytes : (d : List ℕ) → Said d → AllBytes (sheetPacket d)
 packet-bytes d s = subst AllBytes (sym (packet-says d (said-some d s))) (omega arith, bytes-append d (sumOf d ∷ []) (s .small) (omega arith, tt))
 
-packet-reads : (d : List ℕ) → Said d → framedNumber (readOf (sheetPacket d)) ≡ done
-packet-reads d s =
+packet-form : (d : List ℕ) → Said d → PacketForm (sheetPacket d)
+packet-form d s =
     let h : headOf (getD d 1 0 % 16) (drop 2 d) ≡ getD d 1 0 = omega (arith, s .count, length-drop 2 d) in
-    let r = built-reads (getD d 0 0) (getD d 1 0 % 16) (drop 2 d) (omega arith) in
-    ap framedNumber (rw h at r)
+    let r = built-reads (getD d 0 0) (getD d 1 0 % 16) (drop 2 d) [] (omega arith) in
+    let l = built-length (getD d 0 0) (getD d 1 0 % 16) (drop 2 d) in
+    record { address = addressOf (getD d 0 0); command = getD d 1 0 % 16; reads = rw (rw h at l) (rw (append-nil, h) at r) }
 
+-- its packets, and the sheet that they are exported as
 record Packed (p : List ℕ) : Type 0 where
-  pub packets : List (List ℕ)
-  pub list : ListForm packets p
+  pub found : Found
+  pub list : ListForm p found
+  pub sheet : List ℕ
+  pub makes : sheetOf found ≡ made sheet
   pub small : AllBytes p
 
 packed : {ls : List (List ℕ)} {p : List ℕ} → SheetForm ls p → Packed p
-packed end = record { packets = []; list = none; small = tt }
+unfolding sheetOf
+packed end = record { found = over; list = none; sheet = []; makes = refl; small = tt }
 packed (next {l = l} {d = d} {p = p} f g) =
     let s = line-says l d (form-line f) in
     let k = packed g in
     record {
-      packets = sheetPacket d ∷ k .packets;
-      list = then (packet-reads d s) (k .list);
+      found = packet (sheetPacket d) (k .found);
+      list = then (packet-form d s) (k .list);
+      sheet = sheetLine (sheetPacket d) ++ k .sheet;
+      makes = ap (ahead (sheetPacket d)) (k .makes);
       small = bytes-append (sheetPacket d) p (packet-bytes d s) (k .small);
     }
 
@@ -251,14 +211,11 @@ pub record Again (p : List ℕ) : Type 0 where
 
 again : (p : List ℕ) → Packed p → Again p
 unfolding exportOf
-again p k =
-    let f : ListForm (packetsOf p) p = rw (← (list-cuts (k .list))) at (k .list) in
-    let e : sheetOf (packetsOf p) ≡ made (textOf (packetsOf p)) = list-exports f in
-    record {
-      sheet = textOf (packetsOf p);
-      exports = λ out. ap (λ (m : Made Refusal). exportMade m out) e;
-      twice = λ h room r. import-made (textOf (packetsOf p)) p room h (lines-import f (k .small)) r;
-    }
+again p k = record {
+  sheet = k .sheet;
+  exports = λ out. ap (λ (m : Made Refusal). exportMade m out) (ap sheetOf (form-list (k .list)) ∙ k .makes);
+  twice = λ h room r. import-made (k .sheet) p room h (lines-import (k .list) (k .small) (k .sheet) (k .makes)) r;
+}
 
 pub import-again : (s out left : List ℕ) (n : ℕ) → importOf s out ≡ record { answer = imported.Bytes n; left = left } → Again (take n left)
 unfolding importOf

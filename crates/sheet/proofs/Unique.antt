@@ -4,9 +4,7 @@ use denote.Ref.{now}
 use Rattle.wire.proofs.OneResult.{OneResult}
 use Rattle.sheet.proofs.importing.Imported.number.Reads as imported-number
 use Rattle.sheet.proofs.importing.import.Reads as import
-use Rattle.wire.proofs.Parts.{OnePart, one-part}
 use Rattle.sheet.proofs.exporting.export.Reads as export
-use Rattle.sheet.proofs.exporting.first_packet.Reads as first-packet
 
 pub imported-number-unique : OneResult imported-number.Post
 imported-number-unique κs a r r′ s s′ p q = p ∙ sym q
@@ -16,7 +14,3 @@ import-unique κs a r r′ s s′ p q = (p .answer ∙ sym (q .answer), p .leave
 
 pub export-unique : (κs : _) (a : _) (r r′ : _) (s s′ : _) → export.Post κs a r s → export.Post κs a r′ s′ → (r ≡ r′) × (now (s .1 .0) ≡ now (s′ .1 .0))
 export-unique κs a r r′ s s′ p q = (p .answer ∙ sym (q .answer), p .leaves ∙ sym (q .leaves))
-
--- the part that is handed back: its position and its bytes
-pub first-packet-unique : OnePart first-packet.Post
-first-packet-unique κs a r r′ s s′ p q = one-part p q

@@ -1,15 +1,16 @@
--- Document 02, request 1, once more as a form: what a line, a sheet and a list of packets are. `proofs/Forms` joins it to what is read.
+-- Document 02, requests 1 and 2, once more as a form: what a line, a sheet and a list of packets are. `proofs/Forms`, and for lists `proofs/Lists`, join it to what is read.
 use Prim.Native.Nat.{ℕ, suc, _+_, _*_, _/_, _≤_, _<_}
 use mathlib.Core.List.{List, [], _∷_, _++_}
 use mathlib.Core.Path.{_≡_}
 use lib.ListN.{length, getD}
-use Rattle.wire.specs.Numbers.{done}
+use Rattle.wire.specs.declared.address.Address.{Address}
 use Rattle.wire.specs.declared.refusal.Refusal.{Refusal}
-use Rattle.packet.specs.Packet.{readOf, framedNumber}
+use Rattle.packet.specs.Packet.{readOf}
 use Rattle.packet.specs.declared.Framed.the-variants as framed
 use Rattle.hex.specs.Hex.{space}
 use Rattle.sheet.specs.Line.{hexWord}
 use Rattle.sheet.specs.Sheet.{sheetPacket}
+use Rattle.sheet.specs.Packets.{Found, over, packet, misread}
 
 -- a hex digit and its value, "either case": 0 to 9, A to F, a to f by their ASCII codes
 pub data DigitForm : ℕ → ℕ → Type 0 where
@@ -44,12 +45,14 @@ pub data FirstFault : List (List ℕ) → ℕ → Type 0 where
   here : {l : List ℕ} {ls : List (List ℕ)} → ((d : List ℕ) → LineForm l d → ⊥) → FirstFault (l ∷ ls) 1
   later : {l d : List ℕ} {ls : List (List ℕ)} {k : ℕ} → LineForm l d → FirstFault ls k → FirstFault (l ∷ ls) (suc k)
 
--- "1, 2 or 4 for the first packet that doesn't read"
-pub data FirstMisread : List (List ℕ) → Refusal → Type 0 where
-  this : {p : List ℕ} {ps : List (List ℕ)} {why : Refusal} → readOf p ≡ framed.Refused why → FirstMisread (p ∷ ps) why
-  behind : {p : List ℕ} {ps : List (List ℕ)} {why : Refusal} → framedNumber (readOf p) ≡ done → FirstMisread ps why → FirstMisread (p ∷ ps) why
+-- a packet and nothing behind it: it reads, and ends where its bytes do
+pub record PacketForm (p : List ℕ) : Type 0 where
+  pub address : Address
+  pub command : ℕ
+  pub reads : readOf p ≡ framed.Whole address command (length p)
 
--- packets that read, and the bytes that they are back to back
-pub data ListForm : List (List ℕ) → List ℕ → Type 0 where
-  none : ListForm [] []
-  then : {p s : List ℕ} {ps : List (List ℕ)} → framedNumber (readOf p) ≡ done → ListForm ps s → ListForm (p ∷ ps) (p ++ s)
+-- "Packets stand back to back": the bytes of a list, and what it is found to be, up to "the first packet that doesn't read"
+pub data ListForm : List ℕ → Found → Type 0 where
+  none : ListForm [] over
+  then : {p s : List ℕ} {f : Found} → PacketForm p → ListForm s f → ListForm (p ++ s) (packet p f)
+  not : {s : List ℕ} {why : Refusal} → 0 < length s → readOf s ≡ framed.Refused why → ListForm s (misread why)

@@ -5,7 +5,6 @@ use mathlib.Core.List.{List}
 use lib.Dec.{ltb, eqb}
 use lib.ListN.{length, getD}
 use lib.Seq.{sets}
-use Rattle.wire.specs.declared.refusal.Refusal.{Refusal}
 use Rattle.wire.specs.declared.refusal.Refusal.the-variants.{Room}
 use Rattle.text.specs.Lines.{linesOf}
 use Rattle.hex.specs.Hex.{space}
@@ -20,7 +19,7 @@ use Rattle.sheet.specs.declared.exporting.Listed.{Listed}
 use Rattle.sheet.specs.declared.exporting.Listed.the-variants as listed
 use Rattle.sheet.specs.Line.{eitherDigit, numeralsOf, numeralBytes, rightCount, lineIn}
 use Rattle.sheet.specs.Sheet.{Made, made, fault, packetsIn}
-use Rattle.sheet.specs.Packets.{packetsOf, sheetOf}
+use Rattle.sheet.specs.Packets.{Found, over, packet, misread, packetsOf, sheetOf}
 
 -- ---- a line
 
@@ -67,14 +66,15 @@ importBehind passed n room (fault k) = imported.Fault (passed + k)
 abbrev pub importAnswer : Made ℕ → ℕ → Imported
 importAnswer m room = importBehind 0 0 room m
 
--- behind n packets that read, this many
-abbrev pub countBehind : ℕ → Made Refusal → ℕ → Listed
-countBehind n (made t) more = listed.Packets (n + more)
-countBehind n (fault why) more = listed.Refused why
+-- behind n packets that read
+abbrev pub countBehind : ℕ → Found → Listed
+countBehind n over = listed.Packets n
+countBehind n (packet p f) = countBehind (n + 1) f
+countBehind n (misread why) = listed.Refused why
 
 -- how many packets there are, or why the first that doesn't read is refused
-abbrev pub countPackets : Made Refusal → ℕ → Listed
-countPackets m n = countBehind 0 m n
+abbrev pub countPackets : Found → Listed
+countPackets f = countBehind 0 f
 
 -- ---- what is written
 

@@ -8,10 +8,9 @@ ghost use mathlib.Core.Path.{_≡_};
 ghost use Prim.Native.Nat.{_+_, _*_, _≤_};
 ghost use lib.ListN.{length};
 ghost use Rattle.wire.specs.Promise.{Lending};
-ghost use Rattle.wire.specs.Part.{Part};
 ghost use Rattle.buffer.specs.Buffer.{builtNumber};
 ghost use Rattle.buffer.specs.Wrote.{Wrote};
-ghost use Rattle.sheet.specs.Packets.{firstPacket, packetsOf, sheetLine, sheetOf, exportOf};
+ghost use Rattle.sheet.specs.Packets.{packetsOf, sheetLine, sheetOf, exportOf};
 ghost use Rattle.sheet.specs.Reading.{countPackets, HasRoom, sheetLines};
 
 // What a list of packets is found to be: so many that read, or why the first that doesn't is refused.
@@ -20,36 +19,24 @@ pub(crate) enum Listed {
     Refused(Refusal),
 }
 
-// The first of some packets, up to the end that its count gives; all that is there where it is cut short.
-pub fn first_packet(s: &[u8]) -> &[u8]
-    ensures { λ r. ⌜ Part (s .entry) 0 (firstPacket (now (s .entry))) r ⌝ }
-{
-    if s.len() < 3 {
-        return s;
-    }
-    let end = 4 + (s[2] / 16) as usize;
-    first(s, end)
-}
-
 // How many packets there are, each of them read: one pass over the list.
 fn count_packets(packets: &[u8]) -> Listed
-    ensures { λ r. ⌜ r ≡ countPackets (sheetOf (packetsOf (now (packets .entry)))) (length (packetsOf (now (packets .entry)))) ⌝ }
+    ensures { λ r. ⌜ r ≡ countPackets (packetsOf (now (packets .entry))) ⌝ }
 {
     let mut at = 0;
     let mut count = 0;
     while at < packets.len() {
-        let packet = first_packet(rest(packets, at));
-        match packet::read(packet) {
+        match packet::read(rest(packets, at)) {
             Framed::Refused(why) => {
                 return Listed::Refused(why);
             }
             Framed::Whole {
                 address: _,
                 command: _,
-                end: _,
+                end,
             } => {
                 count += 1;
-                at += packet.len();
+                at += end;
             }
         }
     }
@@ -75,9 +62,22 @@ fn put_lines(packets: &[u8], out: &mut [u8])
     let mut at = 0;
     let mut to = 0;
     while at < packets.len() {
-        let packet = first_packet(rest(packets, at));
-        to = put_line(out, to, packet);
-        at += packet.len();
+        // By its frame: its sum was looked at when it was counted.
+        let tail = rest(packets, at);
+        match packet::frame(tail) {
+            // It never comes to this.
+            Framed::Refused(_) => {
+                return;
+            }
+            Framed::Whole {
+                address: _,
+                command: _,
+                end,
+            } => {
+                to = put_line(out, to, first(tail, end));
+                at += end;
+            }
+        }
     }
 }
 

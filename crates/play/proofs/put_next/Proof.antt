@@ -1,6 +1,6 @@
 -- A packet isn't empty, and lies within the list.
 use borrow.Author.Needs.{needs}
-use Rattle.sheet.proofs.Cutting.{packet-on, packet-within}
+use Rattle.packet.proofs.Ends.{by-frame, end-fits, end-on, end-within}
 use Rattle.play.proofs.put_next.Statement.{statement}
 use Rattle.play.proofs.put_next.Tie as tie
 
@@ -12,7 +12,11 @@ put-next-spec =
     (λ c κs. search needs)
     (λ c. search needs)
     (λ c. search needs)
+    (λ c. search needs)
     (λ c κs. search needs)
+    (λ c κs. search needs)
+    (λ c. record { fits = search (end-fits, by-frame, needs) })
     (λ c. search needs)
     (λ c. search needs)
-    (λ c. (search packet-on, search packet-within)))
+    (λ c. (search (end-on, by-frame), search (end-within, by-frame)))
+    (λ c. search needs))

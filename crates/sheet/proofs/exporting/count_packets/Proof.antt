@@ -4,7 +4,8 @@ use mathlib.Core.Path.{_≡_, refl}
 use borrow.Author.Needs.{needs}
 use native.Mathlib.Omega.{arith}
 use lib.ListN.{length}
-use Rattle.sheet.proofs.Exports.{coming, count-refused, count-within, count-less, count-few, count-on, count-done}
+use Rattle.packet.proofs.Ends.{by-read, end-fits, end-within, end-less, end-count}
+use Rattle.sheet.proofs.Exports.{coming, count-refused, count-on, count-done}
 use Rattle.sheet.proofs.exporting.count_packets.Statement.{statement}
 use Rattle.sheet.proofs.exporting.count_packets.Tie as tie
 
@@ -23,12 +24,11 @@ count-packets-spec =
     (λ c. (search needs, (search needs, refl)))
     (λ c κs. search needs)
     (λ c κs. search needs)
-    (λ c κs. search needs)
     (λ c. search needs)
     (λ c. search count-refused)
     (λ c. search needs)
     (λ c. omega arith)
-    (λ c. omega arith)
-    (λ c. search count-less)
-    (λ c. (search count-within, (search count-few, search count-on)))
+    (λ c. record { fits = search (end-fits, by-read, needs) })
+    (λ c. search (end-less, by-read))
+    (λ c. (search (end-within, by-read), (search (end-count, by-read), search count-on)))
     (λ c. search count-done))

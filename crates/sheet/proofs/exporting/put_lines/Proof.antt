@@ -2,12 +2,12 @@
 use Prim.Native.Nat.{_≤_, _-_}
 use mathlib.Core.Path.{_≡_, refl}
 use borrow.Author.Needs.{needs}
-use native.Mathlib.Omega.{arith}
 use lib.ListN.{length, drop}
 use Rattle.sheet.specs.Packets.{packetsOf, sheetOf}
 use Rattle.sheet.specs.Reading.{sheetLines}
 use Rattle.sheet.proofs.Laying.{Laying, wrote-kept}
-use Rattle.sheet.proofs.Exports.{line-some, line-room, line-within, line-less, lines-on, lines-done}
+use Rattle.packet.proofs.Ends.{by-frame, end-fits, end-within, end-less}
+use Rattle.sheet.proofs.Exports.{lines-never, line-some, line-room, lines-on, lines-done}
 use Rattle.sheet.proofs.exporting.put_lines.Statement.{statement}
 use Rattle.sheet.proofs.exporting.put_lines.Tie as tie
 
@@ -27,9 +27,14 @@ put-lines-spec =
     (λ c. (search needs, (refl, record { room = search needs; laid = refl })))
     (λ c κs. search needs)
     (λ c κs. search needs)
+    (λ c. search needs)
+    (λ c. search needs)
+    (λ c. search lines-never)
+    (λ c. search needs)
+    (λ c κs. search needs)
     (λ c κs. (search line-some, search line-room))
-    (λ c. omega arith)
-    (λ c. search line-less)
-    (λ c. (search line-within, (search wrote-kept, search lines-on)))
+    (λ c. record { fits = search (end-fits, by-frame, needs) })
+    (λ c. search (end-less, by-frame))
+    (λ c. (search (end-within, by-frame), (search wrote-kept, search lines-on)))
     (λ c. search needs)
     (λ c. search lines-done))

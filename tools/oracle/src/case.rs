@@ -3,7 +3,7 @@
 
 use crate::hex;
 use crate::manuals::{DOCUMENTS, PRINTED};
-use crate::packet::read;
+use crate::packet::{read, whole};
 use crate::rules::Rules;
 
 /// Input lines under one name.
@@ -41,6 +41,12 @@ pub fn damaged(parts: &str) -> String {
         *last = last.wrapping_add(1);
     }
     hex::format(&packet)
+}
+
+/// A packet with so many data bytes, 1, 2 and so on.
+pub fn of_count(count: u8) -> Vec<u8> {
+    let data: Vec<u8> = (1..=count).collect();
+    whole(0x01, 0x3, &data)
 }
 
 /// Packets back to back, each from its parts.

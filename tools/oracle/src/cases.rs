@@ -14,7 +14,13 @@ use crate::rules::Rules;
 /// The most stored input for one program.
 pub const MOST_STORED: usize = hex::MOST_INPUT;
 
-/// The seed of the generated blocks.
+/// What the stored trials input leaves free at least, for the cases of requests
+/// to come.
+pub const LEFT_FREE: usize = 4 * 1024;
+
+/// The most lines of the generated blocks, and their seed.
+const BENCH_LINES: usize = 1500;
+const TRIALS_LINES: usize = 150;
 const SEED: u64 = 773;
 
 /// The nodes of the stored bench input.
@@ -50,7 +56,12 @@ pub fn bench() -> Vec<u8> {
     input.extend(hand_written);
     let room = MOST_STORED - input.len() - further_bench_bytes();
     let mut prng = Prng::new(SEED);
-    input.extend(make_bench::packet_lines(&mut prng, &mut bench, 1500, room));
+    input.extend(make_bench::packet_lines(
+        &mut prng,
+        &mut bench,
+        BENCH_LINES,
+        room,
+    ));
     input.pop();
     input
 }
@@ -65,7 +76,8 @@ pub fn trials() -> Vec<u8> {
     let mut input = text(&cases_trials::cases());
     let mut story = Story::terse(SEED);
     story.follow(&input);
-    input.extend(story.lines(2000, MOST_STORED - input.len()));
+    let room = MOST_STORED - LEFT_FREE - input.len();
+    input.extend(story.lines(TRIALS_LINES, room));
     input.pop();
     input
 }

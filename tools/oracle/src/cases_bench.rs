@@ -269,7 +269,7 @@ fn edge_addresses() -> Vec<String> {
     ])
 }
 
-/// Cut, drawn out, headless.
+/// Cut, headless, or with bytes left over: one, a header, a second packet.
 fn wrong_shapes() -> Vec<String> {
     own(&[
         "AA",
@@ -280,9 +280,13 @@ fn wrong_shapes() -> Vec<String> {
         "AA 01 12 01",
         "AA 01 12 01 14 00",
         "AA 01 12 01 15 00",
+        "AA 01 12 01 14 AA",
+        "AA 01 12 01 14 AA 01 0E 0F",
+        "AA 01 12 01 15 AA 01 0E 0F",
         "AA 01 F0 00",
         "00",
         "AB 01 0E 0F",
+        "AB 01 0E 0F 00",
         "AB",
         "AA 01 26 AA 00 D1",
         "AA 01 47 AA AA AA AA F0",

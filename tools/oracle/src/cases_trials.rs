@@ -4,8 +4,12 @@ mod chain;
 mod host;
 mod sheets;
 
-use crate::case::{manual_cases, Case};
+use std::collections::HashSet;
+
+use crate::case::{manual_cases, of_count, Case};
+use crate::hex;
 use crate::manuals::PRINTED_STATUS;
+use crate::packet::{HEADER, MOST_DATA};
 
 /// The cases in order.
 pub fn cases() -> Vec<Case> {
@@ -13,7 +17,7 @@ pub fn cases() -> Vec<Case> {
         Case::new("document 01: packets read", document_packets_read()),
         Case::new("document 01: packets built", document_packets_built()),
     ];
-    cases.extend(manual_cases("11 "));
+    cases.extend(manual_packets_read());
     cases.extend(packet_cases());
     cases.extend(chain::cases());
     cases.extend(host::document_records());
@@ -63,58 +67,102 @@ fn document_packets_built() -> Vec<String> {
     ])
 }
 
+/// The packets that each manual prints and that none before it does: reading
+/// remembers nothing, so once is enough.
+fn manual_packets_read() -> Vec<Case> {
+    let mut read = HashSet::new();
+    let mut cases = manual_cases("11 ");
+    for case in &mut cases {
+        case.lines.retain(|line| read.insert(line.clone()));
+    }
+    cases
+}
+
 fn packet_cases() -> Vec<Case> {
     vec![
-        Case::new(
-            "reading: order of checks",
-            own(&[
-                "11",
-                "11 00",
-                "11 AA",
-                "11 AA 01",
-                "11 AA 01 0E",
-                "11 01 0E",
-                "11 0F 01 0E 0F 00",
-                "11 AA 01 12 01",
-                "11 AA 01 12 01 14",
-                "11 AA 01 12 01 15",
-                "11 AA 01 12 01 14 00",
-                "11 AA 01 12 01 15 00",
-                "11 AA 01 0E B9",
-                "11 AA AA 0E B8",
-                "11 AA 01 12 AA BD",
-                "11 AA 01 47 AA AA AA AA F0",
-                "11 AA 01 26 FF FF 25",
-                "11 AA 01 F0 00",
-                "11 AA 7F 0E 8D",
-                "11 AA FF 09 08",
-            ]),
-        ),
-        Case::new(
-            "building: ranges and rooms",
-            own(&[
-                "10 04 00 00",
-                "10 03 01 0E",
-                "10 00 01 0E",
-                "10 05 FF 0F",
-                "10 04 01 0F",
-                "10 04 01 10",
-                "10 00 01 10",
-                "10 04 01 1E",
-                "10 04 01 FF",
-                "10 05 01 02 AA",
-                "10 13 AA 0F 01 02 03 04 05 06 07 08 09 0A 0B 0C 0D 0E 0F",
-                "10 12 AA 0F 01 02 03 04 05 06 07 08 09 0A 0B 0C 0D 0E 0F",
-                "10 40 AA 0F 01 02 03 04 05 06 07 08 09 0A 0B 0C 0D 0E 0F 10",
-                "10 12 AA 0F 01 02 03 04 05 06 07 08 09 0A 0B 0C 0D 0E 0F 10",
-                "10 00 AA 10 01 02 03 04 05 06 07 08 09 0A 0B 0C 0D 0E 0F 10",
-                "10 40 01 0E",
-                "10 06 01 06 FF FF",
-            ]),
-        ),
+        Case::new("reading: order of checks", own(&ORDER_OF_CHECKS)),
+        Case::new("reading: what follows", own(&WHAT_FOLLOWS)),
+        Case::new("reading: every end", every_end()),
+        Case::new("building: ranges and rooms", own(&RANGES_AND_ROOMS)),
         Case::new("status packets", status_packets()),
     ]
 }
+
+/// 1, 2, 1 and 4, alone and where several are due.
+const ORDER_OF_CHECKS: [&str; 20] = [
+    "11",
+    "11 00",
+    "11 AA",
+    "11 AA 01",
+    "11 AA 01 0E",
+    "11 01 0E",
+    "11 0F 01 0E 0F 00",
+    "11 AA 01 12 01",
+    "11 AA 01 12 01 14",
+    "11 AA 01 12 01 15",
+    "11 AA 01 12 01 14 00",
+    "11 AA 01 12 01 15 00",
+    "11 AA 01 0E B9",
+    "11 AA AA 0E B8",
+    "11 AA 01 12 AA BD",
+    "11 AA 01 47 AA AA AA AA F0",
+    "11 AA 01 26 FF FF 25",
+    "11 AA 01 F0 00",
+    "11 AA 7F 0E 8D",
+    "11 AA FF 09 08",
+];
+
+/// Behind a packet: a byte, headers, a packet whole, cut, damaged. Behind a
+/// wrong sum: the same, and the sum that would be right. Behind the longest
+/// packet. What follows helps neither a short packet nor one without header.
+const WHAT_FOLLOWS: [&str; 19] = [
+    "11 AA 01 0E 0F AA",
+    "11 AA 01 0E 0F 0F",
+    "11 AA 01 12 AA BD AA AA AA",
+    "11 AA 01 0E 0F AA 02 13 04 19",
+    "11 AA 02 26 05 00 2D AA 01 0E 0F AA 01 0E 0F",
+    "11 AA 01 0E 0F AA 01",
+    "11 AA 01 0E 0F AA 01 0E 10",
+    "11 AA 01 0E 0F 01 0E 0F",
+    "11 AA 01 0E 10 00",
+    "11 AA 01 0E 10 0F",
+    "11 AA 01 0E 10 AA 01 0E 0F",
+    "11 AA 01 13 04 00 18",
+    "11 AA AA 01 0E 0F",
+    "11 AA 01 0E AA 0F",
+    "11 AA 01 13 04 AA 01 0E 0F",
+    "11 AA 01 F3 AA 01 0E 0F",
+    "11 01 0E 0F AA 01 0E 0F",
+    "11 AA 7F FF 01 02 03 04 05 06 07 08 09 0A 0B 0C 0D 0E 0F F6 AA 01 0E 0F",
+    "11 AA 7F FF 01 02 03 04 05 06 07 08 09 0A 0B 0C 0D 0E 0F F7 00",
+];
+
+/// A packet of each count with a byte behind it: ends 04 to 13.
+fn every_end() -> Vec<String> {
+    (0..=MOST_DATA as u8)
+        .map(|count| hex::format(&[vec![0x11], of_count(count), vec![HEADER]].concat()))
+        .collect()
+}
+
+const RANGES_AND_ROOMS: [&str; 17] = [
+    "10 04 00 00",
+    "10 03 01 0E",
+    "10 00 01 0E",
+    "10 05 FF 0F",
+    "10 04 01 0F",
+    "10 04 01 10",
+    "10 00 01 10",
+    "10 04 01 1E",
+    "10 04 01 FF",
+    "10 05 01 02 AA",
+    "10 13 AA 0F 01 02 03 04 05 06 07 08 09 0A 0B 0C 0D 0E 0F",
+    "10 12 AA 0F 01 02 03 04 05 06 07 08 09 0A 0B 0C 0D 0E 0F",
+    "10 40 AA 0F 01 02 03 04 05 06 07 08 09 0A 0B 0C 0D 0E 0F 10",
+    "10 12 AA 0F 01 02 03 04 05 06 07 08 09 0A 0B 0C 0D 0E 0F 10",
+    "10 00 AA 10 01 02 03 04 05 06 07 08 09 0A 0B 0C 0D 0E 0F 10",
+    "10 40 01 0E",
+    "10 06 01 06 FF FF",
+];
 
 /// The manuals' status packets, then every mask bit and every refusal.
 fn status_packets() -> Vec<String> {

@@ -2,7 +2,7 @@
 
 use crate::command::Command;
 use crate::node::Node;
-use crate::packet::{frame, Packet};
+use crate::packet::{frame, Packet, HEADER, OVERHEAD};
 use crate::refusal::{require, Refusal};
 use crate::rules::{Mistake, Rules};
 
@@ -35,14 +35,10 @@ pub fn deliver(
     bytes: &[u8],
     buffer: &mut [u8],
 ) -> Result<Delivery, Refusal> {
-    if rules.slips(Mistake::FrameBeforeTable) {
-        frame(rules, bytes)?;
-    }
+    mistakes_before_table(rules, bytes)?;
     require(table_is_in_range(rules, nodes), Refusal::OffRange)?;
-    if rules.slips(Mistake::RoomBeforeFrame) {
-        require(!buffer.is_empty(), Refusal::NoRoom)?;
-    }
-    let packet = frame(rules, bytes)?;
+    mistakes_before_packet(rules, nodes, bytes, buffer)?;
+    let packet = alone(rules, bytes)?;
     if rules.slips(Mistake::WrongSumRefused) {
         require(packet.intact, Refusal::WrongSum)?;
     }
@@ -57,6 +53,22 @@ pub fn deliver(
     }
     buffer[..reply.len()].copy_from_slice(&reply);
     Ok(answer)
+}
+
+/// The one packet that the bytes are, its sum right or not. Reading accepts
+/// what follows a packet; "the chain and bench program then refuse left-over
+/// bytes with 3 themselves" (request 2), whatever the sum.
+fn alone(rules: Rules, bytes: &[u8]) -> Result<Packet<'_>, Refusal> {
+    mistakes_before_frame(rules, bytes)?;
+    let packet = frame(rules, bytes)?;
+    let left_over = &bytes[packet.end..];
+    if rules.slips(Mistake::SumBeforeLeftOver) && !left_over.is_empty() {
+        require(packet.intact, Refusal::WrongSum)?;
+    }
+    let taken = rules.slips(Mistake::LeftOverTaken)
+        || rules.slips(Mistake::LeftOverPacketTaken) && frame(rules, left_over).is_ok();
+    require(left_over.is_empty() || taken, Refusal::TooLong)?;
+    Ok(packet)
 }
 
 /// 6: "table length not 1 to 31, .. a lent node record with individual
@@ -161,6 +173,52 @@ fn act_unless_mistaken(rules: Rules, nodes: &mut [Node], packet: &Packet, answer
     if !withheld {
         act(rules, nodes, packet);
     }
+}
+
+// ---- Mistakes alone ----------------------------------------------------
+
+/// What a mistaken chain looks at before its table.
+fn mistakes_before_table(rules: Rules, bytes: &[u8]) -> Result<(), Refusal> {
+    if rules.slips(Mistake::FrameBeforeTable) {
+        alone(rules, bytes)?;
+    }
+    if rules.slips(Mistake::LeftOverBeforeTable) {
+        let alone = frame(rules, bytes).map_or(true, |packet| packet.end == bytes.len());
+        require(alone, Refusal::TooLong)?;
+    }
+    Ok(())
+}
+
+/// The room that a mistaken chain asks for before it knows its packet.
+fn mistakes_before_packet(
+    rules: Rules,
+    nodes: &[Node],
+    bytes: &[u8],
+    buffer: &[u8],
+) -> Result<(), Refusal> {
+    if rules.slips(Mistake::RoomBeforeFrame) {
+        require(!buffer.is_empty(), Refusal::NoRoom)?;
+    }
+    if rules.slips(Mistake::RoomBeforeLeftOver) {
+        let (_, reply) = answer(rules, nodes, &frame(rules, bytes)?);
+        require(reply.len() <= buffer.len(), Refusal::NoRoom)?;
+    }
+    Ok(())
+}
+
+/// The length that a mistaken chain holds to the count before it reads.
+fn mistakes_before_frame(rules: Rules, bytes: &[u8]) -> Result<(), Refusal> {
+    let Some(command_byte) = bytes.get(2) else {
+        return Ok(());
+    };
+    let whole = OVERHEAD + usize::from(command_byte >> 4);
+    if rules.slips(Mistake::LeftOverBeforeHeader) {
+        require(bytes.len() <= whole, Refusal::TooLong)?;
+    }
+    if rules.slips(Mistake::ShortGives3) {
+        require(bytes[0] != HEADER || bytes.len() >= whole, Refusal::TooLong)?;
+    }
+    Ok(())
 }
 
 fn lacks_room_for_any(rules: Rules, buffer: &[u8]) -> bool {

@@ -1,4 +1,5 @@
-//! How often each number is answered and each command is tried.
+//! How often each number is answered and each command is tried, and how often
+//! a packet is read with bytes behind it.
 
 use crate::bench::Bench;
 use crate::hex;
@@ -17,12 +18,14 @@ pub fn answerable() -> Vec<u8> {
     numbers
 }
 
-/// Counts by number and by command byte.
+/// Counts by number and by command byte, and of packets that are followed.
 pub struct Coverage {
     pub lines: usize,
     /// Each number as itself; the last is the answer FF.
     pub numbers: [usize; 256],
     pub commands: [usize; 256],
+    /// Packets that are read with bytes behind them.
+    pub followed: usize,
 }
 
 impl Coverage {
@@ -31,6 +34,7 @@ impl Coverage {
             lines: 0,
             numbers: [0; 256],
             commands: [0; 256],
+            followed: 0,
         }
     }
 
@@ -70,15 +74,17 @@ impl Coverage {
             let bytes = hex::parse(Rules::RIGHT, line).unwrap_or_default();
             coverage.command(tried_command(&bytes));
             let answer = trials.answer(line);
-            let number = hex::parse(Rules::RIGHT, answer.as_bytes()).unwrap_or_default();
-            coverage.number(number[0]);
+            let answer = hex::parse(Rules::RIGHT, answer.as_bytes()).unwrap_or_default();
+            coverage.number(answer[0]);
+            coverage.followed += usize::from(is_followed(&bytes, &answer));
         }
         coverage
     }
 
-    /// Numbers and commands with their counts.
+    /// The counts, a line each.
     pub fn text(&self) -> String {
-        let mut text = format!("{} lines\n", self.lines);
+        let (lines, followed) = (self.lines, self.followed);
+        let mut text = format!("{lines} lines\nread with bytes behind: {followed}\n");
         for number in answerable() {
             let count = self.numbers[usize::from(number)];
             let name = match number {
@@ -105,6 +111,14 @@ fn bench_number(answer: &str) -> u8 {
         Some(number) => number.parse().unwrap_or(UNREADABLE),
         None if answer == "collision" => COLLISION,
         None => DONE,
+    }
+}
+
+/// Whether a line reads a packet that ends before the line does.
+fn is_followed(line: &[u8], answer: &[u8]) -> bool {
+    match (line, answer) {
+        ([0x11, bytes @ ..], [DONE, end, ..]) => usize::from(*end) < bytes.len(),
+        _ => false,
     }
 }
 

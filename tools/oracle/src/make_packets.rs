@@ -2,7 +2,7 @@
 
 use crate::command::{Command, Held, Place, COMMAND_BYTES};
 use crate::node::Node;
-use crate::packet::{whole, MOST_DATA};
+use crate::packet::{whole, HEADER, MOST_DATA};
 use crate::prng::Prng;
 
 /// The groups that stories keep to, so that members meet.
@@ -20,6 +20,13 @@ pub fn packet(prng: &mut Prng, nodes: &[Node]) -> Vec<u8> {
     match prng.below(100) {
         0..=11 => damage(prng, packet),
         12..=19 => misshape(prng, packet),
+        20..=23 => {
+            let packet = match prng.percent(40) {
+                true => damage(prng, packet),
+                false => packet,
+            };
+            followed(prng, packet)
+        }
         _ => packet,
     }
 }
@@ -93,19 +100,34 @@ pub fn damage(prng: &mut Prng, mut packet: Vec<u8>) -> Vec<u8> {
     packet
 }
 
-/// Cut, drawn out, without header or empty.
+/// Cut, without header, empty, or with something behind it.
 pub fn misshape(prng: &mut Prng, mut packet: Vec<u8>) -> Vec<u8> {
     match prng.below(5) {
         0 => packet.truncate(prng.below(packet.len())),
         1 => packet[0] = prng.other_than(packet[0]),
         2 => drop(packet.remove(0)),
         3 => packet.clear(),
-        _ => {
-            let more = 1 + prng.below(6);
-            packet.extend(prng.telling_bytes(more));
-        }
+        _ => return followed(prng, packet),
     }
     packet
+}
+
+/// Something behind a packet: another one, whole, damaged or cut; headers
+/// alone; any bytes.
+pub fn followed(prng: &mut Prng, packet: Vec<u8>) -> Vec<u8> {
+    let next = other_packet(prng, &[]);
+    let behind = match prng.below(10) {
+        0..=3 => next,
+        4 => damage(prng, next),
+        5..=6 => next[..1 + prng.below(next.len() - 1)].to_vec(),
+        7 => vec![HEADER; 1 + prng.below(4)],
+        _ => {
+            let most = prng.pick(&[6, 6, 6, 40]);
+            let count = 1 + prng.below(most);
+            prng.telling_bytes(count)
+        }
+    };
+    [packet, behind].concat()
 }
 
 /// One of the eleven kinds with telling data.

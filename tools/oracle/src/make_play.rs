@@ -34,12 +34,13 @@ fn rehearsal(prng: &mut Prng, count: u8, lines: usize) -> Vec<u8> {
     let mut bench = Bench::new(Rules::RIGHT, usize::from(count));
     let mut sheet = Vec::new();
     for _ in 0..lines {
-        let packet = make_packets::packet(prng, &bench.nodes);
-        if read(Rules::RIGHT, &packet).is_err() {
+        let bytes = make_packets::packet(prng, &bench.nodes);
+        let Ok(packet) = read(Rules::RIGHT, &bytes) else {
             continue; // no sheet gives such a packet
-        }
-        bench.answer(hex::format(&packet).as_bytes());
-        sheet.extend(line_of(prng, &packet));
+        };
+        let packet = &bytes[..packet.end];
+        bench.answer(hex::format(packet).as_bytes());
+        sheet.extend(line_of(prng, packet));
         sheet.push(b'\n');
     }
     if prng.percent(30) {

@@ -9,7 +9,7 @@ use crate::command::{Held, Settings};
 use crate::hex;
 use crate::layout;
 use crate::make_bench::malform;
-use crate::make_packets::{self, group, misshape, place};
+use crate::make_packets::{self, damage, followed, group, misshape, place};
 use crate::node::{BenchValues, Captured, Node};
 use crate::packet::whole;
 use crate::prng::Prng;
@@ -144,20 +144,20 @@ impl Story {
         line
     }
 
+    /// `11`, mostly with something behind the packet.
     fn read_line(&mut self) -> Vec<u8> {
         let count = self.prng.below(16);
         let data = self.prng.telling_bytes(count);
         let address = self.prng.telling_byte();
-        let packet = whole(address, self.prng.between(0, 15), &data);
-        let packet = match self.prng.below(10) {
-            0..=4 => packet,
-            5..=6 => make_packets::damage(&mut self.prng, packet),
-            7 => {
-                let damaged = make_packets::damage(&mut self.prng, packet);
-                misshape(&mut self.prng, damaged)
-            }
+        let mut packet = whole(address, self.prng.between(0, 15), &data);
+        packet = match self.prng.below(10) {
+            0..=5 => packet,
+            6..=7 => damage(&mut self.prng, packet),
             _ => misshape(&mut self.prng, packet),
         };
+        if self.prng.percent(60) {
+            packet = followed(&mut self.prng, packet);
+        }
         [vec![0x11], packet].concat()
     }
 
@@ -182,7 +182,10 @@ impl Story {
 impl Story {
     fn delivery_line(&mut self) -> Vec<u8> {
         let nodes = self.table();
-        let packet = make_packets::packet(&mut self.prng, &nodes);
+        let mut packet = make_packets::packet(&mut self.prng, &nodes);
+        if self.prng.percent(10) {
+            packet = followed(&mut self.prng, packet);
+        }
         let room = self.room(reply_length(&nodes, &packet));
         let mut line = vec![0x20, room, nodes.len() as u8];
         line.extend(nodes.iter().flat_map(layout::node));

@@ -241,14 +241,15 @@ fn shown(bytes: &[u8]) -> String {
     hex::format(bytes)
 }
 
-/// What reading a printed packet gives: its parts, or the number.
+/// What reading a printed packet gives: its parts and its end, or the number.
 pub fn reading(bytes: &str) -> String {
     match packet::read(Rules::RIGHT, &bytes_of(bytes)) {
         Ok(packet) => format!(
-            "address {:02X}, command {:X}, data {}",
+            "address {:02X}, command {:X}, data {}, ends at {}",
             packet.address,
             packet.command(),
-            shown(packet.data)
+            shown(packet.data),
+            packet.end
         ),
         Err(refusal) => refusal.number().to_string(),
     }

@@ -14,13 +14,15 @@ pub const OVERHEAD: usize = 4;
 pub const MOST_DATA: usize = 15;
 
 /// A packet of the right form. `intact` tells whether its sum is right: the
-/// chain takes damaged packets too, the reader does not.
+/// chain takes damaged packets too, reading does not. `end` tells where it ends
+/// among the bytes that it stands at the start of.
 #[derive(Clone, Copy, Debug, PartialEq, Eq)]
 pub struct Packet<'a> {
     pub address: u8,
     pub command_byte: u8,
     pub data: &'a [u8],
     pub intact: bool,
+    pub end: usize,
 }
 
 impl Packet<'_> {
@@ -43,47 +45,48 @@ fn packet_sum(rules: Rules, before_sum: &[u8]) -> u8 {
     sum(&before_sum[1..])
 }
 
-/// The packet that some bytes begin with, and what follows it. Checks in
-/// order: empty, 1; first byte not 0xAA, 2; fewer than 4 bytes or fewer than
-/// 4 + count, 1.
-pub fn front(rules: Rules, bytes: &[u8]) -> Result<(Packet<'_>, &[u8]), Refusal> {
+/// Whether the sum, a packet's last byte, is that of the bytes before it.
+fn is_intact(rules: Rules, bytes: &[u8], end: usize) -> bool {
+    let last = |mistake| match rules.slips(mistake) {
+        true => bytes.len() - 1,
+        false => end - 1,
+    };
+    let before_sum = &bytes[..last(Mistake::SumPastEnd)];
+    bytes[last(Mistake::SumSoughtLast)] == packet_sum(rules, before_sum)
+}
+
+/// The packet that some bytes begin with, its sum right or not; what follows
+/// it is not looked at. Checks in order: empty, 1; first byte not 0xAA, 2;
+/// fewer than 4 bytes or fewer than 4 + count, 1.
+pub fn frame(rules: Rules, bytes: &[u8]) -> Result<Packet<'_>, Refusal> {
     if rules.slips(Mistake::LengthBeforeHeader) {
         require(bytes.len() >= OVERHEAD, Refusal::Short)?;
     }
     require(!bytes.is_empty(), Refusal::Short)?;
     require(bytes[0] == HEADER, Refusal::NoHeader)?;
     require(bytes.len() >= OVERHEAD, Refusal::Short)?;
-    let whole = OVERHEAD + usize::from(bytes[2] >> 4);
-    require(bytes.len() >= whole, Refusal::Short)?;
-    let (own, rest) = bytes.split_at(whole);
-    let (before_sum, data) = (&own[..whole - 1], &own[3..whole - 1]);
+    let end = OVERHEAD + usize::from(bytes[2] >> 4);
+    require(bytes.len() >= end, Refusal::Short)?;
+    let data = &bytes[3..end - 1];
     if rules.slips(Mistake::HeaderEndsData) {
         require(!data.contains(&HEADER), Refusal::Short)?;
     }
-    let packet = Packet {
-        address: own[1],
-        command_byte: own[2],
+    Ok(Packet {
+        address: bytes[1],
+        command_byte: bytes[2],
         data,
-        intact: own[whole - 1] == packet_sum(rules, before_sum),
-    };
-    Ok((packet, rest))
+        intact: is_intact(rules, bytes, end),
+        end,
+    })
 }
 
-/// A packet alone: the checks of `front`; more bytes, 3.
-pub fn frame(rules: Rules, bytes: &[u8]) -> Result<Packet<'_>, Refusal> {
-    let (packet, rest) = front(rules, bytes)?;
-    if rules.slips(Mistake::SumBeforeLength) {
-        require(packet.intact, Refusal::WrongSum)?;
-    }
-    require(rest.is_empty(), Refusal::TooLong)?;
-    Ok(packet)
-}
-
-/// Reading takes one whole packet: the checks of `frame`, then the sum, 4.
+/// "Reading a command should say where the packet ends and accept what
+/// follows" (request 2): the checks of `frame`, then the sum, 4; never 3.
 pub fn read(rules: Rules, bytes: &[u8]) -> Result<Packet<'_>, Refusal> {
     let packet = frame(rules, bytes)?;
+    mistakes_about_rest(rules, &packet, bytes)?;
     require(packet.intact, Refusal::WrongSum)?;
-    Ok(packet)
+    Ok(as_told(rules, packet, bytes))
 }
 
 /// "A builder takes any address byte and gives 6 before 5." The packet goes
@@ -116,4 +119,35 @@ pub fn assemble(rules: Rules, address: u8, command: u8, data: &[u8]) -> Vec<u8> 
 /// generators make their inputs of these.
 pub fn whole(address: u8, command: u8, data: &[u8]) -> Vec<u8> {
     assemble(Rules::RIGHT, address, command, data)
+}
+
+// ---- Mistakes alone ----------------------------------------------------
+
+/// What follows a packet is accepted, but for a mistaken reader.
+fn mistakes_about_rest(rules: Rules, packet: &Packet, bytes: &[u8]) -> Result<(), Refusal> {
+    let Some(first) = bytes.get(packet.end) else {
+        return Ok(());
+    };
+    let too_long = rules.slips(Mistake::ReadingGives3)
+        || rules.slips(Mistake::DamagedGives3) && !packet.intact
+        || rules.slips(Mistake::LongReadingGives3) && bytes.len() > OVERHEAD + MOST_DATA;
+    require(!too_long, Refusal::TooLong)?;
+    let follows = *first == HEADER || !rules.slips(Mistake::HeaderMustFollow);
+    require(follows, Refusal::NoHeader)
+}
+
+/// What has been read, as a mistaken reader tells it.
+fn as_told<'a>(rules: Rules, packet: Packet<'a>, bytes: &'a [u8]) -> Packet<'a> {
+    let mut told = packet;
+    if rules.slips(Mistake::EndIsLength) {
+        told.end = bytes.len();
+    } else if rules.slips(Mistake::EndLeavesSum) {
+        told.end -= 1;
+    } else if rules.slips(Mistake::EndLeavesData) {
+        told.end = OVERHEAD;
+    } else if rules.slips(Mistake::DataToLast) {
+        // Not in a long list, each line of which would hold the rest of it.
+        told.data = &bytes[3..bytes.len().min(100) - 1];
+    }
+    told
 }

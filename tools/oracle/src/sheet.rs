@@ -200,55 +200,46 @@ pub struct Misread {
 
 /// The sheet of a list, a line for each packet.
 pub fn sheet_of(rules: Rules, list: &[u8]) -> Result<Vec<u8>, Misread> {
-    let mut sheet: Vec<u8> = split(rules, list)?
-        .iter()
-        .flat_map(|packet| line_of(rules, packet))
-        .collect();
+    let (packets, refusal) = walk(rules, list);
+    if let Some(refusal) = refusal {
+        return Err(Misread {
+            packet: packets.len() + 1,
+            refusal: told(rules, refusal),
+        });
+    }
+    let mut sheet = lines_of(rules, &packets);
     if rules.slips(Mistake::ExportsUnended) {
         sheet.pop();
     }
     Ok(sheet)
 }
 
-/// The packets of a list, from its start on. What follows a packet is the next
-/// one, so none is too long, and only the last can be short.
-fn split(rules: Rules, list: &[u8]) -> Result<Vec<Packet<'_>>, Misread> {
+/// The packets of a list, each read where the one before ended, up to the
+/// list's end; or up to the first that doesn't read, and why it doesn't. What
+/// follows a packet is the next one, so only the last can be short.
+fn walk(rules: Rules, list: &[u8]) -> (Vec<Packet<'_>>, Option<Refusal>) {
     let mut packets = Vec::new();
     let mut rest = list;
     while !rest.is_empty() {
-        match front(rules, rest) {
-            Ok((packet, behind)) => {
+        match packet::read(rules, rest) {
+            Ok(packet) => {
                 packets.push(packet);
-                rest = behind;
+                rest = &rest[next_start(rules, rest, packet.end)..];
             }
             Err(Refusal::Short) if rules.slips(Mistake::CutPacketLeftOut) => break,
-            Err(refusal) => {
-                return Err(Misread {
-                    packet: packets.len() + 1,
-                    refusal,
-                })
+            Err(Refusal::WrongSum) if rules.slips(Mistake::DamagedLeftOut) => {
+                rest = behind_damaged(rules, rest);
             }
+            Err(refusal) => return (packets, Some(refusal)),
         }
     }
-    if rules.slips(Mistake::DamagedLeftOut) {
-        packets.retain(|packet| packet.intact);
-    }
-    Ok(packets)
+    (packets, None)
 }
 
-/// The packet at the start of a list, read, and what follows it.
-fn front(rules: Rules, list: &[u8]) -> Result<(Packet<'_>, &[u8]), Refusal> {
-    let (packet, rest) = if rules.slips(Mistake::HeaderCutsList) {
-        front_to_header(rules, list)?
-    } else {
-        packet::front(rules, list).map_err(|refusal| told(rules, refusal))?
-    };
-    if rules.slips(Mistake::ExportGives3) {
-        require(rest.is_empty(), Refusal::TooLong)?;
-    }
-    let reads = packet.intact || rules.slips(Mistake::DamagedLeftOut);
-    require(reads, Refusal::WrongSum)?;
-    Ok((packet, rest))
+/// The lines of packets.
+fn lines_of(rules: Rules, packets: &[Packet]) -> Vec<u8> {
+    let packets = packets.iter();
+    packets.flat_map(|packet| line_of(rules, packet)).collect()
 }
 
 /// "Export writes two capitals": the word, the packet without header and sum.
@@ -297,11 +288,19 @@ fn indulged(rules: Rules, line: &[u8]) -> Cow<'_, [u8]> {
     Cow::Owned(changed.into_bytes())
 }
 
-/// What stands before a list's next 0xAA, as a packet, and what follows it.
-fn front_to_header(rules: Rules, list: &[u8]) -> Result<(Packet<'_>, &[u8]), Refusal> {
+/// Where a list's next packet starts: where the last one ended, but for a
+/// mistaken export.
+fn next_start(rules: Rules, list: &[u8], end: usize) -> usize {
+    if !rules.slips(Mistake::HeaderCutsList) {
+        return end;
+    }
     let next = (1..list.len()).find(|at| list[*at] == HEADER);
-    let (own, rest) = list.split_at(next.unwrap_or(list.len()));
-    Ok((packet::frame(rules, own)?, rest))
+    next.unwrap_or(list.len())
+}
+
+/// What follows a packet whose sum is wrong.
+fn behind_damaged(rules: Rules, list: &[u8]) -> &[u8] {
+    packet::frame(rules, list).map_or(&[], |packet| &list[packet.end..])
 }
 
 /// Why a packet doesn't read, as a mistaken export tells it.
@@ -323,13 +322,7 @@ fn packets_before_fault(rules: Rules, sheet: &[u8]) -> Vec<u8> {
 
 /// What the packets before the first one that doesn't read give.
 fn lines_before_fault(rules: Rules, list: &[u8]) -> Vec<u8> {
-    let mut lines = Vec::new();
-    let mut rest = list;
-    while let Ok((packet, behind)) = front(rules, rest) {
-        lines.extend(line_of(rules, &packet));
-        rest = behind;
-    }
-    lines
+    lines_of(rules, &walk(rules, list).0)
 }
 
 /// As much of some bytes as a buffer has room for.

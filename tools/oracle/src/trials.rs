@@ -94,7 +94,10 @@ impl Trials {
 
     fn read(&self, mut line: Cursor) -> Option<Vec<u8>> {
         Some(match packet::read(self.rules, line.rest()) {
-            Ok(packet) => [&[DONE, packet.address, packet.command()], packet.data].concat(),
+            Ok(packet) => {
+                let parts = [DONE, packet.end as u8, packet.address, packet.command()];
+                [&parts, packet.data].concat()
+            }
             Err(refusal) => vec![refusal.number()],
         })
     }

@@ -1,6 +1,6 @@
 //! Hand-written cases for deliveries, `20`.
 
-use crate::case::{damaged, packet, Case};
+use crate::case::{damaged, of_count, packet, Case};
 use crate::command::{Held, Place, Settings};
 use crate::hex;
 use crate::layout;
@@ -70,6 +70,7 @@ pub fn cases() -> Vec<Case> {
         Case::new("tables of every length", table_lengths()),
         Case::new("records off their range", records_off_range()),
         Case::new("the chain's order of checks", chain_order()),
+        Case::new("left-over bytes", left_over()),
         Case::new("every kind at a node", every_kind()),
         Case::new("others and other counts at a node", others()),
         Case::new("every status item", every_item()),
@@ -86,21 +87,23 @@ fn table_lengths() -> Vec<String> {
     [0, 1, 31, 32]
         .into_iter()
         .map(|length| deliver(4, &vec![waiting(); length], &nop))
-        .chain([deliver(0, &[], ""), deliver(0, &[], "01")])
+        .chain(["", "01", "AA 01 0E 0F 00"].map(|packet| deliver(0, &[], packet)))
         .collect()
 }
 
-/// 6 also for records that do not hear and for packets not meant for them.
+/// 6 also for records that do not hear and for packets not meant for them, and
+/// before 1 and 3.
 fn records_off_range() -> Vec<String> {
     let bad_address = record(0x80, 0xFF, false, false);
     let bad_group = record(0x02, 0x7F, true, false);
-    let nop = packet("01 0E");
+    let (nop, to_waiting) = (packet("01 0E"), packet("00 0E"));
     vec![
         deliver(4, &[bad_address], &nop),
         deliver(4, &[addressed(1), bad_group], &nop),
-        deliver(4, &[addressed(1), waiting(), waiting(), bad_address], &nop),
-        deliver(4, &[addressed(1), waiting(), waiting(), bad_group], &nop),
-        deliver(0, &[addressed(1), bad_group], ""),
+        deliver(4, &[waiting(), bad_address], &to_waiting),
+        deliver(4, &[waiting(), bad_group], &to_waiting),
+        deliver(0, &[bad_group], ""),
+        deliver(4, &[bad_group], &format!("{nop} 00")),
         deliver(4, &[addressed(1), record(0x7F, 0x80, true, true)], &nop),
         deliver(
             4,
@@ -110,6 +113,7 @@ fn records_off_range() -> Vec<String> {
     ]
 }
 
+/// 1, 2 and 3 before 5.
 fn chain_order() -> Vec<String> {
     let table = [addressed(1)];
     [
@@ -118,12 +122,33 @@ fn chain_order() -> Vec<String> {
         "AA",
         "AA 01 0E",
         "AA 01 12 01",
+        "AA 01 F3 AA 01 0E 0F",
         "01 0E 0F",
+        "0F 01 0E 0F 00",
         "AA 01 0E 0F 00",
         "AA 01 0E 10 00",
     ]
     .into_iter()
     .map(|packet| deliver(0, &table, packet))
+    .collect()
+}
+
+/// 3 whatever is left over, behind a right sum and a wrong one, where nobody
+/// replies and where nobody is meant.
+fn left_over() -> Vec<String> {
+    let table = [addressed(1)];
+    [
+        (packet("01 26 07 00"), "00"),
+        (damaged("01 26 07 00"), "00"),
+        (packet("01 26 07 00"), "AA"),
+        (packet("01 26 07 00"), "AA 01 0E 0F"),
+        (damaged("01 26 07 00"), "AA 01 0E 0F"),
+        (packet("01 0F"), "AA 01 0E 0F"),
+        (packet("05 0E"), "00"),
+        (hex::format(&of_count(15)), "00"),
+    ]
+    .into_iter()
+    .map(|(packet, more)| deliver(2, &table, &format!("{packet} {more}")))
     .collect()
 }
 
@@ -153,7 +178,9 @@ fn others() -> Vec<String> {
     let table = [showing(0x02, addressed(1))];
     [
         "01 00",
+        "01 09",
         "01 1A 3F",
+        "01 0B",
         "01 0D",
         "01 11 07",
         "01 31 07 FF 00",
@@ -219,7 +246,7 @@ fn rooms() -> Vec<String> {
 fn hearing() -> Vec<String> {
     let set_address = packet("00 21 01 FF");
     let nop = packet("00 0E");
-    let reset_amid = [addressed(1), waiting(), waiting(), addressed(4), waiting()];
+    let reset_amid = [addressed(1), waiting(), waiting(), addressed(4)];
     vec![
         deliver(2, &[waiting(), waiting()], &set_address),
         deliver(
@@ -230,72 +257,65 @@ fn hearing() -> Vec<String> {
         deliver(2, &[waiting(), addressed(2)], &packet("02 0E")),
         deliver(2, &[waiting(), addressed(2)], &nop),
         deliver(2, &reset_amid, &nop),
-        deliver(2, &reset_amid[..4], &nop),
-        deliver(2, &reset_amid[..4], &packet("04 0E")),
-        deliver(2, &reset_amid[..4], &packet("FF 26 07 00")),
+        deliver(2, &reset_amid, &packet("FF 26 07 00")),
         deliver(2, &[addressed(0), waiting(), waiting()], &nop),
     ]
 }
 
 fn leaders() -> Vec<String> {
-    let table = [
-        record(1, 0x81, false, true),
-        record(2, 0x81, true, true),
-        record(3, 0x82, true, true),
-        record(0, 0x82, false, false),
-        record(0, 0x81, true, false),
+    let member = record(1, 0x81, false, true);
+    let leader = record(2, 0x81, true, true);
+    let other = record(3, 0x82, true, true);
+    let group = [member, leader];
+    let mut lines = vec![
+        deliver(6, &[member, leader, other], &packet("81 24 01 02")),
+        deliver(6, &[leader, other], &packet("82 0E")),
+        deliver(6, &[member, leader, other], &packet("81 0F")),
     ];
-    [
-        packet("81 24 01 02"),
+    for packet in [
         damaged("81 24 01 02"),
         packet("81 12 20"),
-        packet("82 0E"),
         packet("01 21 01 01"),
         packet("81 21 07 03"),
-        packet("81 0F"),
         damaged("81 0F"),
         packet("81 1F 00"),
         packet("FF 0E"),
-    ]
-    .iter()
-    .map(|packet| deliver(6, &table[..3], packet))
-    .chain([deliver(6, &table, &packet("81 24 01 02"))])
-    .collect()
+    ] {
+        lines.push(deliver(6, &group, &packet));
+    }
+    // A leader that doesn't hear, behind a member that does.
+    let deaf = [
+        leader,
+        record(0, 0x81, false, false),
+        record(0, 0x81, true, false),
+    ];
+    lines.push(deliver(6, &deaf, &packet("81 24 01 02")));
+    lines
 }
 
+/// Both leaders act, and so does a member; no room is asked for.
 fn collisions() -> Vec<String> {
     let leaders = [
         record(1, 0x80, true, true),
         record(2, 0x80, true, true),
         record(3, 0x80, false, true),
     ];
-    [
-        packet("80 26 07 00"),
-        damaged("80 26 07 00"),
-        packet("80 12 FF"),
-        packet("80 0F"),
-        packet("80 21 05 80"),
+    vec![
+        deliver(0, &leaders, &packet("80 26 07 00")),
+        deliver(0x13, &leaders[..2], &damaged("80 26 07 00")),
+        deliver(0x13, &leaders[..2], &packet("80 12 FF")),
+        deliver(0, &leaders, &packet("80 0F")),
+        deliver(0, &leaders[..2], &packet("80 21 05 80")),
     ]
-    .iter()
-    .flat_map(|packet| {
-        [
-            deliver(0, &leaders, packet),
-            deliver(0x13, &leaders[..2], packet),
-        ]
-    })
-    .collect()
 }
 
 fn resets() -> Vec<String> {
     let leader = showing(0x3F, record(1, 0x80, true, true));
     let table = [leader, record(2, 0x80, false, true), addressed(3)];
-    [
-        packet("01 0F"),
-        packet("80 0F"),
-        damaged("01 0F"),
-        packet("01 1F 00"),
+    vec![
+        deliver(0x13, &table[..2], &packet("01 0F")),
+        deliver(0x13, &table, &packet("80 0F")),
+        deliver(0x13, &table[..2], &damaged("01 0F")),
+        deliver(0x13, &table[..2], &packet("01 1F 00")),
     ]
-    .iter()
-    .map(|packet| deliver(0x13, &table, packet))
-    .collect()
 }

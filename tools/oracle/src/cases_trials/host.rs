@@ -264,8 +264,6 @@ pub fn handed_in_cases() -> Vec<Case> {
     let probes = "37; 31 06; 32 04; 33 04 01 80 0E; 35 00 00; 36; 37";
     let mut closed = session(2, 2, waits(Target::Node(1), Command::SetOutputs(7)));
     closed.open = false;
-    let mut asking = session(2, 1, waits(Target::Node(2), Command::Nop));
-    asking.entries[1].known = 0x3E;
     vec![
         handed("handed in: closed with an exchange", &closed, probes),
         handed(
@@ -298,7 +296,6 @@ pub fn handed_in_cases() -> Vec<Case> {
             &session(3, 1, waits(Target::Node(3), set_address)),
             "35 00 00; 37; 31 06; 36; 32 04; 35 00 00; 37",
         ),
-        handed("handed in: an ask", &asking, "35 00 00; 37; 31 06"),
         handed(
             "handed in: a Hard Reset that waits, confirmed",
             &session(2, 2, waits(Target::Node(2), Command::HardReset)),

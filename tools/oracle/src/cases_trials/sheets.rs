@@ -1,10 +1,9 @@
 //! Hand-written cases for sheets, `40` to `43`.
 
 use super::own;
-use crate::case::{bytes, damaged, list, packet, Case};
+use crate::case::{bytes, damaged, list, of_count, packet, Case};
 use crate::hex;
 use crate::layout;
-use crate::packet::whole;
 use crate::trials::sheets::{MOST_LONG_LIST, MOST_LONG_ROOM, MOST_LONG_SHEET, MOST_ROOM};
 
 /// The shortest line of a sheet, 8 bytes with its newline: 8192 of them are
@@ -271,10 +270,7 @@ const PACKETS: [&str; 10] = [
 
 /// A list with a packet of each of these counts.
 fn counted(counts: std::ops::Range<u8>) -> Vec<u8> {
-    let data = |count| (1..=count).collect::<Vec<u8>>();
-    counts
-        .flat_map(|count| whole(0x01, 0x3, &data(count)))
-        .collect()
+    counts.flat_map(of_count).collect()
 }
 
 /// All 16 counts.

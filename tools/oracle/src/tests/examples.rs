@@ -1,35 +1,72 @@
-//! The examples of document 01, one by one, against what it says of them.
+//! The examples of document 01 and of request 2, one by one, against what is
+//! said of them.
 
 use super::{answers, last_answer};
 use crate::bench;
 use crate::cases_bench::DOCUMENT_EXAMPLE;
+use crate::command::Command;
+use crate::hex;
+use crate::layout;
+use crate::node::{BenchValues, Node};
 use crate::record::{Entry, Setting};
 use crate::rules::Rules;
 use crate::session::{Outcome, Session};
 use crate::target::Target;
 
-use crate::command::Command;
-
 #[test]
 fn packets_read() {
     for (line, answer) in [
-        ("11 AA 01 0E 0F", "00 01 0E"),
-        ("11 AA 00 21 01 FF 21", "00 00 01 01 FF"),
-        ("11 AA 01 13 04 18", "00 01 03 04"),
-        ("11 AA 02 26 05 00 2D", "00 02 06 05 00"),
-        ("11 AA 80 05 85", "00 80 05"),
-        ("11 AA 03 21 03 01 28", "00 03 01 03 01"),
+        ("11 AA 01 0E 0F", "00 04 01 0E"),
+        ("11 AA 00 21 01 FF 21", "00 06 00 01 01 FF"),
+        ("11 AA 01 13 04 18", "00 05 01 03 04"),
+        ("11 AA 02 26 05 00 2D", "00 06 02 06 05 00"),
+        ("11 AA 80 05 85", "00 04 80 05"),
+        ("11 AA 03 21 03 01 28", "00 06 03 01 03 01"),
         ("11 AA 01 0E 10", "04"),
         ("11 AA 01 13 04", "01"),
-        ("11 AA 01 0E 0F 00", "03"),
         ("11 01 0E 0F", "02"),
         (
             "11 AA 00 F0 00 00 00 00 00 00 00 00 00 00 00 00 00 00 00 F0",
-            "00 00 00 00 00 00 00 00 00 00 00 00 00 00 00 00 00 00",
+            "00 13 00 00 00 00 00 00 00 00 00 00 00 00 00 00 00 00 00",
         ),
     ] {
         assert_eq!(last_answer(&[line]), answer, "{line}");
     }
+}
+
+/// Request 2: "The example AA 01 0E 0F 00 becomes: read, ends at 4."
+#[test]
+fn packets_read_with_bytes_behind() {
+    for (line, answer) in [
+        ("11 AA 01 0E 0F 00", "00 04 01 0E"),
+        ("11 AA 01 0E 0F AA 02 26 05 00 2D", "00 04 01 0E"),
+        ("11 AA 02 26 05 00 2D AA 01", "00 06 02 06 05 00"),
+        ("11 AA 01 0E 10 00", "04"),
+        ("11 AA 01 13 04 00", "04"),
+        ("11 01 0E 0F AA 01 0E 0F", "02"),
+        ("11 AA 01 F3 AA 01 0E 0F", "01"),
+    ] {
+        assert_eq!(last_answer(&[line]), answer, "{line}");
+    }
+}
+
+/// "The chain and bench program then refuse left-over bytes with 3 themselves",
+/// also behind a wrong sum, and nothing changes.
+#[test]
+fn left_over_bytes_are_refused() {
+    let node = hex::format(&layout::node(&Node::powered_up(BenchValues::ZERO)));
+    for (packet, answer) in [
+        ("AA 00 21 01 FF 21 00", "03 00 55 55"),
+        ("AA 00 21 01 FF 22 00", "03 00 55 55"),
+        ("AA 00 21 01 FF 21 AA 00 0E 0E", "03 00 55 55"),
+        ("AB 00 21 01 FF 21 00", "02 00 55 55"),
+    ] {
+        let line = format!("20 02 01 {node} {packet}");
+        assert_eq!(last_answer(&[&line]), format!("{answer} {node}"));
+    }
+    let input = b"1\nAA 00 21 01 FF 21\nAA 01 0E 0F 00\nAA 01 0E 10 00\n";
+    let output = bench::run(Rules::RIGHT, input);
+    assert_eq!(output, "00 00\nrefused 3\nrefused 3\n");
 }
 
 #[test]

@@ -1,10 +1,12 @@
 //! Every seeded mistake is noticed, and README.md says where.
 
+use std::collections::BTreeSet;
+
 use super::fingerprint;
 use crate::cases::{self, line_names};
 use crate::cases_sheets::{self, further_exports, further_imports, further_plays, Named};
 use crate::rules::{Mistake, Rules, ALL};
-use crate::{bench, cases_bench, cases_trials, demand3, edges, export, import, play, trials};
+use crate::{bench, cases_bench, cases_trials, demand3, edges, export, hex, import, play, trials};
 
 /// The seed and the steps of demand 3 that each mistake is tried on.
 const DEMAND3: (u64, usize) = (1, 12_000);
@@ -41,6 +43,17 @@ impl Tried {
 
     fn differences(&self, rules: Rules) -> Option<(usize, String)> {
         differences(&self.right, &(self.run)(rules, &self.input), &self.names)
+    }
+
+    /// The first two characters of the lines whose answers differ.
+    fn kinds_differing(&self, rules: Rules) -> BTreeSet<String> {
+        let wrong = (self.run)(rules, &self.input);
+        let answers = self.right.lines().zip(wrong.lines());
+        let lines = hex::lines(&self.input).into_iter().zip(answers);
+        lines
+            .filter(|(_, (right, wrong))| right != wrong)
+            .map(|(line, _)| String::from_utf8_lossy(&line[..2]).into_owned())
+            .collect()
     }
 }
 
@@ -158,6 +171,47 @@ fn every_mistake_is_noticed() {
         readme.contains(&table),
         "README.md's table is now:\n{table}"
     );
+}
+
+/// What is wrong about a packet's end: in reading, and at the chain.
+const ABOUT_ENDS: [Mistake; 10] = [
+    Mistake::ReadingGives3,
+    Mistake::DamagedGives3,
+    Mistake::LongReadingGives3,
+    Mistake::HeaderMustFollow,
+    Mistake::EndIsLength,
+    Mistake::EndLeavesSum,
+    Mistake::EndLeavesData,
+    Mistake::SumSoughtLast,
+    Mistake::SumPastEnd,
+    Mistake::DataToLast,
+];
+const ABOUT_LEFT_OVER: [Mistake; 7] = [
+    Mistake::LeftOverTaken,
+    Mistake::LeftOverPacketTaken,
+    Mistake::SumBeforeLeftOver,
+    Mistake::ShortGives3,
+    Mistake::LeftOverBeforeHeader,
+    Mistake::LeftOverBeforeTable,
+    Mistake::RoomBeforeLeftOver,
+];
+
+/// Each is noticed in its own lines of `trials`, `11` or `20`, and not only
+/// where a list is exported; and only there, but for what an end goes on to.
+#[test]
+fn ends_are_noticed_in_their_own_lines() {
+    let trials = trials_input();
+    for (mistakes, own, others) in [
+        (&ABOUT_ENDS[..], "11", &["41", "43"][..]),
+        (&ABOUT_LEFT_OVER[..], "20", &[]),
+    ] {
+        for mistake in mistakes {
+            let kinds = trials.kinds_differing(Rules::with(*mistake));
+            assert!(kinds.contains(own), "{mistake:?}: {kinds:?}");
+            let known = |kind: &String| kind == own || others.contains(&kind.as_str());
+            assert!(kinds.iter().all(known), "{mistake:?}: {kinds:?}");
+        }
+    }
 }
 
 /// The slips that document 01 rules out by name fail demand 3.

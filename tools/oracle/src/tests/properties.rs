@@ -4,10 +4,10 @@ use crate::chain::{deliver, Delivery};
 use crate::command::{Command, COMMAND_BYTES};
 use crate::demand3;
 use crate::hex;
-use crate::make_packets::{any_command, packet};
+use crate::make_packets::{any_command, followed, packet};
 use crate::make_trials;
 use crate::node::{BenchValues, Node};
-use crate::packet::{build, frame, read};
+use crate::packet::{build, frame, read, Packet};
 use crate::prng::Prng;
 use crate::refusal::Refusal;
 use crate::rules::Rules;
@@ -17,6 +17,12 @@ use crate::trials::Trials;
 
 const RIGHT: Rules = Rules::RIGHT;
 
+/// The parts of a packet that has been read.
+fn parts<'a>(packet: &Packet<'a>) -> (u8, u8, &'a [u8]) {
+    (packet.address, packet.command(), packet.data)
+}
+
+/// Whatever stands behind it: the same parts, and the end is its length.
 #[test]
 fn a_built_packet_reads_back() {
     let mut prng = Prng::new(1);
@@ -26,28 +32,60 @@ fn a_built_packet_reads_back() {
         let data = prng.telling_bytes(count);
         let mut buffer = [0x55; 24];
         let length = build(RIGHT, &mut buffer, address, command, &data).expect("in range");
-        let packet = read(RIGHT, &buffer[..length]).expect("a built packet");
-        assert_eq!((packet.address, packet.command()), (address, command));
-        assert_eq!(packet.data, data);
         assert!(buffer[length..].iter().all(|byte| *byte == 0x55));
+        let built = buffer[..length].to_vec();
+        for bytes in [built.clone(), buffer.to_vec(), followed(&mut prng, built)] {
+            let packet = read(RIGHT, &bytes).expect("a built packet");
+            assert_eq!(parts(&packet), (address, command, &data[..]));
+            assert_eq!(packet.end, length);
+        }
     }
 }
 
+/// "Demand 2's "accepted packet" means the bytes up to that end."
 #[test]
 fn an_accepted_packet_is_the_one_we_would_build() {
     let mut prng = Prng::new(2);
-    let mut accepted = 0;
-    for _ in 0..4000 {
-        let bytes = packet(&mut prng, &[Node::powered_up(BenchValues::ZERO)]);
+    let (mut accepted, mut with_more) = (0, 0);
+    for _ in 0..6000 {
+        let mut bytes = packet(&mut prng, &[Node::powered_up(BenchValues::ZERO)]);
+        if prng.percent(30) {
+            bytes = followed(&mut prng, bytes);
+        }
         if let Ok(packet) = read(RIGHT, &bytes) {
-            let mut buffer = vec![0; bytes.len()];
-            let (address, command) = (packet.address, packet.command());
-            build(RIGHT, &mut buffer, address, command, packet.data).expect("its own parts");
-            assert_eq!(buffer, bytes);
+            let (address, command, data) = parts(&packet);
+            let mut buffer = vec![0; packet.end];
+            let length = build(RIGHT, &mut buffer, address, command, data);
+            assert_eq!(length, Ok(packet.end));
+            assert_eq!(buffer, bytes[..packet.end]);
             accepted += 1;
+            with_more += usize::from(packet.end < bytes.len());
         }
     }
-    assert!(accepted > 2000);
+    assert!(accepted > 3000 && with_more > 1000);
+}
+
+/// What is read, and the number otherwise, hang on the bytes up to the end
+/// alone; never 3. The chain gives 3 exactly where bytes are left over behind a
+/// packet, its sum right or not.
+#[test]
+fn left_over_bytes_are_the_chains() {
+    let mut prng = Prng::new(5);
+    let mut left_over = 0;
+    for _ in 0..6000 {
+        let mut nodes = [Node::powered_up(BenchValues::ZERO)];
+        let start = packet(&mut prng, &nodes);
+        let bytes = followed(&mut prng, start);
+        let framed = frame(RIGHT, &bytes);
+        let own = framed.map_or(&bytes[..], |packet| &bytes[..packet.end]);
+        assert_eq!(read(RIGHT, &bytes), read(RIGHT, own));
+        assert_ne!(read(RIGHT, &bytes).err(), Some(Refusal::TooLong));
+        let delivered = deliver(RIGHT, &mut nodes, &bytes, &mut [0; 19]);
+        let is_left_over = own.len() < bytes.len();
+        assert_eq!(delivered == Err(Refusal::TooLong), is_left_over);
+        left_over += usize::from(is_left_over);
+    }
+    assert!(left_over > 3000);
 }
 
 #[test]
@@ -147,7 +185,7 @@ fn numbers_keep_to_their_calls() {
             let number = hex::parse(RIGHT, answer.as_bytes()).expect("a line of bytes")[0];
             let own: &[u8] = match call.first() {
                 Some(0x10) => &[0, 5, 6],
-                Some(0x11) => &[0, 1, 2, 3, 4],
+                Some(0x11) => &[0, 1, 2, 4],
                 Some(0x12) => &[0, 1, 3, 4],
                 Some(0x20) => &[0, 1, 2, 3, 5, 6, 13],
                 Some(0x30) => &[0, 6],

@@ -8,7 +8,7 @@ use crate::make_sheets::{
     packet, sheet, sheet_of_length,
 };
 use crate::prng::Prng;
-use crate::refusal::Refusal;
+use crate::refusal::{number_of, Refusal};
 use crate::rules::Rules;
 use crate::sheet::{export, import, packets, sheet_of, Fault, Refused, MOST_SHEET};
 use crate::trials::Trials;
@@ -263,6 +263,37 @@ fn the_first_packet_that_does_not_read() {
         [seen[1], seen[2], seen[4]].iter().all(|count| *count > 300),
         "{seen:?}"
     );
+}
+
+/// The number that a walk by the ends of line `11` stops with: 0 at the list's
+/// end.
+fn walked(trials: &mut Trials, list: &[u8]) -> u8 {
+    let mut start = 0;
+    while start < list.len() {
+        let answer = trials.try_bytes(&[&[0x11], &list[start..]].concat());
+        match answer.as_deref() {
+            Some([0, end, ..]) => start += usize::from(*end),
+            Some([number]) => return *number,
+            other => panic!("no answer to a line 11: {other:?}"),
+        }
+    }
+    0
+}
+
+/// Walking a list by the ends reaches its end exactly where export accepts it,
+/// and stops with export's number otherwise.
+#[test]
+fn export_walks_by_the_ends() {
+    let mut prng = Prng::new(10);
+    let mut trials = Trials::new(RIGHT);
+    for round in 0..3000 {
+        let list = match round % 2 {
+            0 => list(&mut prng, 12),
+            _ => misread_list(&mut prng, 12),
+        };
+        let exported = number_of(&export(RIGHT, &list, &mut [LENT; 24 * 55]));
+        assert_eq!(walked(&mut trials, &list), exported, "{list:02X?}");
+    }
 }
 
 #[test]

@@ -1,8 +1,10 @@
 //! The stored cases and the generators: size, coverage, stability.
 
+use std::collections::HashSet;
+
 use super::fingerprint;
 use crate::case;
-use crate::cases::{self, MOST_STORED};
+use crate::cases::{self, LEFT_FREE, MOST_STORED};
 use crate::cases_bench::further_inputs;
 use crate::command::COMMAND_BYTES;
 use crate::coverage::{answerable, Coverage};
@@ -16,7 +18,7 @@ use crate::{cases_sheets, layout, make_bench, make_play, make_sheets, make_trial
 fn the_stored_inputs_fit() {
     let further: usize = further_inputs().iter().map(|(_, input)| input.len()).sum();
     assert!(cases::bench().len() + further <= MOST_STORED);
-    assert!(cases::trials().len() <= MOST_STORED);
+    assert!(cases::trials().len() + LEFT_FREE <= MOST_STORED);
 }
 
 #[test]
@@ -35,6 +37,7 @@ fn the_stored_trials_input_covers() {
         let count = coverage.numbers[usize::from(number)];
         assert!(count >= 5, "number {number}: {count}");
     }
+    assert!(coverage.followed >= 25);
     assert_all_commands(&coverage);
 }
 
@@ -51,6 +54,7 @@ fn assert_all_commands(coverage: &Coverage) {
 #[test]
 fn made_inputs_cover_and_fit() {
     let mut numbers = [0; 256];
+    let mut followed = 0;
     for seed in 0..20 {
         let input = make_trials::make(seed, 5000);
         assert!(input.len() <= MOST_INPUT);
@@ -58,12 +62,14 @@ fn made_inputs_cover_and_fit() {
         for (sum, count) in numbers.iter_mut().zip(coverage.numbers) {
             *sum += count;
         }
+        followed += coverage.followed;
         assert!(make_bench::make(seed, 9000).len() <= MOST_INPUT);
     }
     for number in answerable() {
         let count = numbers[usize::from(number)];
         assert!(count >= 40, "number {number}: {count}");
     }
+    assert!(followed >= 400, "{followed} packets with bytes behind");
 }
 
 /// Most lines of a made input are the host's calls, whatever else it tries.
@@ -94,13 +100,13 @@ fn made_inputs_are_stable() {
         fingerprint(&cases_sheets::play()),
     ];
     let expected = [
-        0xAE94_4990_69F4_38FE,
-        0xC42E_C7D2_4871_AEBB,
+        0x3E1C_381E_B7F6_FFEC,
+        0xA047_3B48_E9AB_83A5,
         0xDF8F_A4B1_9618_979E,
         0x0EED_5718_76AB_3719,
-        0xAC5C_F32A_EF54_E2A0,
-        0xFBDD_5CCB_C99E_36CA,
-        0x5CED_BA5F_45CB_76EF,
+        0xB202_D76B_1410_CCCC,
+        0x5EF9_F4DE_D119_2409,
+        0xDAAA_95ED_40E7_A1A9,
         0xE8E1_26BD_0890_90B0,
         0x96CB_430D_A3BA_0619,
         0xC638_55EC_D4C2_B67A,
@@ -111,13 +117,13 @@ fn made_inputs_are_stable() {
 /// The packets that are wrong in print: where, and what reading gives.
 const MISPRINTS: [(&str, &str, &str); 5] = [
     ("000", "Commands, Examples: Set address", "4"),
-    ("000", "Managing Two Servo-Drives, #10", "3"),
-    ("000", "Managing Two Servo-Drives, #11", "3"),
+    ("000", "Managing Two Servo-Drives, #10", "4"),
+    ("000", "Managing Two Servo-Drives, #11", "4"),
     ("002", "Commands, Examples: Set address", "4"),
     ("004", "Missing motor detecting example, step 3", "4"),
 ];
 
-/// Five packets are wrong in print, and all others read.
+/// Five packets are wrong in print, and all others read, to their last byte.
 #[test]
 fn the_manuals_misprint_five_packets() {
     let wrong = PRINTED.iter().filter(|printed| printed.wrong.is_some());
@@ -134,14 +140,15 @@ fn the_manuals_misprint_five_packets() {
         found,
         MISPRINTS.map(|(document, place, number)| (document, place, number.to_string()))
     );
-    let readings = PRINTED
-        .iter()
-        .map(|printed| manuals::reading(printed.bytes));
-    let read = readings.filter(|reading| reading.starts_with("address"));
+    let read = PRINTED.iter().filter(|printed| {
+        let end = case::bytes(printed.bytes).len();
+        manuals::reading(printed.bytes).ends_with(&format!(", ends at {end}"))
+    });
     assert_eq!(read.count() + MISPRINTS.len(), PRINTED.len());
 }
 
-/// Every packet that the manuals print is in the list, and in a stored case.
+/// Every packet that the manuals print is in the list, and in a stored case of
+/// bench and trials.
 #[test]
 fn the_manuals_packets_are_counted() {
     let count = |document| {
@@ -154,6 +161,12 @@ fn the_manuals_packets_are_counted() {
     let cases = case::manual_cases("");
     let lines: usize = cases.iter().map(|case| case.lines.len()).sum();
     assert_eq!(lines, PRINTED.len());
+    let stored = cases::trials();
+    let stored: HashSet<&[u8]> = hex::lines(&stored).into_iter().collect();
+    for printed in PRINTED {
+        let line = format!("11 {}", printed.bytes);
+        assert!(stored.contains(line.as_bytes()), "{line}");
+    }
 }
 
 /// Each status packet that the manuals print reads under its mask.

@@ -28,6 +28,8 @@ in-range refusal.NoNode = refl
 in-range refusal.Led = refl
 in-range refusal.Closed = refl
 in-range refusal.Line = refl
+in-range refusal.Uneven = refl
+in-range refusal.Backward = refl
 
 -- each of its tests holds
 module _ (n : ℕ) (h : refuses n ≡ true) where

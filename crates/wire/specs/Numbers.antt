@@ -22,6 +22,8 @@ numberOf refusal.NoNode = 10
 numberOf refusal.Led = 11
 numberOf refusal.Closed = 12
 numberOf refusal.Line = 14
+numberOf refusal.Uneven = 15
+numberOf refusal.Backward = 16
 
 -- "several nodes replied (not a refusal)"
 abbrev pub collision : ℕ

@@ -31,6 +31,10 @@ pub enum Refusal {
     Closed,
     // A sheet's line is not of its form or count.
     Line,
+    // A recording's times and bytes differ in number.
+    Uneven,
+    // A time is less than the one before in its capture.
+    Backward,
 }
 
 // A call that is done.
@@ -64,6 +68,8 @@ impl Refusal {
             Refusal::Led => 11,
             Refusal::Closed => 12,
             Refusal::Line => 14,
+            Refusal::Uneven => 15,
+            Refusal::Backward => 16,
         }
     }
 }

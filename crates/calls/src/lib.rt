@@ -1,0 +1,221 @@
+// The host's calls that send, as one type: made, and found again by the bytes that they put on the line.
+// Promised: a call that is made is the one of walk or host; the call found for some bytes gives them in that session with number 0, and where none is found none does.
+// Left to others: what each call does (walk, host), and which bytes came after which (recording).
+use command::Command;
+use command::Reading;
+use command::Role;
+use packet::Framed;
+use session::End;
+use session::Session;
+use session::Step;
+use wire::Address;
+use wire::Group;
+use wire::Individual;
+use wire::Refusal;
+ghost use mathlib.Core.Path.{_≡_};
+ghost use Rattle.wire.specs.Promise.{Promise, Lending};
+ghost use Rattle.session.specs.Session.{stepNumber};
+ghost use Rattle.calls.specs.Calls.{callPerform};
+ghost use Rattle.calls.specs.Understanding.{spokenNumber, spokenTo, understandOf};
+ghost use Rattle.calls.specs.Finding.{isSame, missedOf, tryCall, earlyCall, lateCall, seekOf, findOf};
+
+// A call that sends, with its arguments.
+pub enum Call {
+    Next,
+    Ask,
+    Order {
+        to: Address,
+        command: Command,
+    },
+    Regroup {
+        node: Individual,
+        group: Group,
+        leader: bool,
+    },
+}
+
+impl Call {
+    // Makes the call: what `walk` or `host` makes of it.
+    pub fn perform(self, s: Session, out: &mut [u8]) -> Step
+        ensures { λ r. ⌜ Lending stepNumber r (now (out .exit)) (callPerform self s (now (out .entry))) ⌝ }
+    {
+        match self {
+            Call::Next => walk::next(s, out),
+            Call::Ask => walk::ask(s, out),
+            Call::Order { to, command } => host::order(s, to, command, out),
+            Call::Regroup {
+                node,
+                group,
+                leader,
+            } => host::regroup(s, node, group, leader, out),
+        }
+    }
+}
+
+// What some bytes of the command line say, all of them: a command to an address; a packet of another command; or why they are no packet, 3 for bytes left over.
+pub enum Spoken {
+    Command { to: Address, command: Command },
+    Other,
+    Refused(Refusal),
+}
+
+impl Spoken {
+    // The paper's number.
+    pub fn number(self) -> u8
+        ensures { λ r. ⌜ r ≡ spokenNumber self ⌝ }
+    {
+        match self {
+            Spoken::Command { to: _, command: _ } => wire::DONE,
+            Spoken::Other => wire::DONE,
+            Spoken::Refused(why) => why.number(),
+        }
+    }
+}
+
+// Whose bytes some are: those of a call, or of none.
+pub enum Source {
+    Found(Call),
+    Missing,
+}
+
+// The call that gives some bytes and the session after it; where none does, the session as it was handed in.
+pub struct Sought {
+    pub source: Source,
+    pub session: Session,
+}
+
+// What the command of a packet to an address says.
+fn spoken_to(to: Address, reading: Reading) -> Spoken
+    ensures { λ r. ⌜ r ≡ spokenTo to reading ⌝ }
+{
+    match reading {
+        Reading::Known(command) => Spoken::Command { to, command },
+        Reading::Other => Spoken::Other,
+    }
+}
+
+// What the bytes between two gaps say: 1, 2, 1, 4 as reading has them, then 3.
+pub fn understand(bytes: &[u8]) -> Spoken
+    ensures { λ r. ⌜ Promise spokenNumber r (understandOf (now (bytes .entry))) ⌝ }
+{
+    match packet::read(bytes) {
+        Framed::Whole {
+            address,
+            command,
+            end,
+        } => {
+            if end < bytes.len() {
+                return Spoken::Refused(Refusal::Long);
+            }
+            spoken_to(address, command::read(command, packet::data_part(bytes)))
+        }
+        Framed::Refused(why) => Spoken::Refused(why),
+    }
+}
+
+// Whether two runs of bytes are the same.
+fn is_same(a: &[u8], b: &[u8]) -> bool
+    ensures { λ r. ⌜ r ≡ isSame (now (a .entry)) (now (b .entry)) ⌝ }
+{
+    if a.len() != b.len() {
+        return false;
+    }
+    let mut i = 0;
+    while i < a.len() {
+        if a[i] != b[i] {
+            return false;
+        }
+        i += 1;
+    }
+    true
+}
+
+// None gives these bytes.
+fn missed(s: Session) -> Sought
+    ensures { λ r. ⌜ r ≡ missedOf s ⌝ }
+{
+    Sought {
+        source: Source::Missing,
+        session: s,
+    }
+}
+
+// Whether a call, made in this session, gives these bytes. The longest packet has 19.
+fn try_call(s: Session, call: Call, bytes: &[u8]) -> Sought
+    ensures { λ r. ⌜ r ≡ tryCall s call (now (bytes .entry)) ⌝ }
+{
+    let mut out = [0; 19];
+    let step = call.perform(s, &mut out);
+    let end = step.end;
+    let session = step.session;
+    match end {
+        End::Sent(n) => {
+            if is_same(text::first(&out, n), bytes) {
+                return Sought {
+                    source: Source::Found(call),
+                    session,
+                };
+            }
+            missed(s)
+        }
+        End::Done => missed(s),
+        End::Refused(_) => missed(s),
+    }
+}
+
+// The call of the walk that sends such a command.
+fn early_call(c: Command) -> Call
+    ensures { λ r. ⌜ r ≡ earlyCall c ⌝ }
+{
+    if c.role().is_placing() {
+        return Call::Next;
+    }
+    Call::Ask
+}
+
+// The call of a ready session that sends this command to an address.
+fn late_call(to: Address, c: Command) -> Call
+    ensures { λ r. ⌜ r ≡ lateCall to c ⌝ }
+{
+    match c.role() {
+        Role::Places(place) => {
+            let node = place.address;
+            let group = place.group;
+            Call::Regroup {
+                node,
+                group,
+                leader: place.leader,
+            }
+        }
+        Role::Plain => Call::Order { to, command: c },
+        Role::Masks(_) => Call::Order { to, command: c },
+        Role::Captures => Call::Order { to, command: c },
+        Role::Idles => Call::Order { to, command: c },
+        Role::Resets => Call::Order { to, command: c },
+    }
+}
+
+// The first of two calls that gives these bytes.
+fn seek(s: Session, early: Call, late: Call, bytes: &[u8]) -> Sought
+    ensures { λ r. ⌜ r ≡ seekOf s early late (now (bytes .entry)) ⌝ }
+{
+    let sought = try_call(s, early, bytes);
+    let source = sought.source;
+    match source {
+        Source::Found(_) => sought,
+        Source::Missing => try_call(s, late, bytes),
+    }
+}
+
+// The call that gives these bytes in this session: a host in it could have sent them, or could not.
+pub fn find(s: Session, bytes: &[u8]) -> Sought
+    ensures { λ r. ⌜ r ≡ findOf s (now (bytes .entry)) ⌝ }
+{
+    match understand(bytes) {
+        Spoken::Command { to, command } => {
+            seek(s, early_call(command), late_call(to, command), bytes)
+        }
+        Spoken::Other => missed(s),
+        Spoken::Refused(_) => missed(s),
+    }
+}

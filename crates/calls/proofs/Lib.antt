@@ -1,2 +1,4 @@
 mod Same
 mod Sorting
+pub mod Finding
+pub mod Unique

@@ -1,0 +1,3 @@
+mod Exits
+mod Stepping
+pub mod Unique

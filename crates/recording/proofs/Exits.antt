@@ -69,7 +69,7 @@ module _ (s : Session) (p : List ℕ) (next : Cursor) (q : Session) (x : Sought)
   unfolding takeCommand
   took-call k f g = rw (← e, ← h, f) g
 
-  pub took-none : x .source ≡ Missing → m ≡ moveTo event.Foreign next true (x .session) → m ≡ takeCommand s p next
+  pub took-none : x .source ≡ Missing → m ≡ moveTo event.Foreign next true q → m ≡ takeCommand s p next
   unfolding takeCommand
   took-none f g = rw (← e, ← h, f) g
 

@@ -44,11 +44,11 @@ abbrev DoneBy : List ℕ → List ℕ → List ℕ → List ℕ → Session → 
 DoneBy cs cts rs rts s at m = Done cs cts rs rts s at (m .stage) (m .event)
 
 module _ (cs cts rs rts : List ℕ) (s : Session) (at : Cursor) (h : length cts ≡ length cs) (k : length rts ≡ length rs) where
-  by-source : (x : Source) (next : Cursor) (t : Session) → bytesLeft cts rts next < bytesLeft cts rts at
-      → followOf s (leftAt cs cts rs rts at) ≡ bySource x (followOf t (leftAt cs cts rs rts next)) (record { ending = ending.Foreign; session = t })
-      → DoneBy cs cts rs rts s at (commandBy x next t)
-  by-source (Found c) next t l e = record { less = l; on = refl; same = e }
-  by-source Missing next t l e = e
+  by-source : (x : Source) (next : Cursor) (q t : Session) → bytesLeft cts rts next < bytesLeft cts rts at
+      → followOf s (leftAt cs cts rs rts at) ≡ bySource x (followOf t (leftAt cs cts rs rts next)) (record { ending = ending.Foreign; session = q })
+      → DoneBy cs cts rs rts s at (commandBy x next q t)
+  by-source (Found c) next q t l e = record { less = l; on = refl; same = e }
+  by-source Missing next q t l e = e
 
   by-reply : (x : End) (next : Cursor) (t : Session) → bytesLeft cts rts next < bytesLeft cts rts at
       → followOf s (leftAt cs cts rs rts at) ≡ followOf t (leftAt cs cts rs rts next) → DoneBy cs cts rs rts s at (replyBy x next t)
@@ -59,7 +59,7 @@ module _ (cs cts rs rts : List ℕ) (s : Session) (at : Cursor) (h : length cts 
   by-step : (x : Stepped) → x ≡ captureStep cts rts at → DoneBy cs cts rs rts s at (advanceBy cs cts rs rts at s x)
   unfolding takeCommand takeReply takeEnd
   by-step (stepped.FromCommand next) e =
-      by-source (findOf (quietOf s) (packetFrom cs cts (at .command) .bytes) .source) next _ (down-command cts rts at (stepped.FromCommand next) next e refl)
+      by-source (findOf (quietOf s) (packetFrom cs cts (at .command) .bytes) .source) next _ _ (down-command cts rts at (stepped.FromCommand next) next e refl)
       (ap (followOf s) (shows-command cs cts rs rts at (stepped.FromCommand next) h k next e refl))
   by-step (stepped.FromReply next) e =
       by-reply (reportOf s (packetFrom rs rts (at .reply) .bytes) .end) next _ (down-reply cts rts at (stepped.FromReply next) next e refl)

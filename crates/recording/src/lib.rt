@@ -149,11 +149,12 @@ fn move_to(event: Event, at: Cursor, over: bool, session: Session) -> Moved
 fn take_command(s: Session, bytes: &[u8], next: Cursor) -> Moved
     ensures { λ r. ⌜ r ≡ takeCommand s (now (bytes .entry)) next ⌝ }
 {
-    let sought = calls::find(quiet(s), bytes);
+    let before = quiet(s);
+    let sought = calls::find(before, bytes);
     let source = sought.source;
     match source {
         Source::Found(call) => move_to(Event::Sent(call), next, false, sought.session),
-        Source::Missing => move_to(Event::Foreign, next, true, sought.session),
+        Source::Missing => move_to(Event::Foreign, next, true, before),
     }
 }
 

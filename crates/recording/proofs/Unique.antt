@@ -1,15 +1,11 @@
 -- A second result that meets a contract is equal to the first, for each public function.
 use mathlib.Core.Path.{_≡_, sym, _∙_}
 use Rattle.wire.proofs.OneResult.{OneResult}
-use Rattle.recording.proofs.Begun.number.Reads as begun-number
 use Rattle.recording.proofs.Ending.number.Reads as ending-number
 use Rattle.recording.proofs.check.Reads as check
 use Rattle.recording.proofs.begin.Reads as begin
 use Rattle.recording.proofs.advance.Reads as advance
 use Rattle.recording.proofs.replay.Reads as replay
-
-pub begun-number-unique : OneResult begun-number.Post
-begun-number-unique κs a r r′ s s′ p q = p ∙ sym q
 
 pub ending-number-unique : OneResult ending-number.Post
 ending-number-unique κs a r r′ s s′ p q = p ∙ sym q

@@ -44,20 +44,10 @@ pub struct Moved {
     pub stage: Stage,
 }
 
-// The first stage of a walk; of a refused recording, one that is over.
+// What the checks find, with their number, and the first stage of a walk; of a refused recording, one that is over.
 pub struct Begun {
     pub checked: Checked,
     pub stage: Stage,
-}
-
-impl Begun {
-    // The paper's number.
-    pub fn number(self) -> u8
-        ensures { λ r. ⌜ r ≡ begunNumber self ⌝ }
-    {
-        let checked = self.checked;
-        checked.number()
-    }
 }
 
 // How a whole walk ended.

@@ -26,8 +26,10 @@ use Rattle.start.proofs.Starting.{power-up-stays}
 use Rattle.reports.specs.Report.{concludeOf, finishOf}
 use Rattle.survey.specs.Chain.{Said, silence, reply, collided}
 use Rattle.reports.proofs.Validity.{finished-stays, report-stays}
+use Rattle.calls.specs.declared.Call.{Call}
+use Rattle.calls.specs.Calls.{callPerform, TypedCall}
 use Rattle.line.specs.History.{Sending, Sent, counted}
-use Rattle.line.specs.Call.{Call, callOutcome, whatOf, resets, TypedCall}
+use Rattle.line.specs.Call.{whatOf, resets}
 use Rattle.line.specs.Line.{Line, quiet, going, coming, lingering, Arrival, nowhere, Arrives, lost, Nothing, absent, Returns, quietly, mixed, nodesAfter, saidAfter, reportedOf, answerIn}
 use Rattle.line.specs.Line as line
 use Rattle.line.specs.World.{World, hosting, callEnded, callMade, Comes, start, power, unpowered, call, deliver, report, hurry, delay, stray, bench}
@@ -223,22 +225,22 @@ not-up true u e = absurd (false≢true e)
 not-up false u e = (refl, e)
 
 call-holds : (w : World) → Upholds w → (k : Call) → TypedCall k → (out : List ℕ) → Upholds (callMade k out w)
-call-holds w holds k typed out = go (callOutcome k (w .host) out .answer .end) refl
+call-holds w holds k typed out = go (callPerform k (w .host) out .answer .end) refl
   where
     t : Session
-    t = callOutcome k (w .host) out .answer .session
+    t = callPerform k (w .host) out .answer .session
 
     stands : t ≡ w .host → Upholds (hosting t w)
     stands e up = rw e (holds up)
 
-    go : (e : End) → callOutcome k (w .host) out .answer .end ≡ e → Upholds (callEnded e k t (callOutcome k (w .host) out .left) w)
+    go : (e : End) → callPerform k (w .host) out .answer .end ≡ e → Upholds (callEnded e k t (callPerform k (w .host) out .left) w)
     go (ends.Sent n) e up =
         let u = not-up (resets k) (w .up) up in
         let a = call-sends k typed (u .0) (w .host) out n e in
         let s = when-idle (w .host) (w .nodes) (w .past) (w .line) (holds (u .1)) (a .free .idle) in
-        call-goes (w .host) t (w .nodes) (w .past) k (take n (callOutcome k (w .host) out .left)) s a
+        call-goes (w .host) t (w .nodes) (w .past) k (take n (callPerform k (w .host) out .left)) s a
     go ends.Done e up = absurd (call-not-done k (w .host) out e)
-    go (ends.Refused why) e up = stands (call-stays k (w .host) out (refused-not-done (callOutcome k (w .host) out .answer) why e)) up
+    go (ends.Refused why) e up = stands (call-stays k (w .host) out (refused-not-done (callPerform k (w .host) out .answer) why e)) up
 
 pub holds : {w : World} → Comes w → Upholds w
 holds (start ns) up = absurd (false≢true up)

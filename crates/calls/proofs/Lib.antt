@@ -1,2 +1,3 @@
+pub mod Standing
 mod Same
 mod Sorting

@@ -1,3 +1,5 @@
 pub mod Standing
 mod Same
 mod Sorting
+pub mod Finding
+pub mod Unique

@@ -1,12 +1,11 @@
 -- What may be sent while a session is open: the address that is called, whose record it is, and the command.
 use Prim.Native.Nat.{ℕ, _+_, _<_}
-use mathlib.Core.Bool.{Bool, true, false, true≢false}
+use mathlib.Core.Bool.{Bool, true, false}
 use mathlib.Core.List.{List, _++_}
 use mathlib.Core.Path.{_≡_, refl, sym, ap, _∙_}
 use native.Mathlib.Omega.{arith}
 use lib.ListN.{length, take, drop}
 use lib.Seq.{take-append-seam}
-use Rattle.wire.specs.Numbers.{done}
 use Rattle.wire.specs.Promise.{Outcome}
 use Rattle.wire.specs.Address.{inRange}
 use Rattle.wire.specs.declared.address.Individual.{Individual}
@@ -24,10 +23,9 @@ use Rattle.node.proofs.Laws.{place-writes}
 use Rattle.entry.specs.Entry.{knows}
 use Rattle.ledger.specs.Ledger.{isLed}
 use Rattle.session.specs.declared.Session.{Session}
-use Rattle.session.specs.declared.End.{End}
-use Rattle.session.specs.declared.End.the-variants.{Done, Sent}
+use Rattle.session.specs.declared.End.the-variants.{Sent}
 use Rattle.session.specs.declared.Step.{Step}
-use Rattle.session.specs.Session.{offChain, entryOf, nodeAt, endNumber, stepNumber, givenPlace}
+use Rattle.session.specs.Session.{offChain, entryOf, nodeAt, endNumber, givenPlace}
 use Rattle.sending.specs.Sending.{openExchange}
 use Rattle.session.proofs.Sessions.{OnChain}
 use Rattle.sending.proofs.Passing.{Free}
@@ -36,8 +34,6 @@ use Rattle.host.proofs.Passing.{order-says, regroup-says, wish-free}
 use Rattle.sending.proofs.Sent.{sending, node-fits}
 use Rattle.walk.proofs.Sent.{next-went, ask-went}
 use Rattle.host.proofs.Sent.{to-fits, order-went, regroup-went}
-use Rattle.walk.proofs.Stands.{next-stands, ask-stands}
-use Rattle.host.proofs.Stands.{order-stands, regroup-stands}
 use Rattle.calls.specs.declared.Call.{Call}
 use Rattle.calls.specs.declared.Call.the-variants.{Next, Ask, Order, Regroup}
 use Rattle.calls.specs.Calls.{callPerform, TypedCall}
@@ -143,23 +139,3 @@ call-sends (Regroup i g leader) t o s out n e =
       typed = t;
       goes = goes s _ _ _ out _ n (w .result) e f (rw (f, k .group) refl);
     }
-
--- a call that doesn't send is refused, and leaves the session as it was
-sent-not-done : {e : End} {n : ℕ} → e ≡ Sent n → e ≡ Done → ⊥
-sent-not-done p q = true≢false (cc (p, q))
-
-stepEnd : Outcome Step (List ℕ) → End
-stepEnd o = o .answer .end
-
-pub call-not-done : (k : Call) (s : Session) (out : List ℕ) → callPerform k s out .answer .end ≡ Done → ⊥
-unfolding stepEnd
-call-not-done Next s out e = sent-not-done (ap stepEnd (next-went s out (ap endNumber e) .result)) e
-call-not-done Ask s out e = sent-not-done (ap stepEnd (ask-went s out (ap endNumber e) .result)) e
-call-not-done (Order to c) s out e = sent-not-done (ap stepEnd (order-went s out to c (ap endNumber e) .result)) e
-call-not-done (Regroup i g leader) s out e = sent-not-done (ap stepEnd (regroup-went s out i g leader (ap endNumber e) .result)) e
-
-pub call-stays : (k : Call) (s : Session) (out : List ℕ) → (stepNumber (callPerform k s out .answer) ≡ done → ⊥) → callPerform k s out .answer .session ≡ s
-call-stays Next s out f = next-stands s out f .0
-call-stays Ask s out f = ask-stands s out f .0
-call-stays (Order to c) s out f = order-stands s out to c f .0
-call-stays (Regroup i g leader) s out f = regroup-stands s out i g leader f .0

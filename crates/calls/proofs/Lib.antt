@@ -1,3 +1,4 @@
+pub mod Standing
 mod Same
 mod Sorting
 pub mod Finding

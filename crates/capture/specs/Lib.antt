@@ -1,3 +1,4 @@
 pub mod Packets
 pub mod Checks
 pub mod Steps
+pub mod Traces

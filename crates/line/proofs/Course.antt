@@ -2,13 +2,11 @@
 use Prim.Native.Nat.{ℕ}
 use mathlib.Core.Bool.{Bool, true, false, cond, true≢false, false≢true}
 use mathlib.Core.List.{List, _∷_}
-use mathlib.Core.Option.{Option, none, some}
+use mathlib.Core.Option.{Option, none}
 use mathlib.Core.Path.{_≡_, refl, sym, ap, subst, _∙_}
 use lib.ListN.{length, take}
-use Rattle.wire.specs.Numbers.{done}
 use Rattle.wire.specs.Address.{inRange}
 use Rattle.wire.specs.declared.address.Address.{Address}
-use Rattle.wire.specs.declared.refusal.Refusal.{Refusal}
 use Rattle.command.specs.declared.Command.{Command}
 use Rattle.command.specs.Build.{fitsOf, packetFor}
 use Rattle.command.specs.Build as build
@@ -20,19 +18,18 @@ use Rattle.session.specs.declared.Session.{Session}
 use Rattle.session.specs.declared.End.{End}
 use Rattle.session.specs.declared.End.the-variants as ends
 use Rattle.session.specs.declared.Step.{Step}
-use Rattle.session.specs.Session.{endNumber, stepNumber}
-use Rattle.start.specs.Start.{startPowerUp}
-use Rattle.start.proofs.Starting.{power-up-stays}
 use Rattle.reports.specs.Report.{concludeOf, finishOf}
 use Rattle.survey.specs.Chain.{Said, silence, reply, collided}
-use Rattle.reports.proofs.Validity.{finished-stays, report-stays}
+use Rattle.calls.specs.declared.Call.{Call}
+use Rattle.calls.specs.Calls.{callPerform, TypedCall}
+use Rattle.calls.proofs.Standing.{call-not-done}
 use Rattle.line.specs.History.{Sending, Sent, counted}
-use Rattle.line.specs.Call.{Call, callOutcome, whatOf, resets, TypedCall}
+use Rattle.line.specs.Call.{whatOf, resets}
 use Rattle.line.specs.Line.{Line, quiet, going, coming, lingering, Arrival, nowhere, Arrives, lost, Nothing, absent, Returns, quietly, mixed, nodesAfter, saidAfter, reportedOf, answerIn}
 use Rattle.line.specs.Line as line
 use Rattle.line.specs.World.{World, hosting, callEnded, callMade, Comes, start, power, unpowered, call, deliver, report, hurry, delay, stray, bench}
-use Rattle.wire.proofs.Numbers.{not-done}
-use Rattle.line.proofs.Due.{Due, CallSends, call-sends, call-not-done, call-stays}
+use Rattle.line.proofs.Refusing.{refused-power, refused-call, refused-report}
+use Rattle.line.proofs.Due.{Due, CallSends, call-sends}
 use Rattle.line.proofs.Closing.{waitingAt, due-opens, reported-finished, reported-concludes, conclusion}
 use Rattle.line.proofs.Exactly.{Exactly, exactly-step}
 use Rattle.line.proofs.Invariant.{at, Invariant, Exchanged}
@@ -169,15 +166,6 @@ hurries h ns past what p g r n = record {
   history = ap (λ (a : Answer). record { what = what; answer = a } ∷ past) (nothing-silent n);
 }
 
--- ---- refused power-ups and reports
-
-refused-not-done : (t : Step) (why : Refusal) → t .end ≡ ends.Refused why → stepNumber t ≡ done → ⊥
-refused-not-done t why e f = not-done why (sym (ap endNumber e) ∙ f)
-
-stray-stays : (s : Session) (r : Option (List ℕ)) (why : Refusal) → reportedOf s r .end ≡ ends.Refused why → reportedOf s r .session ≡ s
-stray-stays s none why e = finished-stays s Silent (refused-not-done (reportedOf s none) why e)
-stray-stays s (some bytes) why e = report-stays s bytes (refused-not-done (reportedOf s (some bytes)) why e)
-
 -- ---- the bench
 
 bench-going : {h : Session} {ns ms : List Node} {past : List Sent} {what : Sending} {p : List ℕ} → Benched ns ms → Going h ns past what p → Going h ms past what p
@@ -223,29 +211,29 @@ not-up true u e = absurd (false≢true e)
 not-up false u e = (refl, e)
 
 call-holds : (w : World) → Upholds w → (k : Call) → TypedCall k → (out : List ℕ) → Upholds (callMade k out w)
-call-holds w holds k typed out = go (callOutcome k (w .host) out .answer .end) refl
+call-holds w holds k typed out = go (callPerform k (w .host) out .answer .end) refl
   where
     t : Session
-    t = callOutcome k (w .host) out .answer .session
+    t = callPerform k (w .host) out .answer .session
 
     stands : t ≡ w .host → Upholds (hosting t w)
     stands e up = rw e (holds up)
 
-    go : (e : End) → callOutcome k (w .host) out .answer .end ≡ e → Upholds (callEnded e k t (callOutcome k (w .host) out .left) w)
+    go : (e : End) → callPerform k (w .host) out .answer .end ≡ e → Upholds (callEnded e k t (callPerform k (w .host) out .left) w)
     go (ends.Sent n) e up =
         let u = not-up (resets k) (w .up) up in
         let a = call-sends k typed (u .0) (w .host) out n e in
         let s = when-idle (w .host) (w .nodes) (w .past) (w .line) (holds (u .1)) (a .free .idle) in
-        call-goes (w .host) t (w .nodes) (w .past) k (take n (callOutcome k (w .host) out .left)) s a
+        call-goes (w .host) t (w .nodes) (w .past) k (take n (callPerform k (w .host) out .left)) s a
     go ends.Done e up = absurd (call-not-done k (w .host) out e)
-    go (ends.Refused why) e up = stands (call-stays k (w .host) out (refused-not-done (callOutcome k (w .host) out .answer) why e)) up
+    go (ends.Refused why) e up = stands (refused-call k (w .host) out why e) up
 
 pub holds : {w : World} → Comes w → Upholds w
 holds (start ns) up = absurd (false≢true up)
 holds (power {w = w} c bs e) up =
     let p = accepted-power (w .host) (length bs) e in
     rw (p .session) (record { free = refl; inv = powered-invariant bs (p .some) (p .few); exactly = powered-exactly bs (p .some) (p .few) })
-holds (unpowered {w = w} c n why e) up = rw (power-up-stays (w .host) n (refused-not-done (startPowerUp (w .host) n) why e)) (holds c up)
+holds (unpowered {w = w} c n why e) up = rw (refused-power (w .host) n why e) (holds c up)
 holds (call {w = w} c k typed out) up = call-holds w (λ u. holds c u) k typed out up
 holds (deliver {w = w} c what p e q r a b) up =
     arrives (w .host) (w .nodes) (w .past) what p (subst (λ (l : Line). LineHolds (w .host) (w .nodes) (w .past) l) e (holds c up)) q r a b
@@ -254,7 +242,7 @@ holds (report {w = w} c what r e) up =
 holds (hurry {w = w} c what p e r n) up =
     hurries (w .host) (w .nodes) (w .past) what p (subst (λ (l : Line). LineHolds (w .host) (w .nodes) (w .past) l) e (holds c up)) r n
 holds (delay {w = w} c p e q a) up = lingering-settles (subst (λ (l : Line). LineHolds (w .host) (w .nodes) (w .past) l) e (holds c up)) q a
-holds (stray {w = w} c r why e) up = rw (stray-stays (w .host) r why e) (holds c up)
+holds (stray {w = w} c r why e) up = rw (refused-report (w .host) r why e) (holds c up)
 holds (bench {w = w} c i b) up = bench-holds (w .host) (w .nodes) _ (w .past) (w .line) (set-benched (w .nodes) i b) (holds c up)
 
 -- also in the middle of an exchange the nodes are such as some settled session has them

@@ -34,9 +34,11 @@ use Rattle.sending.specs.Sending.{isWaiting, freeCheck, openExchange, transmitO
 use Rattle.walk.specs.Walk.{nextCheck, askCheck, nextOf, askOf}
 use Rattle.host.specs.Calls.{orderCheck, orderOf}
 use Rattle.reports.specs.Report.{isGiving, isAsking, concludeOf, finishOf, reportOf}
+use Rattle.calls.specs.declared.Call.{Call}
+use Rattle.calls.specs.declared.Call.the-variants.{Next, Ask, Order}
+use Rattle.calls.specs.Calls.{TypedCall}
 use Rattle.examples.specs.Example.{buffer, knownBut, entryWith, placeInDoubt, addressed, pair}
 use Rattle.line.specs.History.{Sending, Sent, gives, asks, sends}
-use Rattle.line.specs.Call as calls
 use Rattle.line.specs.Line.{Line, quiet, going, Arrival, came, Arrives, Returns, nodesAfter, saidAfter, reportedOf, answerIn}
 use Rattle.line.specs.Line as line
 use Rattle.line.specs.World.{World, callMade, Comes, start, power, call, deliver, report}
@@ -74,7 +76,7 @@ abbrev good : List ℕ
 good = 0x00 ∷ 0x00 ∷ []
 
 -- one exchange: the call, the packet as it arrives, the reply as it comes, the report
-round : {w : World} → Comes w → (k : calls.Call) → calls.TypedCall k → (s t : Session) (ns ms : List Node) (past : List Sent) (what : Sending) (p : List ℕ)
+round : {w : World} → Comes w → (k : Call) → TypedCall k → (s t : Session) (ns ms : List Node) (past : List Sent) (what : Sending) (p : List ℕ)
     (q : Arrival) (r : Option (List ℕ)) (a : Answer) → callMade k buffer w ≡ worldAt s ns (going what p) past → Arrives p q → Returns (saidAfter q ns) r
     → nodesAfter q ns ≡ ms → reportedOf s r .session ≡ t → answerIn r ≡ a → Comes (worldAt t ms quiet (record { what = what; answer = a } ∷ past))
 round c k typed s t ns ms past what p q r a e x y f g h =
@@ -87,22 +89,22 @@ powers = power (start []) (zeros ∷ zeros ∷ []) refl
 
 module _ (es : List Entry) where
   -- the calls
-  next-1 : callMade calls.next buffer (worldAt (pair 0 Idle entryPowerUp entryPowerUp es) (up ∷ up ∷ []) quiet [])
+  next-1 : callMade Next buffer (worldAt (pair 0 Idle entryPowerUp entryPowerUp es) (up ∷ up ∷ []) quiet [])
       ≡ worldAt (pair 0 (Waiting (nodeAt 1) (SetAddress (givenPlace 1))) entryPowerUp entryPowerUp es) (up ∷ up ∷ []) (going (gives 1) (given 1)) []
   unfolding nextOf nextCheck freeCheck isClosed isValid isWaiting isAskDue transmitOf openExchange commandBuild buildFor written total
   next-1 = refl
 
-  next-2 : (past : List Sent) → callMade calls.next buffer (worldAt (pair 1 Idle (addressed 1) entryPowerUp es) (placed 1 0 ∷ up ∷ []) quiet past)
+  next-2 : (past : List Sent) → callMade Next buffer (worldAt (pair 1 Idle (addressed 1) entryPowerUp es) (placed 1 0 ∷ up ∷ []) quiet past)
       ≡ worldAt (pair 1 (Waiting (nodeAt 2) (SetAddress (givenPlace 2))) (addressed 1) entryPowerUp es) (placed 1 0 ∷ up ∷ []) (going (gives 2) (given 2)) past
   unfolding nextOf nextCheck freeCheck isClosed isValid isWaiting isAskDue transmitOf openExchange commandBuild buildFor written total
   next-2 past = refl
 
-  ask-1 : (past : List Sent) → callMade calls.ask buffer (worldAt (pair 0 Idle placeInDoubt entryPowerUp es) (placed 1 0 ∷ up ∷ []) quiet past)
+  ask-1 : (past : List Sent) → callMade Ask buffer (worldAt (pair 0 Idle placeInDoubt entryPowerUp es) (placed 1 0 ∷ up ∷ []) quiet past)
       ≡ worldAt (pair 0 (Waiting (nodeAt 1) Nop) placeInDoubt entryPowerUp es) (placed 1 0 ∷ up ∷ []) (going (asks 1) nop1) past
   unfolding askOf askCheck freeCheck isClosed isValid isWaiting isAskDue transmitOf openExchange commandBuild buildFor written total
   ask-1 past = refl
 
-  set-outputs : (e : Entry) (ns : List Node) (past : List Sent) → callMade (calls.order (nodeAt 2) (SetOutputs 5)) buffer (worldAt (pair 2 Idle (addressed 1) e es) ns quiet past)
+  set-outputs : (e : Entry) (ns : List Node) (past : List Sent) → callMade (Order (nodeAt 2) (SetOutputs 5)) buffer (worldAt (pair 2 Idle (addressed 1) e es) ns quiet past)
       ≡ worldAt (pair 2 (Waiting (nodeAt 2) (SetOutputs 5)) (addressed 1) e es) ns (going (sends (nodeAt 2) (SetOutputs 5)) set5) past
   unfolding orderOf orderCheck freeCheck isClosed isValid isWaiting transmitOf openExchange commandBuild buildFor written total
   set-outputs e ns past = refl
@@ -174,40 +176,40 @@ says-5 old = refl
 -- the first "next": the reply is lost; "ask" is replied to
 unanswered : Comes (worldAt (pair 0 Idle placeInDoubt entryPowerUp rest) (placed 1 0 ∷ up ∷ []) quiet unasked)
 unanswered =
-    round powers calls.next tt _ _ (up ∷ up ∷ []) _ [] (gives 1) (given 1) (came (given 1)) none Silent (next-1 rest) line.whole (rw says-1 (line.lost line.absent))
+    round powers Next tt _ _ (up ∷ up ∷ []) _ [] (gives 1) (given 1) (came (given 1)) none Silent (next-1 rest) line.whole (rw says-1 (line.lost line.absent))
     takes-1 (silent-1 rest) refl
 
 answered : Comes (worldAt (pair 1 Idle (addressed 1) entryPowerUp rest) (placed 1 0 ∷ up ∷ []) quiet asked)
 answered =
-    round unanswered calls.ask tt _ _ (placed 1 0 ∷ up ∷ []) _ _ (asks 1) nop1 (came nop1) (some good) Clear (ask-1 rest _) line.whole (rw says-ask line.whole)
+    round unanswered Ask tt _ _ (placed 1 0 ∷ up ∷ []) _ _ (asks 1) nop1 (came nop1) (some good) Clear (ask-1 rest _) line.whole (rw says-ask line.whole)
     takes-ask (good-ask rest) judged-good
 
 -- the walk
 first : Comes (worldAt (pair 1 Idle (addressed 1) entryPowerUp rest) (placed 1 0 ∷ up ∷ []) quiet (record { what = gives 1; answer = Clear } ∷ []))
 first =
-    round powers calls.next tt _ _ (up ∷ up ∷ []) _ [] (gives 1) (given 1) (came (given 1)) (some good) Clear (next-1 rest) line.whole (rw says-1 line.whole)
+    round powers Next tt _ _ (up ∷ up ∷ []) _ [] (gives 1) (given 1) (came (given 1)) (some good) Clear (next-1 rest) line.whole (rw says-1 line.whole)
     takes-1 (good-1 rest) judged-good
 
 second : Comes (worldAt (pair 2 Idle (addressed 1) (addressed 2) rest) (placed 1 0 ∷ placed 2 0 ∷ []) quiet walked)
 second =
-    round first calls.next tt _ _ (placed 1 0 ∷ up ∷ []) _ _ (gives 2) (given 2) (came (given 2)) (some good) Clear (next-2 rest _) line.whole (rw says-2 line.whole)
+    round first Next tt _ _ (placed 1 0 ∷ up ∷ []) _ _ (gives 2) (given 2) (came (given 2)) (some good) Clear (next-2 rest _) line.whole (rw says-2 line.whole)
     takes-2 (good-2 rest) judged-good
 
 -- Set Outputs 5 to node 2: the reply is lost
 third : Comes (worldAt (pair 2 Idle (addressed 1) (entryWith (givenPlace 2) 0 (knownBut false true true)) rest) (placed 1 0 ∷ placed 2 5 ∷ []) quiet lost)
 third =
-    round second (calls.order (nodeAt 2) (SetOutputs 5)) tt _ _ (placed 1 0 ∷ placed 2 0 ∷ []) _ _ (sends (nodeAt 2) (SetOutputs 5)) set5 (came set5) none Silent
+    round second (Order (nodeAt 2) (SetOutputs 5)) tt _ _ (placed 1 0 ∷ placed 2 0 ∷ []) _ _ (sends (nodeAt 2) (SetOutputs 5)) set5 (came set5) none Silent
     (set-outputs rest (addressed 2) _ _) line.whole (rw (says-5 0) (line.lost line.absent)) (takes-5 0) (silent-5 rest) refl
 
 -- sent again, and replied to
 fourth : Comes (worldAt (pair 2 Idle (addressed 1) (entryWith (givenPlace 2) 5 (knownBut true true true)) rest) (placed 1 0 ∷ placed 2 5 ∷ []) quiet again)
 fourth =
-    round third (calls.order (nodeAt 2) (SetOutputs 5)) tt _ _ (placed 1 0 ∷ placed 2 5 ∷ []) _ _ (sends (nodeAt 2) (SetOutputs 5)) set5 (came set5) (some good) Clear
+    round third (Order (nodeAt 2) (SetOutputs 5)) tt _ _ (placed 1 0 ∷ placed 2 5 ∷ []) _ _ (sends (nodeAt 2) (SetOutputs 5)) set5 (came set5) (some good) Clear
     (set-outputs rest (entryWith (givenPlace 2) 0 (knownBut false true true)) _ _) line.whole (rw (says-5 5) line.whole) (takes-5 5) (good-5 rest) judged-good
 
 -- the first "next" is on its way
 sent : Comes (worldAt (pair 0 (Waiting (nodeAt 1) (SetAddress (givenPlace 1))) entryPowerUp entryPowerUp rest) (up ∷ up ∷ []) (going (gives 1) (given 1)) [])
-sent = rw (next-1 rest) at (call powers calls.next tt buffer)
+sent = rw (next-1 rest) at (call powers Next tt buffer)
 
 pub late : Late
 unfolding startPowerUp ledgerPowerUp

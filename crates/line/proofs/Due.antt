@@ -1,12 +1,11 @@
 -- What may be sent while a session is open: the address that is called, whose record it is, and the command.
 use Prim.Native.Nat.{ℕ, _+_, _<_}
-use mathlib.Core.Bool.{Bool, true, false, true≢false}
+use mathlib.Core.Bool.{Bool, true, false}
 use mathlib.Core.List.{List, _++_}
 use mathlib.Core.Path.{_≡_, refl, sym, ap, _∙_}
 use native.Mathlib.Omega.{arith}
 use lib.ListN.{length, take, drop}
 use lib.Seq.{take-append-seam}
-use Rattle.wire.specs.Numbers.{done}
 use Rattle.wire.specs.Promise.{Outcome}
 use Rattle.wire.specs.Address.{inRange}
 use Rattle.wire.specs.declared.address.Individual.{Individual}
@@ -24,10 +23,9 @@ use Rattle.node.proofs.Laws.{place-writes}
 use Rattle.entry.specs.Entry.{knows}
 use Rattle.ledger.specs.Ledger.{isLed}
 use Rattle.session.specs.declared.Session.{Session}
-use Rattle.session.specs.declared.End.{End}
-use Rattle.session.specs.declared.End.the-variants.{Done, Sent}
+use Rattle.session.specs.declared.End.the-variants.{Sent}
 use Rattle.session.specs.declared.Step.{Step}
-use Rattle.session.specs.Session.{offChain, entryOf, nodeAt, endNumber, stepNumber, givenPlace}
+use Rattle.session.specs.Session.{offChain, entryOf, nodeAt, endNumber, givenPlace}
 use Rattle.sending.specs.Sending.{openExchange}
 use Rattle.session.proofs.Sessions.{OnChain}
 use Rattle.sending.proofs.Passing.{Free}
@@ -36,11 +34,11 @@ use Rattle.host.proofs.Passing.{order-says, regroup-says, wish-free}
 use Rattle.sending.proofs.Sent.{sending, node-fits}
 use Rattle.walk.proofs.Sent.{next-went, ask-went}
 use Rattle.host.proofs.Sent.{to-fits, order-went, regroup-went}
-use Rattle.walk.proofs.Stands.{next-stands, ask-stands}
-use Rattle.host.proofs.Stands.{order-stands, regroup-stands}
+use Rattle.calls.specs.declared.Call.{Call}
+use Rattle.calls.specs.declared.Call.the-variants.{Next, Ask, Order, Regroup}
+use Rattle.calls.specs.Calls.{callPerform, TypedCall}
 use Rattle.line.specs.History.{Sending, gives, asks, sends}
-use Rattle.line.specs.Call as calls
-use Rattle.line.specs.Call.{Call, callOutcome, whatOf, resets}
+use Rattle.line.specs.Call.{whatOf, resets}
 
 -- all but a Hard Reset, which opens no exchange
 pub data Due (h : Session) : Sending → Address → Address → Command → Type 0 where
@@ -84,9 +82,9 @@ pub record CallSends (s : Session) (k : Call) (p : List ℕ) (t : Session) : Typ
   pub typed : Typed command
   pub goes : Goes s called to command p t
 
-pub call-sends : (k : Call) → calls.TypedCall k → resets k ≡ false → (s : Session) (out : List ℕ) (n : ℕ) → callOutcome k s out .answer .end ≡ Sent n
-    → CallSends s k (take n (callOutcome k s out .left)) (callOutcome k s out .answer .session)
-call-sends calls.next t o s out n e =
+pub call-sends : (k : Call) → TypedCall k → resets k ≡ false → (s : Session) (out : List ℕ) (n : ℕ) → callPerform k s out .answer .end ≡ Sent n
+    → CallSends s k (take n (callPerform k s out .left)) (callPerform k s out .answer .session)
+call-sends Next t o s out n e =
     let w = next-went s out (ap endNumber e) in
     let k = next-says s (w .passed) in
     let l = k .walking in
@@ -101,7 +99,7 @@ call-sends calls.next t o s out n e =
       typed = omega arith;
       goes = g;
     }
-call-sends calls.ask t o s out n e =
+call-sends Ask t o s out n e =
     let w = ask-went s out (ap endNumber e) in
     let k = ask-says s (w .passed) in
     let l = k .walking in
@@ -115,7 +113,7 @@ call-sends calls.ask t o s out n e =
       typed = tt;
       goes = g;
     }
-call-sends (calls.order to c) t o s out n e =
+call-sends (Order to c) t o s out n e =
     let w = order-went s out to c (ap endNumber e) in
     let k = order-says s to c (w .passed) in
     let r = order-sends c (k .ordinary) o in
@@ -128,7 +126,7 @@ call-sends (calls.order to c) t o s out n e =
       typed = r .2;
       goes = goes s to to c out _ n (w .result) e (to-fits (s .n) to (k .session .valid .few) (k .group) (k .node)) (r .1);
     }
-call-sends (calls.regroup i g leader) t o s out n e =
+call-sends (Regroup i g leader) t o s out n e =
     let w = regroup-went s out i g leader (ap endNumber e) in
     let k = regroup-says s i g leader (w .passed) in
     let f = node-fits (s .n) (i .0) (k .session .valid .few) (k .node .high) in
@@ -141,23 +139,3 @@ call-sends (calls.regroup i g leader) t o s out n e =
       typed = t;
       goes = goes s _ _ _ out _ n (w .result) e f (rw (f, k .group) refl);
     }
-
--- a call that doesn't send is refused, and leaves the session as it was
-sent-not-done : {e : End} {n : ℕ} → e ≡ Sent n → e ≡ Done → ⊥
-sent-not-done p q = true≢false (cc (p, q))
-
-stepEnd : Outcome Step (List ℕ) → End
-stepEnd o = o .answer .end
-
-pub call-not-done : (k : Call) (s : Session) (out : List ℕ) → callOutcome k s out .answer .end ≡ Done → ⊥
-unfolding stepEnd
-call-not-done calls.next s out e = sent-not-done (ap stepEnd (next-went s out (ap endNumber e) .result)) e
-call-not-done calls.ask s out e = sent-not-done (ap stepEnd (ask-went s out (ap endNumber e) .result)) e
-call-not-done (calls.order to c) s out e = sent-not-done (ap stepEnd (order-went s out to c (ap endNumber e) .result)) e
-call-not-done (calls.regroup i g leader) s out e = sent-not-done (ap stepEnd (regroup-went s out i g leader (ap endNumber e) .result)) e
-
-pub call-stays : (k : Call) (s : Session) (out : List ℕ) → (stepNumber (callOutcome k s out .answer) ≡ done → ⊥) → callOutcome k s out .answer .session ≡ s
-call-stays calls.next s out f = next-stands s out f .0
-call-stays calls.ask s out f = ask-stands s out f .0
-call-stays (calls.order to c) s out f = order-stands s out to c f .0
-call-stays (calls.regroup i g leader) s out f = regroup-stands s out i g leader f .0

@@ -1,5 +1,6 @@
 pub mod Words
 mod Exact
+pub mod Refusing
 mod Due
 mod Closing
 pub mod Returning
@@ -13,7 +14,7 @@ mod Ready
 mod Walk
 mod Exchange
 mod Benching
-mod Powering
+pub mod Powering
 mod Course
 mod Calls
 pub mod Demand3

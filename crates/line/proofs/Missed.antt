@@ -28,9 +28,11 @@ use Rattle.walk.proofs.Sent.{next-went}
 use Rattle.host.proofs.Passing.{order-says, regroup-says}
 use Rattle.host.proofs.Sent.{order-went, regroup-went}
 use Rattle.reports.specs.Report.{concludeOf}
+use Rattle.calls.specs.declared.Call.{Call}
+use Rattle.calls.specs.declared.Call.the-variants.{Next, Ask, Order, Regroup}
+use Rattle.calls.specs.Calls.{callPerform}
 use Rattle.line.specs.History.{Sending, asks}
-use Rattle.line.specs.Call.{Call, callOutcome}
-use Rattle.line.specs.Call as calls
+use Rattle.line.specs.Call.{whatOf}
 use Rattle.line.specs.Line.{reportedOf, answerIn}
 use Rattle.line.specs.Missed.{Left, OnlyPowerUp}
 use Rattle.line.proofs.Due.{Due, next, ask, order, regroup, call-sends}
@@ -70,11 +72,11 @@ unconfirmed s e Silent n = rw (opened-waits s (nodeAt (s .walk + 1)) Nop refl) a
 
 -- what "ask" sends, and what the report of whatever came leaves
 asked : (s t : Session) (ns ms : List Node) (p : List ℕ) → Invariant s ns → s .exchange ≡ Idle → at ns (s .walk) .addressed ≡ false
-    → {called to : Address} {c : Command} → Due s (calls.whatOf calls.ask p) called to c → t ≡ openExchange s to c → (r : Option (List ℕ)) → Exchanged called c ns ms (answerIn r)
+    → {called to : Address} {c : Command} → Due s (whatOf Ask p) called to c → t ≡ openExchange s to c → (r : Option (List ℕ)) → Exchanged called c ns ms (answerIn r)
     → (reportedOf t r .session ≡ s) × Left (at ns (s .walk)) (at ms (s .walk))
 asked s t ns ms p inv idle u d f r x = go d refl f x
   where
-    go : {what : Sending} {called to : Address} {c : Command} → Due s what called to c → what ≡ calls.whatOf calls.ask p → t ≡ openExchange s to c → Exchanged called c ns ms (answerIn r)
+    go : {what : Sending} {called to : Address} {c : Command} → Due s what called to c → what ≡ whatOf Ask p → t ≡ openExchange s to c → Exchanged called c ns ms (answerIn r)
         → (reportedOf t r .session ≡ s) × Left (at ns (s .walk)) (at ms (s .walk))
     go (ask l k) e f x =
         let o = stays-out s ns inv l u x in
@@ -87,11 +89,11 @@ asked s t ns ms p inv idle u d f r x = go d refl f x
 
 -- no other call sends
 alone : (s : Session) → s .walk < s .n → knows (entryOf s (s .walk + 1)) place ≡ false → (c : Call) (out : List ℕ) (n : ℕ)
-    → callOutcome c s out .answer .end ≡ Sent n → c ≡ calls.ask
-alone s l d calls.next out n e = absurd (true≢false (sym (next-says s (next-went s out (ap endNumber e) .passed) .placed) ∙ d))
-alone s l d calls.ask out n e = refl
-alone s l d (calls.order to c) out n e = absurd (let k = order-says s to c (order-went s out to c (ap endNumber e) .passed) .ended in omega arith)
-alone s l d (calls.regroup i g leader) out n e = absurd (let k = regroup-says s i g leader (regroup-went s out i g leader (ap endNumber e) .passed) .ended in omega arith)
+    → callPerform c s out .answer .end ≡ Sent n → c ≡ Ask
+alone s l d Next out n e = absurd (true≢false (sym (next-says s (next-went s out (ap endNumber e) .passed) .placed) ∙ d))
+alone s l d Ask out n e = refl
+alone s l d (Order to c) out n e = absurd (let k = order-says s to c (order-went s out to c (ap endNumber e) .passed) .ended in omega arith)
+alone s l d (Regroup i g leader) out n e = absurd (let k = regroup-says s i g leader (regroup-went s out i g leader (ap endNumber e) .passed) .ended in omega arith)
 
 index : (k : ℕ) → k + 1 - 1 ≡ k
 index k = omega arith
@@ -104,8 +106,8 @@ only-power-up w comes up idle m =
     record {
       alone = alone (w .host) (m .walking) (m .unconfirmed);
       same = λ out n e q r arrives returns.
-          let a = call-sends calls.ask tt refl (w .host) out n e in
+          let a = call-sends Ask tt refl (w .host) out n e in
           let x = exchanged (a .called) (a .command) (w .nodes) (a .goes .range) (a .goes .fits) (a .typed) (none-collided (w .host) (w .nodes) i)
           (rw (a .goes .packet) at arrives) returns in
-          rw (index (w .host .walk)) (asked (w .host) _ (w .nodes) _ (take n (callOutcome calls.ask (w .host) out .left)) i idle u (a .due) (a .goes .after) r x);
+          rw (index (w .host .walk)) (asked (w .host) _ (w .nodes) _ (take n (callPerform Ask (w .host) out .left)) i idle u (a .due) (a .goes .after) r x);
     }

@@ -11,7 +11,9 @@ use Rattle.entry.specs.Entry.{knows}
 use Rattle.session.specs.declared.Exchange.the-variants.{Idle}
 use Rattle.session.specs.declared.End.the-variants.{Sent}
 use Rattle.session.specs.Session.{entryOf}
-use Rattle.line.specs.Call.{Call, ask, callOutcome}
+use Rattle.calls.specs.declared.Call.{Call}
+use Rattle.calls.specs.declared.Call.the-variants.{Ask}
+use Rattle.calls.specs.Calls.{callPerform}
 use Rattle.line.specs.Line.{Arrival, Arrives, Returns, nodesAfter, saidAfter, reportedOf}
 use Rattle.line.specs.World.{World, Comes}
 use Rattle.line.specs.Demand3.{nodeOf}
@@ -29,10 +31,10 @@ pub record Left (n m : Node) : Type 0 where
 
 -- no call but "ask" sends; and whatever becomes of an "ask" and of the reply to it, the session is afterwards as it was, the node's settings too, and it is still not addressed
 pub record Stuck (w : World) : Type 0 where
-  pub alone : (c : Call) (out : List ℕ) (n : ℕ) → callOutcome c (w .host) out .answer .end ≡ Sent n → c ≡ ask
-  pub same : (out : List ℕ) (n : ℕ) → callOutcome ask (w .host) out .answer .end ≡ Sent n → (q : Arrival) (r : Option (List ℕ))
-      → Arrives (take n (callOutcome ask (w .host) out .left)) q → Returns (saidAfter q (w .nodes)) r
-      → (reportedOf (callOutcome ask (w .host) out .answer .session) r .session ≡ w .host) × Left (nodeOf (w .nodes) (w .host .walk + 1)) (nodeOf (nodesAfter q (w .nodes)) (w .host .walk + 1))
+  pub alone : (c : Call) (out : List ℕ) (n : ℕ) → callPerform c (w .host) out .answer .end ≡ Sent n → c ≡ Ask
+  pub same : (out : List ℕ) (n : ℕ) → callPerform Ask (w .host) out .answer .end ≡ Sent n → (q : Arrival) (r : Option (List ℕ))
+      → Arrives (take n (callPerform Ask (w .host) out .left)) q → Returns (saidAfter q (w .nodes)) r
+      → (reportedOf (callPerform Ask (w .host) out .answer .session) r .session ≡ w .host) × Left (nodeOf (w .nodes) (w .host .walk + 1)) (nodeOf (nodesAfter q (w .nodes)) (w .host .walk + 1))
 
 abbrev pub OnlyPowerUp : Type 0
 OnlyPowerUp = (w : World) → Comes w → w .up ≡ true → w .host .exchange ≡ Idle → Missed w → Stuck w

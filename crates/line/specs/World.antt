@@ -14,9 +14,11 @@ use Rattle.session.specs.declared.Session.{Session}
 use Rattle.session.specs.declared.End.{End}
 use Rattle.session.specs.declared.End.the-variants.{Done, Sent, Refused}
 use Rattle.start.specs.Start.{freshOf, startPowerUp}
+use Rattle.calls.specs.declared.Call.{Call}
+use Rattle.calls.specs.Calls.{callPerform, TypedCall}
 use Rattle.line.specs.History.{Sending}
 use Rattle.line.specs.History as history
-use Rattle.line.specs.Call.{Call, callOutcome, whatOf, resets, TypedCall}
+use Rattle.line.specs.Call.{whatOf, resets}
 use Rattle.line.specs.Line.{Line, quiet, going, coming, lingering, Arrival, Arrives, Nothing, nodesAfter, saidAfter, Returns, reportedOf, answerIn}
 
 -- `up`: the host was told of a power-up, and no Hard Reset was sent since; `past`: what was sent and answered since, the newest first
@@ -48,7 +50,7 @@ callEnded (Refused why) c s left w = hosting s w
 
 -- a call was made, with this buffer lent
 abbrev pub callMade : Call → List ℕ → World → World
-callMade c out w = callEnded (callOutcome c (w .host) out .answer .end) c (callOutcome c (w .host) out .answer .session) (callOutcome c (w .host) out .left) w
+callMade c out w = callEnded (callPerform c (w .host) out .answer .end) c (callPerform c (w .host) out .answer .session) (callPerform c (w .host) out .left) w
 
 -- the packet came as q, and r comes back
 abbrev pub delivered : Arrival → Sending → Option (List ℕ) → World → World

@@ -1,0 +1,85 @@
+-- What any of the calls comes to: sent, its exchange is opened, as far as a Hard Reset has one; else the session is as it was.
+use Prim.Native.Nat.{ℕ, _+_}
+use mathlib.Core.Bool.{Bool, true, false, false≢true}
+use mathlib.Core.List.{List}
+use mathlib.Core.Path.{_≡_, refl, sym, ap, subst, _∙_}
+use Rattle.wire.specs.Numbers.{done}
+use Rattle.wire.specs.Promise.{Outcome}
+use Rattle.wire.proofs.Impossible.{impossible}
+use Rattle.wire.specs.declared.address.Address.{Address}
+use Rattle.wire.specs.declared.address.Address.the-variants as address
+use Rattle.command.specs.declared.Command.{Command}
+use Rattle.command.specs.declared.Command.the-variants.{SetAddress, Nop}
+use Rattle.command.specs.Role.{roleOf, isReset}
+use Rattle.node.specs.Effect.{addressUp}
+use Rattle.session.specs.declared.Session.{Session}
+use Rattle.session.specs.declared.Step.{Step}
+use Rattle.session.specs.declared.End.the-variants.{Done, Sent}
+use Rattle.session.specs.Session.{nodeAt, givenPlace, endNumber, stepNumber}
+use Rattle.sending.specs.Sending.{openExchange}
+use Rattle.sending.proofs.Passing.{Free}
+use Rattle.sending.proofs.Sent.{sending, opened-reset, opened-waits}
+use Rattle.walk.proofs.Passing.{next-says, ask-says}
+use Rattle.walk.proofs.Sent.{next-went, ask-went}
+use Rattle.walk.proofs.Stands.{next-stands, ask-stands}
+use Rattle.host.proofs.Passing.{order-says, regroup-says}
+use Rattle.host.proofs.Sent.{order-went, regroup-went}
+use Rattle.host.proofs.Stands.{order-stands, regroup-stands}
+use Rattle.calls.specs.declared.Call.{Call}
+use Rattle.calls.specs.declared.Call.the-variants.{Next, Ask, Order, Regroup}
+use Rattle.calls.specs.Calls.{callPerform}
+
+-- a call with number 0: a command went out, in a session that was free to send
+pub record CallWent (k : Call) (s : Session) (out : List ℕ) : Type 0 where
+  pub called : Address
+  pub to : Address
+  pub command : Command
+  pub free : Free s
+  pub result : callPerform k s out ≡ sending s called to command out
+
+pub call-went : (k : Call) (s : Session) (out : List ℕ) → stepNumber (callPerform k s out .answer) ≡ done → CallWent k s out
+call-went Next s out d =
+    let w = next-went s out d in
+    record {
+      called = nodeAt addressUp;
+      to = nodeAt (s .walk + 1);
+      command = SetAddress (givenPlace (s .walk + 1));
+      free = next-says s (w .passed) .session;
+      result = w .result;
+    }
+call-went Ask s out d =
+    let w = ask-went s out d in
+    record { called = nodeAt (s .walk + 1); to = nodeAt (s .walk + 1); command = Nop; free = ask-says s (w .passed) .session; result = w .result }
+call-went (Order to c) s out d =
+    let w = order-went s out to c d in
+    record { called = to; to = to; command = c; free = order-says s to c (w .passed) .session; result = w .result }
+call-went (Regroup i g leader) s out d =
+    let w = regroup-went s out i g leader d in
+    record {
+      called = address.Individual i;
+      to = address.Individual i;
+      command = SetAddress (record { address = i; group = g; leader = leader });
+      free = regroup-says s i g leader (w .passed) .session;
+      result = w .result;
+    }
+
+-- no call has number 0 and sends nothing
+pub call-not-done : (k : Call) (s : Session) (out : List ℕ) → callPerform k s out .answer .end ≡ Done → ⊥
+call-not-done k s out e = impossible (cc (e, ap (λ (o : Outcome Step (List ℕ)). o .answer .end) (call-went k s out (ap endNumber e) .result)))
+
+-- a call that doesn't send leaves the session as it was
+pub call-stays : (k : Call) (s : Session) (out : List ℕ) → (stepNumber (callPerform k s out .answer) ≡ done → ⊥) → callPerform k s out .answer .session ≡ s
+call-stays Next s out f = next-stands s out f .0
+call-stays Ask s out f = ask-stands s out f .0
+call-stays (Order to c) s out f = order-stands s out to c f .0
+call-stays (Regroup i g leader) s out f = regroup-stands s out i g leader f .0
+
+-- a session that has sent isn't free to send: it waits, or a Hard Reset has closed it
+opened-by : (b : Bool) (s : Session) (to : Address) (c : Command) → isReset (roleOf c) ≡ b → Free (openExchange s to c) → ⊥
+opened-by true s to c e f = false≢true (sym (ap (λ (t : Session). t .started) (opened-reset s to c e)) ∙ f .started)
+opened-by false s to c e f = impossible (cc (ap (λ (t : Session). t .exchange) (opened-waits s to c e), f .idle))
+
+pub sent-not-free : (k : Call) (s : Session) (out : List ℕ) (n : ℕ) → callPerform k s out .answer .end ≡ Sent n → Free (callPerform k s out .answer .session) → ⊥
+sent-not-free k s out n e f =
+    let w = call-went k s out (ap endNumber e) in
+    opened-by (isReset (roleOf (w .command))) s (w .to) (w .command) refl (subst Free (ap (λ (o : Outcome Step (List ℕ)). o .answer .session) (w .result)) f)

@@ -1,0 +1,2 @@
+mod Following
+pub mod Walks

@@ -1,0 +1,151 @@
+-- A recording made by the host over demand 3's line walks to the host's own record.
+use Prim.Native.Nat.{ℕ}
+use mathlib.Core.List.{List, [], _∷_, _++_}
+use mathlib.Core.Option.{Option, none, some}
+use mathlib.Core.Path.{_≡_, refl, sym, ap, subst, _∙_}
+use lib.ListN.{length, take}
+use Rattle.status.specs.Status.{judgeOf}
+use Rattle.status.specs.declared.Answer.the-variants.{Silent}
+use Rattle.session.specs.declared.Exchange.the-variants.{Idle}
+use Rattle.session.specs.declared.Session.{Session}
+use Rattle.session.specs.declared.Step.{Step}
+use Rattle.session.specs.declared.End.{End}
+use Rattle.session.specs.declared.End.the-variants as ends
+use Rattle.session.specs.Session.{endNumber}
+use Rattle.sending.proofs.Passing.{Free}
+use Rattle.start.specs.Start.{freshOf, startPowerUp}
+use Rattle.start.proofs.Starting.{powered-none, powered-good}
+use Rattle.reports.specs.Report.{reportOf}
+use Rattle.calls.specs.Calls.{callPerform, TypedCall}
+use Rattle.calls.specs.declared.Call.{Call}
+use Rattle.calls.proofs.Standing.{call-went, call-not-done, sent-not-free}
+use Rattle.capture.specs.Steps.{outset, leftAt}
+use Rattle.capture.specs.Traces.{Traced}
+use Rattle.recording.specs.Recording.{powerOf, quietOf, replayOf}
+use Rattle.recording.specs.declared.Ending.the-variants.{Ended}
+use Rattle.line.specs.Line.{Line, quiet, going, coming, lingering, Nothing, absent, empty, reportedOf}
+use Rattle.line.specs.World.{World, callEnded, callMade, Comes, start, power, unpowered, call, deliver, report, hurry, delay, stray, bench}
+use Rattle.line.proofs.Powering.{freshAt, accepted-power}
+use Rattle.line.proofs.Refusing.{refused-power, refused-call, refused-report}
+use Rattle.recorded.specs.Trace.{callTrace, replyTrace, trace, told, Prompt}
+use Rattle.recorded.specs.Walks.{Walks, Replays}
+use Rattle.recorded.proofs.Following.{idle-finishes, idle-quiet, idle-reports, finished-quiet, Leads, leads-on, leads-nowhere, leads-end, call-leads}
+
+-- the session after what came back, if any byte did
+abbrev heard : Session → Option (List ℕ) → Session
+heard s none = s
+heard s (some []) = s
+heard s (some (b ∷ bs)) = reportOf s (b ∷ bs) .session
+
+heard-leads : (s : Session) (r : Option (List ℕ)) → Leads s (replyTrace r) (heard s r)
+heard-leads s none = leads-nowhere
+heard-leads s (some []) = leads-nowhere
+heard-leads s (some (b ∷ bs)) = record { then = λ ps. refl }
+
+-- with silence for the rest of it, that is the session after the report
+heard-reported : (s : Session) (r : Option (List ℕ)) → quietOf (heard s r) ≡ reportedOf s r .session
+unfolding quietOf reportOf judgeOf
+heard-reported s none = refl
+heard-reported s (some []) = refl
+heard-reported s (some (b ∷ bs)) = finished-quiet s (judgeOf (b ∷ bs))
+
+-- how the session that the packets lead to stands to the host's, by what is on the line; while a packet or its reply is awaited, no call sends
+abbrev Stands : Session → Session → Line → Type 0
+Stands s h quiet = quietOf s ≡ h
+Stands s h (going what p) = (s ≡ h) × (Free h → ⊥)
+Stands s h (coming what r) = (s ≡ heard h r) × (Free h → ⊥)
+Stands s h (lingering p) = quietOf s ≡ h
+
+record Follows (n : ℕ) (xs : List Traced) (h : Session) (l : Line) : Type 0 where
+  session : Session
+  leads : Leads (powerOf n) xs session
+  stands : Stands session h l
+
+-- where a call sends, or no exchange is open, silence leads on to the host's session
+free-stands : (s h : Session) (l : Line) → Stands s h l → Free h → quietOf s ≡ h
+free-stands s h quiet t f = t
+free-stands s h (going what p) t f = absurd (t .1 f)
+free-stands s h (coming what r) t f = absurd (t .1 f)
+free-stands s h (lingering p) t f = t
+
+idle-reported : (s : Session) (r : Option (List ℕ)) → s .exchange ≡ Idle → reportedOf s r .session ≡ s
+idle-reported s none e = idle-finishes s Silent e
+idle-reported s (some bytes) e = idle-reports s bytes e
+
+idle-stands : (s h : Session) (l : Line) → Stands s h l → h .exchange ≡ Idle → quietOf s ≡ h
+idle-stands s h quiet t e = t
+idle-stands s h (going what p) t e = ap quietOf (t .0) ∙ idle-quiet h e
+idle-stands s h (coming what r) t e = ap quietOf (t .0) ∙ heard-reported h r ∙ idle-reported h r e
+idle-stands s h (lingering p) t e = t
+
+nothing-heard : {r : Option (List ℕ)} → Nothing r → (s : Session) → heard s r ≡ s
+nothing-heard absent s = refl
+nothing-heard empty s = refl
+
+module _ {n : ℕ} {xs : List Traced} (w : World) (f : Follows n xs (w .host) (w .line)) (k : Call) (typed : TypedCall k) (out : List ℕ) where
+  call-follows : Follows n (xs ++ callTrace (callPerform k (w .host) out .answer .end) (callPerform k (w .host) out .left)) (callMade k out w .host) (callMade k out w .line)
+  call-follows = go (callPerform k (w .host) out .answer .end) refl
+    where
+      t : Session
+      t = callPerform k (w .host) out .answer .session
+
+      left : List ℕ
+      left = callPerform k (w .host) out .left
+
+      go : (e : End) → callPerform k (w .host) out .answer .end ≡ e → Follows n (xs ++ callTrace e left) (callEnded e k t left w .host) (callEnded e k t left w .line)
+      go (ends.Sent m) e = record {
+        session = t;
+        leads = leads-on (f .leads)
+            (call-leads (f .session) (w .host) k (take m left) (record { typed = typed; out = out; count = m; sent = e; bytes = refl })
+            (free-stands (f .session) (w .host) (w .line) (f .stands) (call-went k (w .host) out (ap endNumber e) .free)));
+        stands = (refl, sent-not-free k (w .host) out m e);
+      }
+      go ends.Done e = absurd (call-not-done k (w .host) out e)
+      go (ends.Refused why) e = rw (refused-call k (w .host) out why e) (record { session = f .session; leads = leads-on (f .leads) leads-nowhere; stands = f .stands })
+
+-- "the recording begins at power-up", and before any there is none
+never-powered : quietOf (powerOf 0) ≡ freshOf
+unfolding powerOf
+never-powered = ap (λ (t : Step). quietOf (t .session)) (powered-none freshOf) ∙ idle-quiet freshOf refl
+
+powered-follows : (h : Session) (n : ℕ) → startPowerUp h n .end ≡ ends.Done → quietOf (powerOf n) ≡ startPowerUp h n .session
+unfolding powerOf
+powered-follows h n e =
+    let p = accepted-power h n e in
+    ap (λ (t : Step). quietOf (t .session)) (powered-good freshOf n (p .some) (p .few)) ∙ idle-quiet (freshAt n) refl ∙ sym (p .session)
+
+follows : {w : World} (c : Comes w) → Prompt c → Follows (told c) (trace c) (w .host) (w .line)
+follows (start ns) p = record { session = powerOf 0; leads = leads-nowhere; stands = never-powered }
+follows (power {w = w} c bs e) p = record { session = powerOf (length bs); leads = leads-nowhere; stands = powered-follows (w .host) (length bs) e }
+follows (unpowered {w = w} c n why e) p = rw (refused-power (w .host) n why e) (follows c p)
+follows (call {w = w} c k typed out) p = call-follows w (follows c p) k typed out
+follows (deliver {w = w} c what p e q r a b) o =
+    let f = follows c o in
+    let t = subst (Stands (f .session) (w .host)) e (f .stands) in
+    record { session = heard (f .session) r; leads = leads-on (f .leads) (heard-leads (f .session) r); stands = (ap (λ (s : Session). heard s r) (t .0), t .1) }
+follows (report {w = w} c what r e) o =
+    let f = follows c o in
+    let t = subst (Stands (f .session) (w .host)) e (f .stands) in
+    record { session = f .session; leads = f .leads; stands = ap quietOf (t .0) ∙ heard-reported (w .host) r }
+follows (hurry {w = w} c what p e r n) o =
+    let f = follows c o in
+    let t = subst (Stands (f .session) (w .host)) e (f .stands) in
+    record { session = f .session; leads = f .leads; stands = ap quietOf (t .0 ∙ sym (nothing-heard n (w .host))) ∙ heard-reported (w .host) r }
+follows (delay {w = w} c p e q a) o =
+    let f = follows c (o .0) in
+    record {
+      session = f .session;
+      leads = leads-on (f .leads) (rw (o .1) leads-nowhere);
+      stands = subst (Stands (f .session) (w .host)) e (f .stands);
+    }
+follows (stray {w = w} c r why e) p = rw (refused-report (w .host) r why e) (follows c p)
+follows (bench c i b) p = follows c p
+
+pub walks : Walks
+walks w c p e ps same =
+    let f = follows c p in
+    leads-end (f .leads) ps same ∙ ap (λ (s : Session). record { ending = Ended; session = s }) (idle-stands (f .session) (w .host) (w .line) (f .stands) e)
+
+pub replays : Replays
+unfolding replayOf
+replays w c p e cs cts rs rts good same = rw good (walks w c p e (leftAt cs cts rs rts outset) same)

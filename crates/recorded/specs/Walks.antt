@@ -1,0 +1,22 @@
+-- Document 02, 3: "A whole walk gives the host's record at its end".
+use Prim.Native.Nat.{ℕ}
+use mathlib.Core.List.{List}
+use mathlib.Core.Path.{_≡_}
+use Rattle.session.specs.declared.Exchange.the-variants.{Idle}
+use Rattle.capture.specs.Steps.{Recorded, outset, leftAt}
+use Rattle.capture.specs.Traces.{tracedOf}
+use Rattle.capture.specs.declared.Checked.the-variants.{Good}
+use Rattle.recording.specs.Recording.{recordingCheck, powerOf, followOf, replayOf}
+use Rattle.recording.specs.declared.Ending.the-variants.{Ended}
+use Rattle.line.specs.World.{World, Comes}
+use Rattle.recorded.specs.Trace.{trace, told, Prompt}
+
+-- with no exchange open, the packets captured since the last power-up, whenever each started, lead a powered-up session to the host's own
+abbrev pub Walks : Type 0
+Walks = (w : World) (c : Comes w) → Prompt c → w .host .exchange ≡ Idle → (ps : List Recorded) → tracedOf ps ≡ trace c
+    → followOf (powerOf (told c)) ps ≡ record { ending = Ended; session = w .host }
+
+-- and so does the call, on every recording of these packets that it doesn't refuse
+abbrev pub Replays : Type 0
+Replays = (w : World) (c : Comes w) → Prompt c → w .host .exchange ≡ Idle → (cs cts rs rts : List ℕ) → recordingCheck (told c) cs cts rs rts ≡ Good
+    → tracedOf (leftAt cs cts rs rts outset) ≡ trace c → replayOf (told c) cs cts rs rts ≡ record { ending = Ended; session = w .host }

@@ -1,6 +1,6 @@
 -- A law for each exit of the functions without a loop.
 use Prim.Native.Nat.{ℕ}
-use mathlib.Core.Bool.{Bool, true, false}
+use mathlib.Core.Bool.{true, false}
 use mathlib.Core.List.{List}
 use mathlib.Core.Path.{_≡_, sym, ap, _∙_}
 use lib.ListN.{length}
@@ -30,7 +30,6 @@ use Rattle.capture.proofs.Steps.{packet-command, packet-reply}
 use Rattle.capture.proofs.Meaning.{Sound}
 use Rattle.capture.proofs.Meaning as captured
 use Rattle.recording.specs.declared.Stage.{Stage}
-use Rattle.recording.specs.declared.Event.{Event}
 use Rattle.recording.specs.declared.Event.the-variants as event
 use Rattle.recording.specs.declared.Moved.{Moved}
 use Rattle.recording.specs.declared.Begun.{Begun}

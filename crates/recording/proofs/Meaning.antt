@@ -17,7 +17,7 @@ use Rattle.wire.specs.Numbers.{done}
 use Rattle.wire.proofs.Choice.{same}
 use Rattle.status.specs.declared.Answer.the-variants.{Silent}
 use Rattle.sending.specs.Sending.{isWaiting, doesWait}
-use Rattle.reports.specs.Report.{finishBy, finishOf, silenceOf, reportOf}
+use Rattle.reports.specs.Report.{finishBy, finishOf, reportOf}
 use Rattle.reports.proofs.Concluding.{concluded-idle}
 use Rattle.reports.proofs.Validity.{report-stays}
 use Rattle.calls.specs.declared.Call.{Call}
@@ -28,12 +28,10 @@ use Rattle.calls.specs.Finding.{bySource, findOf}
 use Rattle.calls.proofs.Finding.{Made, found-gives, missing-unsendable}
 use Rattle.capture.specs.Steps.{Recorded, sent, got}
 use Rattle.capture.specs.declared.Cursor.{Cursor}
-use Rattle.recording.specs.declared.Event.{Event}
 use Rattle.recording.specs.declared.Event.the-variants as event
-use Rattle.recording.specs.declared.Moved.{Moved}
 use Rattle.recording.specs.declared.Replayed.{Replayed}
 use Rattle.recording.specs.Recording.{quietOf, followOf}
-use Rattle.recording.specs.Stages.{moveTo, commandBy, replyBy, takeCommand, takeReply}
+use Rattle.recording.specs.Stages.{commandBy, replyBy, takeCommand, takeReply}
 
 module _ (s : Session) (p : List ℕ) (next : Cursor) where
   sent-found : (x : Source) (q t : Session) (k : Call) → commandBy x next q t .event ≡ event.Sent k → (x ≡ Found k) × (commandBy x next q t .stage .session ≡ t)

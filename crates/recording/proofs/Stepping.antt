@@ -1,7 +1,7 @@
 -- The loop of `follow`: what is done, then what the packets that are left give, is the whole walk.
 use Prim.Native.Nat.{ℕ, _<_}
-use mathlib.Core.Bool.{true, false}
-use mathlib.Core.List.{List, [], _∷_}
+use mathlib.Core.Bool.{false}
+use mathlib.Core.List.{List}
 use mathlib.Core.Path.{_≡_, refl, sym, ap, subst, _∙_}
 use lib.ListN.{length}
 use Rattle.session.specs.declared.Session.{Session}
@@ -12,7 +12,7 @@ use Rattle.calls.specs.declared.Call.{Call}
 use Rattle.calls.specs.declared.Source.{Source}
 use Rattle.calls.specs.declared.Source.the-variants.{Found, Missing}
 use Rattle.calls.specs.Finding.{bySource, findOf}
-use Rattle.capture.specs.Steps.{Recorded, sent, got, outset, leftAt, packetFrom, captureStep, bytesLeft}
+use Rattle.capture.specs.Steps.{outset, leftAt, packetFrom, captureStep, bytesLeft}
 use Rattle.capture.specs.declared.Cursor.{Cursor}
 use Rattle.capture.specs.declared.Stepped.{Stepped}
 use Rattle.capture.specs.declared.Stepped.the-variants as stepped
@@ -22,9 +22,8 @@ use Rattle.recording.specs.declared.Event.{Event}
 use Rattle.recording.specs.declared.Event.the-variants as event
 use Rattle.recording.specs.declared.Moved.{Moved}
 use Rattle.recording.specs.declared.Ending.the-variants as ending
-use Rattle.recording.specs.declared.Replayed.{Replayed}
 use Rattle.recording.specs.Recording.{quietOf, followOf}
-use Rattle.recording.specs.Stages.{moveTo, commandBy, replyBy, takeCommand, takeReply, takeEnd, advanceBy, advanceOf}
+use Rattle.recording.specs.Stages.{commandBy, replyBy, takeCommand, takeReply, takeEnd, advanceBy, advanceOf}
 
 -- a walk that goes on: fewer bytes are left, and the packets that are left give the same
 pub record Goes (cs cts rs rts : List ℕ) (s : Session) (at : Cursor) (g : Stage) : Type 0 where

@@ -8,7 +8,6 @@ use Rattle.session.specs.declared.End.the-variants as end
 use Rattle.start.specs.Start.{freshOf}
 use Rattle.reports.specs.Report.{reportOf}
 use Rattle.calls.specs.Finding.{findOf}
-use Rattle.calls.specs.declared.Sought.{Sought}
 use Rattle.calls.specs.declared.Source.{Source}
 use Rattle.calls.specs.declared.Source.the-variants.{Found, Missing}
 use Rattle.capture.specs.Checks.{checkedNumber}

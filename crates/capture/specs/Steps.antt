@@ -61,15 +61,26 @@ captureStep cts rts at =
     (FromReply (record { command = at .command; reply = packetEnd rts (at .reply) }))
     End
 
--- x is the packet of a step of the line l: the part of that line's capture from the cursor to the packet's end; with no line due, no bytes
-abbrev pub partBy : RefT (List ℕ) → List ℕ → RefT (List ℕ) → List ℕ → Cursor → RefT (List ℕ) → Line → Type 0
-partBy c cts r rts at x l =
-    Part (byLine l c r c)
-    (byLine l (at .command) (at .reply) (at .command))
-    (byLine l (cutOf (now c) (at .command) (packetEnd cts (at .command))) (cutOf (now r) (at .reply) (packetEnd rts (at .reply))) (cutOf (now c) (at .command) (at .command)))
-    x
+-- the capture whose packet a step of the line l hands back, and from which of its bytes on; with no line due, no bytes of the command capture
+abbrev pub captureBy : {A : Type 0} → Line → A → A → A
+captureBy l c r = byLine l c r c
 
--- x is "that packet's own bytes" of the step at a cursor, "a part of either capture"
+abbrev pub startBy : Line → Cursor → ℕ
+startBy l at = byLine l (at .command) (at .reply) (at .command)
+
+-- "that packet's own bytes": of that line's capture those from the cursor to the packet's end
+abbrev pub bytesBy : List ℕ → List ℕ → List ℕ → List ℕ → Cursor → Line → List ℕ
+bytesBy cs cts rs rts at l =
+    byLine l (cutOf cs (at .command) (packetEnd cts (at .command))) (cutOf rs (at .reply) (packetEnd rts (at .reply))) (cutOf cs (at .command) (at .command))
+
+abbrev pub packetAt : List ℕ → List ℕ → List ℕ → List ℕ → Cursor → List ℕ
+packetAt cs cts rs rts at = bytesBy cs cts rs rts at (dueOf cts rts at)
+
+-- x is the packet of a step of the line l
+abbrev pub partBy : RefT (List ℕ) → List ℕ → RefT (List ℕ) → List ℕ → Cursor → RefT (List ℕ) → Line → Type 0
+partBy c cts r rts at x l = Part (captureBy l c r) (startBy l at) (bytesBy (now c) cts (now r) rts at l) x
+
+-- x is the packet of the step at a cursor, "a part of the command capture or of the reply capture"
 abbrev pub PacketAt : RefT (List ℕ) → List ℕ → RefT (List ℕ) → List ℕ → Cursor → RefT (List ℕ) → Type 0
 PacketAt c cts r rts at x = partBy c cts r rts at x (dueOf cts rts at)
 

@@ -7,7 +7,7 @@ ghost use Rattle.wire.specs.Promise.{Promise};
 ghost use Rattle.wire.specs.Part.{Part};
 ghost use Rattle.capture.specs.Packets.{isGap, packetEnd, cutOf};
 ghost use Rattle.capture.specs.Checks.{isRising, checkOf, checkedNumber};
-ghost use Rattle.capture.specs.Steps.{dueOf, captureStep, PacketAt};
+ghost use Rattle.capture.specs.Steps.{dueOf, captureStep, captureBy, startBy, packetAt};
 
 // How far a walk has come in each capture.
 pub struct Cursor {
@@ -189,7 +189,7 @@ pub fn packet_at<'a>(
     reply_times: &[u32],
     at: Cursor,
 ) -> &'a [u8]
-    ensures { λ r. ⌜ PacketAt (command .entry) (now («command_times» .entry)) (reply .entry) (now («reply_times» .entry)) at r ⌝ }
+    ensures { λ r. ⌜ Part (captureBy (dueOf (now («command_times» .entry)) (now («reply_times» .entry)) at) (command .entry) (reply .entry)) (startBy (dueOf (now («command_times» .entry)) (now («reply_times» .entry)) at) at) (packetAt (now (command .entry)) (now («command_times» .entry)) (now (reply .entry)) (now («reply_times» .entry)) at) r ⌝ }
 {
     let i = at.command;
     let j = at.reply;

@@ -43,7 +43,8 @@ impl<'a> Cursor<'a> {
         self.bytes().map(u16::from_le_bytes)
     }
 
-    fn long(&mut self) -> Option<u32> {
+    /// A number of four bytes.
+    pub fn long(&mut self) -> Option<u32> {
         self.bytes().map(u32::from_le_bytes)
     }
 

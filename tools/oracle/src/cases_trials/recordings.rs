@@ -5,6 +5,7 @@ use super::{own, story};
 use crate::case::{bytes, damaged, packet, Case};
 use crate::hex;
 use crate::layout;
+use crate::recording::{Capture, Recording};
 
 /// The walk's Set Address for nodes 1 and 2.
 const FIRST: &str = "AA 00 21 01 FF 21";
@@ -19,36 +20,36 @@ const MARKED: &str = "02 02";
 type Run<'a> = (u32, &'a str);
 
 /// `50`, the runs of both lines.
-fn walk(n: u8, commands: &[Run], replies: &[Run]) -> String {
-    hex::format(&[vec![0x50, n], capture(commands), capture(replies)].concat())
+fn walk(nodes: u8, commands: &[Run], replies: &[Run]) -> String {
+    line_of(nodes, captured(commands), captured(replies))
 }
 
-/// CAPTURE.
-fn capture(runs: &[Run]) -> Vec<u8> {
-    let captured: Vec<(u32, Vec<u8>)> =
-        runs.iter().map(|(time, run)| (*time, bytes(run))).collect();
-    let all: Vec<u8> = captured.iter().flat_map(|(_, run)| run.clone()).collect();
-    let count = layout::wide::<2>(all.len());
-    let times = captured
-        .iter()
-        .flat_map(|(time, run)| time.to_le_bytes().repeat(run.len()));
-    [&count, &all[..], &count, &times.collect::<Vec<u8>>()].concat()
+fn captured(runs: &[Run]) -> Capture {
+    let mut capture = Capture::default();
+    for (time, run) in runs {
+        let run = bytes(run);
+        capture.times.extend(vec![*time; run.len()]);
+        capture.bytes.extend(run);
+    }
+    capture
 }
 
-/// Bytes that come at times of their own, a millisecond apart or more.
-fn timed(n: u8, commands: (&str, &[u32]), replies: (&str, &[u32])) -> String {
-    let capture = |(line, times): (&str, &[u32])| {
-        let (line, all) = (
-            bytes(line),
-            times.iter().flat_map(|time| time.to_le_bytes()),
-        );
-        let (b, t) = (
-            layout::wide::<2>(line.len()),
-            layout::wide::<2>(times.len()),
-        );
-        [&b, &line[..], &t, &all.collect::<Vec<u8>>()].concat()
+/// `50`, bytes and times by themselves.
+fn timed(nodes: u8, commands: (&str, &[u32]), replies: (&str, &[u32])) -> String {
+    let captured = |(line, times): (&str, &[u32])| Capture {
+        bytes: bytes(line),
+        times: times.to_vec(),
     };
-    hex::format(&[vec![0x50, n], capture(commands), capture(replies)].concat())
+    line_of(nodes, captured(commands), captured(replies))
+}
+
+fn line_of(nodes: u8, commands: Capture, replies: Capture) -> String {
+    let recording = Recording {
+        nodes,
+        commands,
+        replies,
+    };
+    hex::format(&[vec![0x50], layout::recording(&recording)].concat())
 }
 
 pub fn cases() -> Vec<Case> {

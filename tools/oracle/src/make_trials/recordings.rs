@@ -46,16 +46,7 @@ impl Story {
     }
 }
 
-/// `50 n CAPTURE CAPTURE`.
-pub fn line_of(recording: &Recording) -> Vec<u8> {
-    let (commands, replies) = (capture(&recording.commands), capture(&recording.replies));
-    [vec![0x50, recording.nodes], commands, replies].concat()
-}
-
-/// CAPTURE.
-fn capture(capture: &Capture) -> Vec<u8> {
-    let (b, t) = (capture.bytes.len(), capture.times.len());
-    let times = capture.times.iter().flat_map(|time| time.to_le_bytes());
-    let (b, t) = (layout::wide::<2>(b), layout::wide::<2>(t));
-    [&b, &capture.bytes[..], &t, &times.collect::<Vec<u8>>()].concat()
+/// `50`.
+fn line_of(recording: &Recording) -> Vec<u8> {
+    [vec![0x50], layout::recording(recording)].concat()
 }

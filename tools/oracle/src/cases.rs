@@ -1,5 +1,5 @@
-//! The stored cases: hand-written ones with a name each, then a generated
-//! block with a fixed seed. Within what each program reads.
+//! The stored cases: hand-written ones with a name each, and for the bench then
+//! a generated block with a fixed seed. Within what each program reads.
 
 use crate::bench::Bench;
 use crate::case::Case;
@@ -7,7 +7,6 @@ use crate::cases_bench;
 use crate::cases_trials;
 use crate::hex;
 use crate::make_bench;
-use crate::make_trials::Story;
 use crate::prng::Prng;
 use crate::rules::Rules;
 
@@ -16,11 +15,10 @@ pub const MOST_STORED: usize = hex::MOST_INPUT;
 
 /// What the stored trials input leaves free at least, for the cases of requests
 /// to come.
-pub const LEFT_FREE: usize = 4 * 1024;
+pub const LEFT_FREE: usize = 1024;
 
-/// The most lines of the generated blocks, and their seed.
+/// The most lines of the generated block, and its seed.
 const BENCH_LINES: usize = 1500;
-const TRIALS_LINES: usize = 150;
 const SEED: u64 = 773;
 
 /// The nodes of the stored bench input.
@@ -71,13 +69,10 @@ fn further_bench_bytes() -> usize {
     inputs.iter().map(|(_, input)| input.len()).sum()
 }
 
-/// The stored trials input. The last line lacks its newline.
+/// The stored trials input, all of it hand-written. The last line lacks its
+/// newline.
 pub fn trials() -> Vec<u8> {
     let mut input = text(&cases_trials::cases());
-    let mut story = Story::terse(SEED);
-    story.follow(&input);
-    let room = MOST_STORED - LEFT_FREE - input.len();
-    input.extend(story.lines(TRIALS_LINES, room));
     input.pop();
     input
 }

@@ -2,6 +2,7 @@
 
 mod chain;
 mod host;
+mod recordings;
 mod sheets;
 
 use std::collections::HashSet;
@@ -24,6 +25,7 @@ pub fn cases() -> Vec<Case> {
     cases.extend(host::cases());
     cases.extend(host::handed_in_cases());
     cases.extend(sheets::cases());
+    cases.extend(recordings::cases());
     cases.push(Case::new("lines of the wrong form", wrong_forms()));
     cases
 }

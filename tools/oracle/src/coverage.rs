@@ -1,11 +1,13 @@
-//! How often each number is answered and each command is tried, and how often
-//! a packet is read with bytes behind it.
+//! How often each number is answered and each command is tried, how often a
+//! packet is read with bytes behind it, and the same of recordings.
 
 use crate::bench::Bench;
 use crate::hex;
+use crate::layout::Cursor;
+use crate::recording::{self, Did};
 use crate::refusal::{Refusal, COLLISION, DONE};
 use crate::rules::Rules;
-use crate::trials::Trials;
+use crate::trials::{recordings, Trials};
 
 /// The answer to a line that the trials program can't read.
 const UNREADABLE: u8 = 0xFF;
@@ -18,7 +20,8 @@ pub fn answerable() -> Vec<u8> {
     numbers
 }
 
-/// Counts by number and by command byte, and of packets that are followed.
+/// Counts by number and by command byte, of packets that are followed, and of
+/// recordings.
 pub struct Coverage {
     pub lines: usize,
     /// Each number as itself; the last is the answer FF.
@@ -26,6 +29,12 @@ pub struct Coverage {
     pub commands: [usize; 256],
     /// Packets that are read with bytes behind them.
     pub followed: usize,
+    /// Lines `50`, by their numbers.
+    pub walked: [usize; 256],
+    /// Recordings that a command ends which the host couldn't have sent.
+    pub foreign: usize,
+    /// Commands that the host of a recording sends.
+    pub sent: [usize; 256],
 }
 
 impl Coverage {
@@ -35,6 +44,9 @@ impl Coverage {
             numbers: [0; 256],
             commands: [0; 256],
             followed: 0,
+            walked: [0; 256],
+            foreign: 0,
+            sent: [0; 256],
         }
     }
 
@@ -77,8 +89,30 @@ impl Coverage {
             let answer = hex::parse(Rules::RIGHT, answer.as_bytes()).unwrap_or_default();
             coverage.number(answer[0]);
             coverage.followed += usize::from(is_followed(&bytes, &answer));
+            if let [0x50, captured @ ..] = &bytes[..] {
+                coverage.walked[usize::from(answer[0])] += 1;
+                coverage.recording(captured);
+            }
         }
         coverage
+    }
+
+    /// What a line `50` hands back.
+    fn recording(&mut self, line: &[u8]) {
+        let Some(recording) = recordings::read(Rules::RIGHT, Cursor(line)) else {
+            return;
+        };
+        let Ok(walk) = recording::walk(Rules::RIGHT, &recording) else {
+            return;
+        };
+        self.foreign += usize::from(walk.foreign);
+        for step in &walk.steps {
+            if matches!(step.did, Did::Sent | Did::Closed) {
+                let byte = recording.bytes(step.part)[2];
+                self.sent[usize::from(byte)] += 1;
+                self.command(Some(&byte));
+            }
+        }
     }
 
     /// The counts, a line each.
@@ -93,16 +127,22 @@ impl Coverage {
             };
             text += &format!("number {name}: {count}\n");
         }
-        for (byte, count) in self
-            .commands
-            .iter()
-            .enumerate()
-            .filter(|(_, count)| **count > 0)
-        {
-            text += &format!("command byte {byte:02X}: {count}\n");
-        }
+        text += &listed("command byte", &self.commands);
+        let walked = self.walked[usize::from(DONE)];
+        text += &format!(
+            "recordings walked: {walked}, {} of them ended by a command\n",
+            self.foreign
+        );
+        text += &listed("recorded command byte", &self.sent);
         text
     }
+}
+
+/// The bytes that are met, a line each.
+fn listed(name: &str, counts: &[usize; 256]) -> String {
+    let met = counts.iter().enumerate().filter(|(_, count)| **count > 0);
+    met.map(|(byte, count)| format!("{name} {byte:02X}: {count}\n"))
+        .collect()
 }
 
 /// The number that a line of the bench program stands for.

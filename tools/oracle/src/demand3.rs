@@ -7,6 +7,9 @@
 //! next command. After each closed exchange three things are checked: what
 //! the host calls known is what the node holds; doubt is exactly what the
 //! history of sent and answered says; and no two nodes ever replied at once.
+//!
+//! What goes over both lines is heard along, so that recordings can be made of
+//! it (request 3).
 
 use crate::chain::{deliver, Delivery};
 use crate::command::{Command, Settings, COMMAND_BYTES};
@@ -91,6 +94,32 @@ pub fn run(rules: Rules, seed: u64, steps: usize) -> Result<Counts, Violation> {
     Ok(world.counts)
 }
 
+/// What a recorder at the host's end hears: a command as it is sent, a reply as
+/// it comes.
+#[derive(Clone, Debug, PartialEq, Eq)]
+pub enum Heard {
+    Command(Vec<u8>),
+    Reply(Vec<u8>),
+}
+
+/// What is heard from a power-up to the next, and the host at its end, in which
+/// an exchange may be open.
+#[derive(Clone, Debug)]
+pub struct Story {
+    pub heard: Vec<Heard>,
+    pub host: Session,
+}
+
+/// The stories of so many steps from a seed, in which demand 3 holds.
+pub fn stories(seed: u64, steps: usize) -> Vec<Story> {
+    let mut world = World::new(Rules::RIGHT, seed);
+    for _ in 0..steps {
+        world.step().expect("demand 3 holds");
+    }
+    world.end_story();
+    world.stories
+}
+
 type Step = Result<(), String>;
 
 /// Host, chain, line and history.
@@ -105,6 +134,8 @@ struct World {
     faults: usize,
     history: History,
     story: Vec<String>,
+    heard: Vec<Heard>,
+    stories: Vec<Story>,
     counts: Counts,
 }
 
@@ -119,7 +150,18 @@ impl World {
             faults: 0,
             history: History::default(),
             story: Vec::new(),
+            heard: Vec::new(),
+            stories: Vec::new(),
             counts: Counts::default(),
+        }
+    }
+
+    /// What was heard since the last power-up, if there was one.
+    fn end_story(&mut self) {
+        let heard = std::mem::take(&mut self.heard);
+        if self.counts.power_ups > 0 {
+            let host = self.host.clone();
+            self.stories.push(Story { heard, host });
         }
     }
 
@@ -141,6 +183,7 @@ impl World {
         } else {
             self.prng.between(1, MOST_NODES)
         };
+        self.end_story();
         let nodes = vec![Node::powered_up(BenchValues::ZERO); usize::from(n)];
         self.chain = nodes;
         self.faults = self.prng.pick(&[0, 2, 6, 15]);
@@ -151,6 +194,7 @@ impl World {
         self.check()?;
         if self.prng.percent(10) {
             self.story.push("a late reply nobody waits for".to_string());
+            self.heard.push(Heard::Reply(vec![0, 0]));
             self.expect_number(8, |host| host.report(&[0, 0]).map(|()| 0))?;
         }
         Ok(())
@@ -188,10 +232,16 @@ impl World {
         self.counts.sent += 1;
         self.story
             .push(format!("{call}: {}", hex::format(&buffer[..length])));
+        self.heard.push(Heard::Command(buffer[..length].to_vec()));
         if let Exchange::Waiting { target, command } = self.host.exchange {
             self.history.send(target, command, before.walks());
         }
-        self.carry(&buffer[..length])
+        self.carry(&buffer[..length])?;
+        if !self.host.waits() && !self.reply.is_empty() {
+            // To a Hard Reset that was changed on its way.
+            self.heard.push(Heard::Reply(self.reply.clone()));
+        }
+        Ok(())
     }
 
     fn unchanged(&self, before: &Session) -> Step {
@@ -302,6 +352,7 @@ impl World {
             self.story
                 .push(format!("  answered {}", hex::format(&reply)));
             self.counts.answered += 1;
+            self.heard.push(Heard::Reply(reply.clone()));
             self.expect_number(0, |host| host.report(&reply).map(|()| 0))?;
         }
         self.history.answer(&reply);

@@ -1,10 +1,11 @@
 //! The byte layouts of the `trials` program: wide numbers, NODE, ENTRY,
-//! EXCHANGE, STATE.
+//! EXCHANGE, STATE, CAPTURE.
 //! Every wide value goes least significant byte first.
 
 use crate::command::{Command, Held, Place, Settings};
 use crate::node::{BenchValues, Captured, Node};
 use crate::record::{Entry, ALL_KNOWN};
+use crate::recording::{Capture, Recording};
 use crate::rules::Rules;
 use crate::session::{Exchange, Session};
 use crate::target::Target;
@@ -43,7 +44,8 @@ impl<'a> Cursor<'a> {
         self.bytes().map(u16::from_le_bytes)
     }
 
-    fn long(&mut self) -> Option<u32> {
+    /// A number of four bytes.
+    pub fn long(&mut self) -> Option<u32> {
         self.bytes().map(u32::from_le_bytes)
     }
 
@@ -240,4 +242,19 @@ pub fn session(session: &Session) -> Vec<u8> {
         bytes.extend(entry(one));
     }
     bytes
+}
+
+/// CAPTURE, `b(2) byte*b t(2) time(4)*t`.
+fn capture(capture: &Capture) -> Vec<u8> {
+    let mut bytes = wide::<2>(capture.bytes.len()).to_vec();
+    bytes.extend(&capture.bytes);
+    bytes.extend(wide::<2>(capture.times.len()));
+    bytes.extend(capture.times.iter().flat_map(|time| time.to_le_bytes()));
+    bytes
+}
+
+/// `n CAPTURE CAPTURE`, the command line first.
+pub fn recording(recording: &Recording) -> Vec<u8> {
+    let captures = [&recording.commands, &recording.replies].map(capture);
+    [vec![recording.nodes], captures.concat()].concat()
 }

@@ -5,8 +5,11 @@ use std::process::ExitCode;
 
 use oracle::coverage::Coverage;
 use oracle::rules::Rules;
-use oracle::{bench, cases, cases_bench, cases_sheets, demand3, edges, export, first, import};
-use oracle::{make_bench, make_play, make_sheets, make_trials, manuals, play, trials};
+use oracle::{
+    bench, cases, cases_bench, cases_replay, cases_sheets, demand3, edges, export, first,
+};
+use oracle::{import, make_bench, make_play, make_replay, make_sheets, make_trials, manuals};
+use oracle::{play, replay, trials};
 
 const USAGE: &str = "\
 oracle bench                    a bench input in, what the bench must print out
@@ -16,20 +19,23 @@ oracle first                    what first must print out
 oracle import                   a sheet in, its packets out
 oracle export                   packets in, their sheet out
 oracle play                     a node count and a sheet in, what the bench prints out
+oracle replay                   a recording in, what is said of its packets out
 oracle make-bench SEED LINES    a seeded bench input
 oracle make-trials SEED LINES   a seeded trials input
 oracle make-import SEED LINES   a seeded sheet; make-export, a list of packets;
                                 make-play, a count and a sheet
+oracle make-replay SEED PACKETS a seeded recording
 oracle cases-bench [NAME]       the stored bench input, or a further one
 oracle cases-bench list         the names of the further bench inputs
 oracle cases-trials             the stored trials input
-oracle cases-import [NAME|list] the same for import; cases-export; cases-play
+oracle cases-import [NAME|list] the same for import; cases-export; cases-play;
+                                cases-replay
 oracle manuals                  the packets printed in the manuals, as read
 oracle demand3 SEED STEPS       demand 3 tried over a faulty line
 oracle coverage bench|trials    numbers and commands that an input tries
 ";
 
-/// The status of a sheet or list that is refused.
+/// The status of a sheet, list or recording that is refused.
 const REFUSED: u8 = 3;
 
 /// What a run writes, to standard output and to standard error, and the status
@@ -90,6 +96,7 @@ fn run(words: &[&str]) -> Option<Output> {
         ["import"] => return Some(Output::of(import::run(Rules::RIGHT, &input()))),
         ["export"] => return Some(Output::of(export::run(Rules::RIGHT, &input()))),
         ["play"] => return Some(Output::of(play::run(Rules::RIGHT, &input()))),
+        ["replay"] => return Some(Output::of(replay::run(Rules::RIGHT, &input()))),
         ["make-bench", seed, lines] => make_bench::make(seed.parse().ok()?, lines.parse().ok()?),
         ["make-trials", seed, lines] => make_trials::make(seed.parse().ok()?, lines.parse().ok()?),
         ["make-import", seed, lines] => {
@@ -99,6 +106,9 @@ fn run(words: &[&str]) -> Option<Output> {
             make_sheets::make_export(seed.parse().ok()?, packets.parse().ok()?)
         }
         ["make-play", seed, lines] => make_play::make(seed.parse().ok()?, lines.parse().ok()?),
+        ["make-replay", seed, packets] => {
+            make_replay::make(seed.parse().ok()?, packets.parse().ok()?)
+        }
         ["cases-bench"] => cases::bench(),
         ["cases-bench", name] => further(cases_bench::further_inputs(), name)?,
         ["cases-trials"] => cases::trials(),
@@ -108,6 +118,8 @@ fn run(words: &[&str]) -> Option<Output> {
         ["cases-export", name] => further(cases_sheets::further_exports(), name)?,
         ["cases-play"] => cases_sheets::play(),
         ["cases-play", name] => further(cases_sheets::further_plays(), name)?,
+        ["cases-replay"] => cases_replay::stored(),
+        ["cases-replay", name] => further(cases_replay::further(), name)?,
         ["manuals"] => manuals::list().into_bytes(),
         ["demand3", seed, steps] => return simulate(seed.parse().ok()?, steps.parse().ok()?),
         ["coverage", "bench"] => Coverage::of_bench(&input()).text().into_bytes(),

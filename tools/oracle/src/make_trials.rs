@@ -1,7 +1,8 @@
-//! Seeded inputs for the `trials` program: packets, deliveries, sheets and long
-//! host stories in which most calls make sense.
+//! Seeded inputs for the `trials` program: packets, deliveries, sheets,
+//! recordings and long host stories in which most calls make sense.
 
 mod host;
+mod recordings;
 mod sheets;
 
 use crate::chain::{deliver, Delivery};
@@ -18,7 +19,9 @@ use crate::status::{item_bytes, seal};
 use crate::trials::{Trials, MOST_RECORDS, MOST_ROOM};
 
 /// First bytes that try nothing.
-const UNKNOWN_KINDS: [u8; 9] = [0x00, 0x0F, 0x13, 0x1F, 0x21, 0x2F, 0x39, 0x44, 0xFF];
+const UNKNOWN_KINDS: [u8; 11] = [
+    0x00, 0x0F, 0x13, 0x1F, 0x21, 0x2F, 0x39, 0x44, 0x4F, 0x51, 0xFF,
+];
 
 /// An input of at most so many lines, within 64 KiB.
 pub fn make(seed: u64, lines: usize) -> Vec<u8> {
@@ -39,8 +42,6 @@ pub struct Story {
     show: bool,
     /// What an import gave, to be exported next.
     imported: Option<Vec<u8>>,
-    /// Whether the lines that take much room are left out.
-    terse: bool,
 }
 
 impl Story {
@@ -50,22 +51,6 @@ impl Story {
             model: Trials::new(Rules::RIGHT),
             show: false,
             imported: None,
-            terse: false,
-        }
-    }
-
-    /// A story without long tables, sheets and sessions handed in.
-    pub fn terse(seed: u64) -> Story {
-        Story {
-            terse: true,
-            ..Story::new(seed)
-        }
-    }
-
-    /// Takes up where other lines leave the session.
-    pub fn follow(&mut self, input: &[u8]) {
-        for line in hex::lines(input) {
-            self.model.answer(line);
         }
     }
 
@@ -107,7 +92,8 @@ impl Story {
             11..=14 => self.status_line(),
             15..=20 => self.delivery_line(),
             21 => vec![self.prng.pick(&UNKNOWN_KINDS), self.prng.byte()],
-            22..=26 if !self.terse => self.sheet_line(),
+            22..=26 => self.sheet_line(),
+            27..=28 => self.recording_line(),
             _ => self.host_line(),
         }
     }
@@ -196,7 +182,6 @@ impl Story {
     /// A table of 0 to 33 records, mostly short and in range.
     fn table(&mut self) -> Vec<Node> {
         let length = match self.prng.below(100) {
-            _ if self.terse => self.prng.between(1, 2),
             0..=2 => 0,
             3 => 31,
             4 => self.prng.pick(&[32, MOST_RECORDS]),

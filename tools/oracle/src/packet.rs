@@ -13,6 +13,9 @@ pub const OVERHEAD: usize = 4;
 /// The most data bytes that the high nibble can count.
 pub const MOST_DATA: usize = 15;
 
+/// The bytes of the longest packet.
+pub const MOST_PACKET: usize = OVERHEAD + MOST_DATA;
+
 /// A packet of the right form. `intact` tells whether its sum is right: the
 /// chain takes damaged packets too, reading does not. `end` tells where it ends
 /// among the bytes that it stands at the start of.

@@ -1,5 +1,5 @@
 //! "Numbers returned": the one table of numbers that every call answers with,
-//! and the number that request 1 adds.
+//! and those that requests 1 and 3 add.
 
 /// A call was done; also the number of a chain that stayed silent.
 pub const DONE: u8 = 0;
@@ -36,6 +36,8 @@ refusals! {
     LeaderForbidden = 11,
     SessionClosed = 12,
     NotAHexLine = 14,
+    CountsDiffer = 15,
+    TimeFalls = 16,
 }
 
 impl Refusal {

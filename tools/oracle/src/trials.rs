@@ -1,5 +1,6 @@
 //! The answers of the `trials` program: one line in, one line out.
 
+pub mod recordings;
 pub mod sheets;
 
 use crate::chain::{deliver, Delivery};
@@ -8,8 +9,9 @@ use crate::hex;
 use crate::layout::{self, Cursor};
 use crate::node::Node;
 use crate::packet;
+use crate::recording;
 use crate::refusal::{number_of, Refusal, COLLISION, DONE};
-use crate::rules::Rules;
+use crate::rules::{Mistake, Rules};
 use crate::session::Session;
 use crate::status;
 
@@ -78,6 +80,7 @@ impl Trials {
             0x41 => sheets::export(self.rules, line),
             0x42 => sheets::long_import(self.rules, line),
             0x43 => sheets::long_export(self.rules, line),
+            0x50 => self.walk(line),
             _ => None,
         }
     }
@@ -188,6 +191,19 @@ impl Trials {
         line.end()?;
         self.session = session;
         Some(vec![DONE])
+    }
+}
+
+/// Recordings.
+impl Trials {
+    /// "The session of `30` to `38` isn't touched."
+    fn walk(&mut self, line: Cursor) -> Option<Vec<u8>> {
+        let recording = recordings::read(self.rules, line)?;
+        let walked = recording::walk(self.rules, &recording);
+        if let (Ok(walk), true) = (&walked, self.rules.slips(Mistake::RecordingKept)) {
+            self.session = walk.session.clone();
+        }
+        Some(recordings::answer(self.rules, &walked))
     }
 }
 

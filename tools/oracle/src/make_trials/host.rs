@@ -15,7 +15,7 @@ impl Story {
     pub fn host_line(&mut self) -> Vec<u8> {
         self.show = self.prng.percent(60);
         match self.prng.below(100) {
-            0..=1 if !self.terse => return self.hand_in(),
+            0..=1 => return self.hand_in(),
             2..=9 => return self.any_call(),
             _ => {}
         }

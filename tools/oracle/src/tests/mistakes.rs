@@ -6,7 +6,8 @@ use super::fingerprint;
 use crate::cases::{self, line_names};
 use crate::cases_sheets::{self, further_exports, further_imports, further_plays, Named};
 use crate::rules::{Mistake, Rules, ALL};
-use crate::{bench, cases_bench, cases_trials, demand3, edges, export, hex, import, play, trials};
+use crate::{bench, cases_bench, cases_replay, cases_trials, demand3, edges, export, hex, import};
+use crate::{play, replay, trials};
 
 /// The seed and the steps of demand 3 that each mistake is tried on.
 const DEMAND3: (u64, usize) = (1, 12_000);
@@ -83,8 +84,9 @@ fn edges_calls() -> Tried {
 /// A program whose answer is bytes, or the line that a refusal is told by.
 type Program = fn(Rules, &[u8]) -> Result<Vec<u8>, String>;
 
-/// The programs for sheets, each with its stored input and the further ones.
-fn sheet_programs() -> Vec<(&'static str, Program, Vec<Named>)> {
+/// The programs for sheets and recordings, each with its stored input and the
+/// further ones.
+fn whole_programs() -> Vec<(&'static str, Program, Vec<Named>)> {
     let stored = |input, further| [vec![("stored", input)], further].concat();
     vec![
         (
@@ -102,13 +104,18 @@ fn sheet_programs() -> Vec<(&'static str, Program, Vec<Named>)> {
             play::run,
             stored(cases_sheets::play(), further_plays()),
         ),
+        (
+            "replay",
+            replay::run,
+            stored(cases_replay::stored(), cases_replay::further()),
+        ),
     ]
 }
 
 /// One answer for each of their inputs, told by its fingerprint.
-fn sheet_answers(rules: Rules) -> String {
+fn whole_answers(rules: Rules) -> String {
     let mut text = String::new();
-    for (_, run, inputs) in sheet_programs() {
+    for (_, run, inputs) in whole_programs() {
         for (_, input) in inputs {
             text += &match run(rules, &input) {
                 Ok(bytes) => format!("{:016X}\n", fingerprint(&bytes)),
@@ -120,12 +127,12 @@ fn sheet_answers(rules: Rules) -> String {
 }
 
 /// Their inputs, named by program and input.
-fn sheet_inputs() -> Tried {
+fn whole_inputs() -> Tried {
     let mut names = Vec::new();
-    for (program, _, inputs) in sheet_programs() {
+    for (program, _, inputs) in whole_programs() {
         names.extend(inputs.iter().map(|(name, _)| format!("{program}, {name}")));
     }
-    Tried::new(Vec::new(), names, |rules, _| sheet_answers(rules))
+    Tried::new(Vec::new(), names, |rules, _| whole_answers(rules))
 }
 
 fn in_demand3(rules: Rules) -> bool {
@@ -142,7 +149,7 @@ fn cell(found: &Option<(usize, String)>) -> String {
 /// The table of README.md.
 fn table() -> String {
     let (bench, trials) = (bench_inputs(), trials_input());
-    let (edges, sheets) = (edges_calls(), sheet_inputs());
+    let (edges, whole) = (edges_calls(), whole_inputs());
     let mut text = String::new();
     for (mistake, meaning) in ALL {
         let rules = Rules::with(*mistake);
@@ -152,7 +159,7 @@ fn table() -> String {
             cell(&in_bench),
             cell(&trials.differences(rules)),
             cell(&edges.differences(rules)),
-            cell(&sheets.differences(rules)),
+            cell(&whole.differences(rules)),
             if in_demand3(rules) { "yes" } else { "-" }
         );
     }
@@ -211,6 +218,24 @@ fn ends_are_noticed_in_their_own_lines() {
             let known = |kind: &String| kind == own || others.contains(&kind.as_str());
             assert!(kinds.iter().all(known), "{mistake:?}: {kinds:?}");
         }
+    }
+}
+
+/// What is wrong about recordings alone changes no other line of `trials`, but
+/// for what a session that is kept changes.
+#[test]
+fn recordings_are_noticed_in_their_own_lines() {
+    let trials = trials_input();
+    let first = Mistake::CountsBeforeNodes as usize;
+    let last = Mistake::RecordingLeftOver as usize;
+    for (mistake, meaning) in &ALL[first..=last] {
+        let kinds = trials.kinds_differing(Rules::with(*mistake));
+        assert!(
+            kinds.contains("50") || *mistake == Mistake::RecordingKept,
+            "{meaning}"
+        );
+        let own = |kind: &String| kind == "50" || *mistake == Mistake::RecordingKept;
+        assert!(kinds.iter().all(own), "{meaning}: {kinds:?}");
     }
 }
 

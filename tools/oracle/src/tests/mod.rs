@@ -4,6 +4,8 @@ mod examples;
 mod mistakes;
 mod programs;
 mod properties;
+mod recordings;
+mod replay;
 mod sheets;
 mod shows;
 mod stored;

@@ -196,6 +196,7 @@ fn numbers_keep_to_their_calls() {
                 Some(0x37 | 0x38) => &[0],
                 Some(0x40 | 0x42) => &[0, 5, 6, 14],
                 Some(0x41 | 0x43) => &[0, 1, 2, 4, 5],
+                Some(0x50) => &[0, 6, 15, 16],
                 _ => &[],
             };
             assert!(number == 0xFF || own.contains(&number), "{call:02X?}");

@@ -12,7 +12,8 @@ use crate::hex::{self, MOST_INPUT};
 use crate::layout::NODE_BYTES;
 use crate::manuals::{self, DOCUMENTS, PRINTED, PRINTED_STATUS};
 use crate::node::{BenchValues, Node};
-use crate::{cases_sheets, layout, make_bench, make_play, make_sheets, make_trials};
+use crate::{cases_replay, cases_sheets, layout};
+use crate::{make_bench, make_play, make_replay, make_sheets, make_trials};
 
 #[test]
 fn the_stored_inputs_fit() {
@@ -27,7 +28,7 @@ fn the_stored_bench_input_covers() {
     for number in [0, 1, 2, 3, 6, 13] {
         assert!(coverage.numbers[number] >= 20, "number {number}");
     }
-    assert_all_commands(&coverage);
+    assert_all_commands(&coverage, 10);
 }
 
 #[test]
@@ -38,13 +39,28 @@ fn the_stored_trials_input_covers() {
         assert!(count >= 5, "number {number}: {count}");
     }
     assert!(coverage.followed >= 25);
-    assert_all_commands(&coverage);
+    assert_all_commands(&coverage, 8);
 }
 
-/// All eleven kinds, and every nibble in some way.
-fn assert_all_commands(coverage: &Coverage) {
+/// Recordings: walked and refused by each number, ended by a command, and with
+/// each of the eleven commands sent.
+#[test]
+fn the_stored_recordings_cover() {
+    let coverage = Coverage::of_trials(&cases::trials());
+    for number in [0, 6, 15, 16] {
+        let count = coverage.walked[number];
+        assert!(count >= 4, "number {number}: {count}");
+    }
+    assert!(coverage.foreign >= 12, "{} ended", coverage.foreign);
     for byte in COMMAND_BYTES {
-        assert!(coverage.commands[usize::from(byte)] >= 10, "{byte:02X}");
+        assert!(coverage.sent[usize::from(byte)] >= 1, "{byte:02X}");
+    }
+}
+
+/// All eleven kinds so often at least, and every nibble in some way.
+fn assert_all_commands(coverage: &Coverage, least: usize) {
+    for byte in COMMAND_BYTES {
+        assert!(coverage.commands[usize::from(byte)] >= least, "{byte:02X}");
     }
     for nibble in 0..16 {
         assert!((0..16).any(|count| coverage.commands[count << 4 | nibble] > 0));
@@ -53,8 +69,8 @@ fn assert_all_commands(coverage: &Coverage) {
 
 #[test]
 fn made_inputs_cover_and_fit() {
-    let mut numbers = [0; 256];
-    let mut followed = 0;
+    let (mut numbers, mut walked, mut sent) = ([0; 256], [0; 256], [0; 256]);
+    let (mut followed, mut foreign) = (0, 0);
     for seed in 0..20 {
         let input = make_trials::make(seed, 5000);
         assert!(input.len() <= MOST_INPUT);
@@ -63,6 +79,13 @@ fn made_inputs_cover_and_fit() {
             *sum += count;
         }
         followed += coverage.followed;
+        for (sum, count) in walked.iter_mut().zip(coverage.walked) {
+            *sum += count;
+        }
+        for (sum, count) in sent.iter_mut().zip(coverage.sent) {
+            *sum += count;
+        }
+        foreign += coverage.foreign;
         assert!(make_bench::make(seed, 9000).len() <= MOST_INPUT);
     }
     for number in answerable() {
@@ -70,6 +93,15 @@ fn made_inputs_cover_and_fit() {
         assert!(count >= 40, "number {number}: {count}");
     }
     assert!(followed >= 400, "{followed} packets with bytes behind");
+    for number in [0, 6, 15, 16] {
+        let count = walked[number];
+        assert!(count >= 10, "recordings, number {number}: {count}");
+    }
+    assert!(foreign >= 20, "{foreign} recordings ended by a command");
+    for byte in COMMAND_BYTES {
+        let count = sent[usize::from(byte)];
+        assert!(count >= 1, "recorded {byte:02X}: {count}");
+    }
 }
 
 /// Most lines of a made input are the host's calls, whatever else it tries.
@@ -93,23 +125,27 @@ fn made_inputs_are_stable() {
         fingerprint(&make_sheets::make_import(1, 300)),
         fingerprint(&make_sheets::make_export(1, 300)),
         fingerprint(&make_play::make(1, 300)),
+        fingerprint(&make_replay::make(1, 300)),
         fingerprint(&cases::bench()),
         fingerprint(&cases::trials()),
         fingerprint(&cases_sheets::import()),
         fingerprint(&cases_sheets::export()),
         fingerprint(&cases_sheets::play()),
+        fingerprint(&cases_replay::stored()),
     ];
     let expected = [
         0x3E1C_381E_B7F6_FFEC,
-        0xA047_3B48_E9AB_83A5,
+        0x1E8D_8B01_7CE5_3B94,
         0xDF8F_A4B1_9618_979E,
         0x0EED_5718_76AB_3719,
         0xB202_D76B_1410_CCCC,
+        0x5164_562C_DB06_877B,
         0x5EF9_F4DE_D119_2409,
-        0xDAAA_95ED_40E7_A1A9,
+        0x4E14_32DC_EDEF_E437,
         0xE8E1_26BD_0890_90B0,
         0x96CB_430D_A3BA_0619,
         0xC638_55EC_D4C2_B67A,
+        0xAD0B_F394_B5BE_CE4D,
     ];
     assert_eq!(sums, expected, "{sums:#018X?}");
 }

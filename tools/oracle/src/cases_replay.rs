@@ -1,0 +1,380 @@
+//! Hand-written inputs for the program `replay`: one that is stored, and
+//! further ones under names of their own.
+
+use crate::case::{damaged, packet};
+use crate::cases_sheets::Named;
+use crate::make_replay::fill_up;
+use crate::replay::text::MOST_TEXT;
+
+/// `shows/lost-reply.txt`: a pass whose reply was lost, and a fast tap. At
+/// 19,200 baud a byte takes half a millisecond.
+pub const LOST_REPLY: &str = "\
+2
+> 0 AA 00
+> 1 21 01
+> 2 FF 21
+< 6 00 00
+> 20 AA 00
+> 21 21 02
+> 22 FF 22
+< 26 00 00
+> 1000 AA 01
+> 1001 26 01
+> 1002 00 28
+< 1006 00 00
+> 1750 AA 02
+> 1751 26 01
+> 1752 00 29
+> 1790 AA 01
+> 1791 26 00
+> 1792 00 27
+< 1796 00 00
+";
+
+/// `shows/ask.txt`: a walk whose first reply is lost, an ask, a group with a
+/// leader, a reply that isn't clear, one that nobody waits for, and a wish for
+/// a second leader, which the host refuses.
+pub const ASK: &str = "\
+2
+> 0 AA 00
+> 1 21 01
+> 2 FF 21
+> 50 AA 01
+> 51 0E 0F
+< 55 00 00
+> 60 AA 00
+> 61 21 02
+> 62 FF 22
+< 66 00 00
+> 100 AA 01
+> 101 21 01
+> 102 00 23
+< 106 00 00
+> 110 AA 02
+> 111 21 02
+> 112 80 A5
+< 116 00 00
+> 200 AA 80
+> 201 47 05
+> 202 00 40
+> 203 41 4D
+< 207 02 02
+> 220 AA 80
+> 221 47 05
+> 222 00 40
+> 223 41 4D
+< 227 00 00
+> 240 AA 80
+> 241 05 85
+< 245 00 00
+< 300 00 00
+> 400 AA 02
+> 401 21 02
+> 402 00 25
+< 406 00 00
+";
+
+/// Commands as address, command byte and data, to which header and sum are put,
+/// and replies; each packet at its time.
+const STORY: [(char, u32, &str); 63] = [
+    // The walk: a reply before any command, not clear, sent again, a second
+    // reply; silence and asks; a reply that isn't good.
+    ('<', 0, "00"),
+    ('>', 5, "00 21 01 FF"),
+    ('<', 9, "02 02"),
+    ('>', 12, "00 21 01 FF"),
+    ('<', 16, "00 00"),
+    ('<', 19, "00 00"),
+    ('>', 21, "00 21 02 FF"),
+    ('>', 27, "02 0E"),
+    ('<', 30, "02 02"),
+    ('>', 33, "02 0E"),
+    ('>', 36, "02 0E"),
+    ('<', 36, "FD FD"),
+    ('>', 40, "00 21 03 FF"),
+    ('<', 44, "00 01"),
+    ('>', 50, "03 0E"),
+    ('<', 54, "00 00"),
+    // A group with a leader; replies with items; the longest, and one longer.
+    ('>', 100, "01 21 01 00"),
+    ('<', 104, "00 00"),
+    ('>', 110, "02 21 02 80"),
+    ('<', 114, "00 00"),
+    ('>', 120, "01 12 41"),
+    ('<', 124, "00 00 00 00 00 00"),
+    ('>', 130, "01 13 FF"),
+    (
+        '<',
+        134,
+        "00 01 02 03 04 05 06 07 08 09 0A 0B 0C 0D 0E 0F 10 11 99",
+    ),
+    ('>', 160, "02 12 20"),
+    (
+        '<',
+        164,
+        "00 01 02 03 04 05 06 07 08 09 0A 0B 0C 0D 0E 0F 10 11 12 AB",
+    ),
+    ('>', 200, "80 24 40 41"),
+    ('<', 204, "00 00"),
+    ('>', 210, "03 26 05 91"),
+    ('>', 220, "80 47 07 00 11 22"),
+    ('>', 230, "80 05"),
+    ('<', 234, "00 00"),
+    ('>', 240, "80 47 08 01 33 44"),
+    ('<', 244, "00 00"),
+    ('>', 250, "80 05"),
+    ('<', 254, "00 00"),
+    ('>', 260, "80 26 08 01"),
+    ('<', 264, "00 00"),
+    // A place in doubt: a group's command reaches it, and no reply tells.
+    ('>', 300, "03 21 03 10"),
+    ('>', 310, "80 26 FF 00"),
+    ('<', 314, "00 00"),
+    ('>', 320, "90 18 CD"),
+    ('>', 330, "03 0E"),
+    ('<', 334, "01 01"),
+    ('>', 340, "03 21 03 10"),
+    ('<', 344, "00 00"),
+    ('>', 350, "90 18 01"),
+    ('<', 354, "00 00"),
+    ('>', 360, "FF 0C"),
+    ('>', 370, "02 0C"),
+    ('<', 374, "00 00"),
+    ('>', 380, "02 18 02"),
+    ('<', 384, "02 04"),
+    ('>', 390, "01 24 01 02"),
+    ('<', 394, "02"),
+    ('<', 397, "02 02"),
+    ('>', 400, "02 26 AA AA"),
+    ('<', 402, "02 00 00 02"),
+    ('>', 410, "02 26 AA AA"),
+    ('<', 412, "00 00 00 00"),
+    ('>', 420, "03 05"),
+    ('>', 4_294_967_290, "FF 0F"),
+    ('<', 4_294_967_295, "00 00"),
+];
+
+/// A run's line for a packet that comes at one time.
+fn run(mark: char, time: u32, bytes: &str) -> String {
+    let bytes = match mark {
+        '>' => packet(bytes),
+        _ => bytes.to_string(),
+    };
+    format!("{mark} {time} {bytes}\n")
+}
+
+/// The stored input: all eleven commands, accepted up to the end of the
+/// recording. One packet is several runs, and the last line lacks its newline.
+pub fn stored() -> Vec<u8> {
+    let runs: String = STORY
+        .iter()
+        .map(|(mark, time, bytes)| run(*mark, *time, bytes))
+        .collect();
+    let several = runs.replace(
+        "> 40 AA 00 21 03 FF 23\n",
+        "> 40 AA 00\n> 41 21\n> 41 03 FF\n> 42 23\n",
+    );
+    format!("3\n{}", several.trim_end()).into_bytes()
+}
+
+/// Further inputs: the recordings of `shows/`, endings of each sort, what is
+/// refused and in which sequence, and sizes about 64 KiB.
+pub fn further() -> Vec<Named> {
+    let mut inputs = told_whole();
+    inputs.extend(ended_by_a_command());
+    inputs.extend(refused());
+    inputs.extend(sizes());
+    inputs
+        .into_iter()
+        .map(|(name, input)| (name, input.into_bytes()))
+        .collect()
+}
+
+type Texts = Vec<(&'static str, String)>;
+
+/// Up to the end of the recording.
+fn told_whole() -> Texts {
+    let ready = walk(2);
+    vec![
+        ("lost-reply", LOST_REPLY.to_string()),
+        ("ask", ASK.to_string()),
+        (
+            "document",
+            "2\n> 0 AA 00 21 01\n> 1 FF 21\n< 4 00 00\n".to_string(),
+        ),
+        ("count-alone", "2".to_string()),
+        ("count-ended", "31\n".to_string()),
+        ("one-node", walk(1)),
+        ("walk-of-31", walk(31)),
+        ("unended", ready.trim_end().to_string()),
+        (
+            "silent-at-the-end",
+            format!("{ready}> 50 AA 02 26 05 00 2D\n"),
+        ),
+        ("nothing-in-doubt", format!("{ready}> 50 AA 02 0E 10\n")),
+        ("walk-silent", "2\n> 0 AA 00 21 01 FF 21\n".to_string()),
+        (
+            "replies-alone",
+            "2\n< 0 00 00\n< 1 00\n< 3 02 02\n".to_string(),
+        ),
+        ("closed", format!("{ready}> 50 AA 01 0F 10\n< 51 02 02\n")),
+        (
+            "last-time",
+            "1\n> 4294967295 AA 00 21 01 FF 21\n< 4294967295 00 00\n".to_string(),
+        ),
+        (
+            "equal-times",
+            "2\n> 0 AA 00 21 01 FF 21\n> 9 AA 01 0E 0F\n< 9 00 00\n".to_string(),
+        ),
+        // How runs of one line stand between those of the other is all one.
+        (
+            "replies-first",
+            "1\n< 4 00\n< 4 00\n> 0 AA\n> 0 00 21 01\n> 1 FF\n> 2 21\n".to_string(),
+        ),
+        (
+            "gap-in-reply",
+            "1\n> 0 AA 00 21 01 FF 21\n< 3 00\n< 5 00 00\n".to_string(),
+        ),
+    ]
+}
+
+/// Ended by a command that the host couldn't have sent, with something behind.
+fn ended_by_a_command() -> Texts {
+    let by = |command: &str| {
+        let ready = walk(2);
+        format!("{ready}> 50 {command}\n< 80 00 00\n> 90 AA 01 0E 0F\n")
+    };
+    let at_once = |command: &str| format!("2\n> 0 {command}\n");
+    vec![
+        ("not-wrong-sum", by(&damaged("01 0E"))),
+        ("not-cut-short", by("AA 01 26 05 00")),
+        ("not-no-header", by("01 0E 0F")),
+        ("not-left-over", by("AA 01 0E 0F 00")),
+        ("not-two-at-once", by("AA 01 0E 0F\n> 51 AA 02 0E 10")),
+        ("not-a-gap-inside", by("AA 02\n> 52 0E 10")),
+        ("not-another", by(&packet("01 1A 3F"))),
+        ("not-another-count", by(&packet("01 1E 00"))),
+        ("not-another-to-all", by(&packet("FF 03"))),
+        ("not-node-3", by(&packet("03 0E"))),
+        ("not-node-16", by(&packet("10 26 34 12"))),
+        ("not-node-127", by(&packet("7F 0F"))),
+        ("not-address-00", by(&packet("00 0E"))),
+        ("not-set-again", by(&packet("00 21 03 FF"))),
+        ("not-its-address", by(&packet("01 21 02 80"))),
+        ("not-high-address", by(&packet("01 21 81 FF"))),
+        ("not-to-group", by(&packet("FF 21 01 00"))),
+        (
+            "not-second-leader",
+            by("AA 01 21 01 00 23\n< 51 00 00\n> 53 AA 02 21 02 00 25"),
+        ),
+        (
+            "not-in-doubt-leader",
+            by("AA 01 21 01 00 23\n> 53 AA 02 21 02 01 26"),
+        ),
+        ("not-after-reset", by("AA FF 0F 0E")),
+        ("not-while-waiting", by("AA 02 26 05 00 2D\n> 53 AA 02")),
+        ("not-in-walk", at_once("AA 01 0E 0F")),
+        ("not-reset-in-walk", at_once("AA FF 0F 0E")),
+        ("not-in-order", at_once("AA 00 21 02 FF 22")),
+        (
+            "not-again-after-silence",
+            at_once("AA 00 21 01 FF 21\n> 9 AA 00 21 01 FF 21"),
+        ),
+    ]
+}
+
+/// Each test in its sequence.
+fn refused() -> Texts {
+    let one = |line: &str| format!("2\n> 5 AA\n{line}\n> 6 01\n");
+    vec![
+        ("empty", String::new()),
+        ("newline-alone", "\n".to_string()),
+        ("count-0", "0\n> 0 AA\n".to_string()),
+        ("count-32", "32\n".to_string()),
+        ("count-02", "02\n".to_string()),
+        ("count-return", "2\r\n> 0 AA\n".to_string()),
+        ("no-count", "> 0 AA\n".to_string()),
+        ("bad-count-and-line", "0\n\n".to_string()),
+        ("blank-line", one("")),
+        ("blank-last", "2\n> 0 AA\n\n".to_string()),
+        ("return", "2\n> 0 AA\n> 5 AA\r\n".to_string()),
+        ("other-mark", one("= 5 AA")),
+        ("mark-alone", one(">")),
+        ("no-mark", one("5 AA")),
+        ("mark-joined", one(">5 AA")),
+        ("no-bytes", one("> 5")),
+        ("no-bytes-but-a-space", one("> 5 ")),
+        ("no-time", one("> AA")),
+        ("time-05", one("> 05 AA")),
+        ("time-00", one("> 00 AA")),
+        ("time-plus", one("> +5 AA")),
+        ("time-minus", one("> -5 AA")),
+        (
+            "time-4294967296",
+            "2\n> 5 AA\n< 4294967296 00\n".to_string(),
+        ),
+        ("time-of-20-digits", one("> 18446744073709551621 AA")),
+        ("lower-case", one("> 5 aa")),
+        ("one-digit", one("> 5 A")),
+        ("three-digits", one("> 5 0AA")),
+        ("two-spaces", one("> 5  AA")),
+        ("space-before", one(" > 5 AA")),
+        ("space-behind", one("> 5 AA ")),
+        ("tab", one("> 5\tAA")),
+        ("word-behind", one("> 5 AA Nop")),
+        ("not-text", "2\n\u{0}\u{ff}\n".to_string()),
+        ("line-7", format!("{}> 50 AA\nNop\nNop\n", walk(2))),
+        ("falls", format!("{}> 6 AA\n", walk(2))),
+        ("falls-in-replies", format!("{}< 4 00\n< 3 00\n", walk(1))),
+        (
+            "falls-twice",
+            "2\n> 5 AA\n< 9 00\n< 8 00\n> 4 AA\n".to_string(),
+        ),
+        (
+            "falls-before-bad-line",
+            "2\n> 5 AA\n> 4 AA\n> 3\n".to_string(),
+        ),
+        ("falls-to-0", "2\n> 4294967295 AA\n> 0 AA\n".to_string()),
+        (
+            "rises-past-half",
+            "2\n> 2147483647 AA\n> 2147483648 00\n".to_string(),
+        ),
+    ]
+}
+
+/// About 64 KiB, of the text and of what is written for it.
+fn sizes() -> Texts {
+    let most = fill_up(nops(), MOST_TEXT);
+    vec![
+        ("size-65537", fill_up(nops(), MOST_TEXT + 1)),
+        ("size-65537-faulty", format!("{most}\n")),
+        (
+            "size-65537-no-count",
+            fill_up(format!("0{}", nops()), MOST_TEXT + 1),
+        ),
+        ("one-packet", fill_up("1\n".to_string(), MOST_TEXT)),
+        ("size-65536", most),
+    ]
+}
+
+/// A walk and Nops, one each two milliseconds, that leave little room.
+fn nops() -> String {
+    let mut text = walk(3);
+    let mut time = 100;
+    while text.len() < MOST_TEXT - 100 {
+        text += &format!("> {time} AA 03 0E 11\n< {time} 00 00\n");
+        time += 2;
+    }
+    text
+}
+
+/// The count, and the walk of so many nodes, eight milliseconds each.
+fn walk(nodes: u8) -> String {
+    let mut text = format!("{nodes}\n");
+    for node in 1..=nodes {
+        let (sent, came) = (8 * u32::from(node - 1), 8 * u32::from(node - 1) + 3);
+        text += &run('>', sent, &format!("00 21 {node:02X} FF"));
+        text += &run('<', came, "00 00");
+    }
+    text
+}

@@ -1,0 +1,230 @@
+//! The program `replay`: what its document prints, the inputs with names, and
+//! made ones.
+
+use crate::cases_replay::{further, stored, ASK, LOST_REPLY};
+use crate::make_replay;
+use crate::replay;
+use crate::rules::Rules;
+
+/// What is told of an input: its text, or the line that a refusal is told by.
+fn told(input: &[u8]) -> Result<String, String> {
+    let written = replay::run(Rules::RIGHT, input)?;
+    Ok(String::from_utf8(written).expect("text"))
+}
+
+#[test]
+fn the_document_s_example() {
+    let written = told(b"2\n> 0 AA 00 21 01\n> 1 FF 21\n< 4 00 00\n");
+    let expected = "\
+0 > AA 00 21 01 FF 21 | Set Address 01 group FF to address 00 | sent
+4 < 00 00 | clear | node 1: place 01 group FF
+end of the recording
+2 nodes, walk at 1
+node 1: place 01 group FF, mask 00, outputs 0000, PWM 00 00, held 0000 00 00, timer 00
+node 2: place 00 group FF, mask 00, outputs 0000, PWM 00 00, held 0000 00 00, timer 00
+";
+    assert_eq!(written.as_deref(), Ok(expected));
+}
+
+#[test]
+fn a_lost_reply() {
+    let written = told(LOST_REPLY.as_bytes()).expect("accepted");
+    for line in [
+        "1750 > AA 02 26 01 00 29 | Set Outputs 0001 to node 2 | sent",
+        "1790 > AA 01 26 00 00 27 | Set Outputs 0000 to node 1 | \
+         silence before it: node 2: outputs 0000 in doubt; sent",
+        "1796 < 00 00 | clear | node 1: outputs 0000",
+        "end of the recording",
+        "2 nodes, ready",
+        "node 2: place 02 group FF, mask 00, outputs 0000 in doubt, PWM 00 00, \
+         held 0000 00 00, timer 00",
+    ] {
+        assert!(written.lines().any(|own| own == line), "{line}");
+    }
+}
+
+#[test]
+fn an_ask() {
+    let written = told(ASK.as_bytes()).expect("accepted");
+    let mut lines = written.lines();
+    for line in [
+        "0 > AA 00 21 01 FF 21 | Set Address 01 group FF to address 00 | sent",
+        "50 > AA 01 0E 0F | Nop to node 1 | \
+         silence before it: node 1: place 00 group FF in doubt; sent",
+        "55 < 00 00 | clear | node 1: place 01 group FF",
+        "207 < 02 02 | not clear | no change",
+        "245 < 00 00 | clear | node 1: outputs 0005, PWM 40 41; node 2: outputs 0005, PWM 40 41",
+        "300 < 00 00 | clear | nobody waits for it",
+        "400 > AA 02 21 02 00 25 | Set Address 02 group 80 leader to node 2 | \
+         not the host's, the walk ends",
+        "2 nodes, ready",
+    ] {
+        assert!(lines.any(|own| own == line), "{line}");
+    }
+    assert!(!written.contains("end of the recording"));
+}
+
+/// All that can be said is said of the stored input, but for what ends the walk.
+#[test]
+fn the_stored_input_says_much() {
+    let written = told(&stored()).expect("accepted");
+    for words in [
+        "Set Address",
+        "leader to node 3",
+        "Define Status 41",
+        "Read Status FF",
+        "Set PWM 40 41",
+        "Synch Output to group 80",
+        "Set Outputs 9105",
+        "Set Synch Output 0108 33 44",
+        "Set Timer Mode CD",
+        "Synch Input",
+        "Nop to node 2",
+        "Hard Reset to group FF",
+        "to address 00",
+        "| clear |",
+        "| not clear |",
+        "| not good |",
+        "| sent\n",
+        "sent, the session closes, all in doubt",
+        "| silence before it: no change; sent\n",
+        "| silence before it: node 3: outputs 0000 in doubt; sent\n",
+        "| no change\n",
+        "| nobody waits for it\n",
+        "in doubt; node 2:",
+        "place 01 group 80 leader",
+        "held 0108 33 44",
+        "\nend of the recording\n3 nodes, closed\n",
+    ] {
+        assert!(written.contains(words), "{words:?}");
+    }
+}
+
+/// The last line before the record, or the refusal.
+fn ending(input: &[u8]) -> String {
+    match told(input) {
+        Ok(written) => {
+            let lines: Vec<&str> = written.lines().collect();
+            let standing = lines.iter().rposition(|line| !line.starts_with("node "));
+            let standing = standing.expect("how it stands");
+            format!("{}; {}", said(lines[standing - 1]), lines[standing])
+        }
+        Err(complaint) => complaint,
+    }
+}
+
+/// What is said of a packet, without its bytes.
+fn said(line: &str) -> &str {
+    line.split_once(" | ").map_or(line, |(_, said)| said)
+}
+
+#[test]
+fn replay_tells() {
+    const ENDS: &str = "not the host's, the walk ends";
+    for (name, input) in further() {
+        let ended = |says: &str, at: &str| format!("{says} | {ENDS}; 2 nodes, {at}");
+        let expected = match name {
+            "lost-reply" | "unended" => "end of the recording; 2 nodes, ready".to_string(),
+            "document" | "equal-times" => "end of the recording; 2 nodes, walk at 1".to_string(),
+            "count-alone" | "replies-alone" => {
+                "end of the recording; 2 nodes, walk at 0".to_string()
+            }
+            "count-ended" => "end of the recording; 31 nodes, walk at 0".to_string(),
+            "one-node" | "last-time" | "replies-first" => {
+                "end of the recording; 1 node, ready".to_string()
+            }
+            "gap-in-reply" | "one-packet" => "end of the recording; 1 node, walk at 0".to_string(),
+            "walk-of-31" => "end of the recording; 31 nodes, ready".to_string(),
+            "silent-at-the-end" => {
+                "silence before it: node 2: outputs 0000 in doubt; 2 nodes, ready".to_string()
+            }
+            "nothing-in-doubt" => "silence before it: no change; 2 nodes, ready".to_string(),
+            "walk-silent" => {
+                "silence before it: node 1: place 00 group FF in doubt; 2 nodes, walk at 0"
+                    .to_string()
+            }
+            "closed" => "end of the recording; 2 nodes, closed".to_string(),
+            "size-65536" => "end of the recording; 3 nodes, ready".to_string(),
+            "ask" | "not-second-leader" => {
+                ended("Set Address 02 group 80 leader to node 2", "ready")
+            }
+            "not-in-doubt-leader" => format!(
+                "Set Address 02 group 81 leader to node 2 | silence before it: \
+                 node 1: place 01 group FF in doubt; {ENDS}; 2 nodes, ready"
+            ),
+            "not-wrong-sum" => ended("wrong sum", "ready"),
+            "not-cut-short" | "not-a-gap-inside" => ended("cut short", "ready"),
+            "not-no-header" => ended("no header", "ready"),
+            "not-left-over" | "not-two-at-once" => ended("bytes left over", "ready"),
+            "not-another" | "not-another-count" | "not-another-to-all" | "not-high-address" => {
+                ended("another command", "ready")
+            }
+            "not-node-3" => ended("Nop to node 3", "ready"),
+            "not-node-16" => ended("Set Outputs 1234 to node 16", "ready"),
+            "not-node-127" => ended("Hard Reset to node 127", "ready"),
+            "not-address-00" => ended("Nop to address 00", "ready"),
+            "not-set-again" => ended("Set Address 03 group FF to address 00", "ready"),
+            "not-its-address" => ended("Set Address 02 group 80 to node 1", "ready"),
+            "not-to-group" => ended("Set Address 01 group 80 leader to group FF", "ready"),
+            "not-after-reset" => ended("Nop to node 1", "closed"),
+            "not-while-waiting" => format!(
+                "cut short | silence before it: node 2: outputs 0000 in doubt; {ENDS}; \
+                 2 nodes, ready"
+            ),
+            "not-in-walk" => ended("Nop to node 1", "walk at 0"),
+            "not-reset-in-walk" => ended("Hard Reset to group FF", "walk at 0"),
+            "not-in-order" => ended("Set Address 02 group FF to address 00", "walk at 0"),
+            "not-again-after-silence" => format!(
+                "Set Address 01 group FF to address 00 | silence before it: \
+                 node 1: place 00 group FF in doubt; {ENDS}; 2 nodes, walk at 0"
+            ),
+            "rises-past-half" => ended("cut short", "walk at 0"),
+            "empty" | "newline-alone" | "no-count" | "bad-count-and-line" | "count-0"
+            | "count-32" | "count-02" | "count-return" => {
+                "the first line is not a node count, 1 to 31".to_string()
+            }
+            "size-65537" | "size-65537-faulty" | "size-65537-no-count" => {
+                "the recording is longer than 64 KiB".to_string()
+            }
+            "not-text" => "line 2: not a run of bytes".to_string(),
+            "falls-before-bad-line" => "line 4: not a run of bytes".to_string(),
+            "line-7" => "line 7: not a run of bytes".to_string(),
+            "falls" => "line 6: its time is less than the one before it".to_string(),
+            "falls-in-replies" => "line 5: its time is less than the one before it".to_string(),
+            "falls-twice" => "line 4: its time is less than the one before it".to_string(),
+            "falls-to-0" => "line 3: its time is less than the one before it".to_string(),
+            _ => "line 3: not a run of bytes".to_string(),
+        };
+        assert_eq!(ending(&input), expected, "{name}");
+    }
+}
+
+/// Made inputs are accepted, ended and refused in every way.
+#[test]
+fn made_recordings_tell_everything() {
+    let told: Vec<String> = (0..600)
+        .map(|seed| ending(&make_replay::make(seed, 40)))
+        .collect();
+    for words in [
+        "end of the recording",
+        "silence before it",
+        "the walk ends",
+        ", ready",
+        ", walk at ",
+        ", closed",
+        "wrong sum",
+        "cut short",
+        "another command",
+        "longer than 64 KiB",
+        "1 to 31",
+        "not a run of bytes",
+        "its time is less",
+    ] {
+        let count = told.iter().filter(|one| one.contains(words)).count();
+        assert!(count >= 4, "{words}: {count}");
+    }
+    let refused = told
+        .iter()
+        .filter(|one| one.contains("line ") || one.contains("1 to 31"));
+    assert!(refused.count() < 240);
+}

@@ -1,21 +1,18 @@
 -- The call that is found for some bytes gives them in that session with number 0, and where none is found no call does: "a command the host couldn't have sent".
-use Prim.Native.Nat.{ℕ, _+_, _≤_, _<_}
+use Prim.Native.Nat.{ℕ, _+_, _≤_}
 use mathlib.Core.Bool.{Bool, true, false, cond, true≢false}
-use mathlib.Core.List.{List, [], _∷_, _++_, append-nil}
+use mathlib.Core.List.{List, [], _++_, append-nil}
 use mathlib.Core.Path.{_≡_, refl, sym, ap, subst, _∙_}
 use native.Mathlib.Omega.{arith}
 use lib.Dec.{ltb}
 use lib.ListN.{length, take, drop, replicate, length-replicate}
 use lib.Seq.{take-at}
-use borrow.Author.Tests.{le-ltb, ltb-false}
-use Rattle.wire.specs.Address.{inRange, byteOf}
+use borrow.Author.Tests.{le-ltb}
+use Rattle.wire.specs.Address.{byteOf}
 use Rattle.wire.specs.Promise.{Outcome}
 use Rattle.wire.proofs.Impossible.{impossible}
 use Rattle.wire.proofs.Choice.{chose-second}
-use Rattle.wire.specs.declared.address.Individual.{Individual}
-use Rattle.wire.specs.declared.address.Group.{Group}
 use Rattle.wire.specs.declared.address.Address.{Address}
-use Rattle.wire.specs.declared.address.Address.the-variants as address
 use Rattle.packet.specs.Packet.{readOf, dataPart}
 use Rattle.packet.specs.declared.Framed.{Framed}
 use Rattle.packet.specs.declared.Framed.the-variants as framed
@@ -27,22 +24,20 @@ use Rattle.command.specs.declared.Reading.the-variants as reading
 use Rattle.command.specs.declared.Role.{Role}
 use Rattle.command.specs.declared.Role.the-variants.{Plain, Places, Masks, Captures, Idles, Resets}
 use Rattle.command.specs.Role.{roleOf, isPlacing}
-use Rattle.command.specs.Command.{commandRead, ReadsAs}
-use Rattle.command.specs.Build.{codeOf, fitsOf, typedBy, Typed, ownData, packetFor}
+use Rattle.command.specs.Command.{commandRead}
+use Rattle.command.specs.Build.{codeOf, typedBy, Typed, ownData, packetFor}
 use Rattle.command.proofs.Commands.{built-reads, reads-in-range}
-use Rattle.command.proofs.Roles.{ordinary-fits}
 use Rattle.session.specs.declared.Session.{Session}
 use Rattle.session.specs.declared.Step.{Step}
 use Rattle.session.specs.declared.End.{End}
 use Rattle.session.specs.declared.End.the-variants as end
-use Rattle.session.specs.Session.{nodeAt, givenPlace, endNumber, stepNumber}
-use Rattle.node.specs.Effect.{addressUp}
+use Rattle.session.specs.Session.{endNumber}
 use Rattle.wire.specs.Numbers.{done}
 use Rattle.sending.specs.Sending.{openExchange}
-use Rattle.sending.proofs.Sent.{sending, Sends, Went, node-fits}
-use Rattle.walk.proofs.Sent.{next-sent, ask-sent, next-went, ask-went}
+use Rattle.sending.proofs.Sent.{sending}
+use Rattle.walk.proofs.Sent.{next-went, ask-went}
 use Rattle.walk.proofs.Passing.{next-says, ask-says}
-use Rattle.host.proofs.Sent.{to-fits, order-sent, regroup-sent, order-went, regroup-went}
+use Rattle.host.proofs.Sent.{order-went, regroup-went}
 use Rattle.host.proofs.Passing.{order-says, regroup-says}
 use Rattle.calls.specs.declared.Call.{Call}
 use Rattle.calls.specs.declared.Call.the-variants.{Next, Ask, Order, Regroup}
@@ -55,6 +50,7 @@ use Rattle.calls.specs.Calls.{callPerform, TypedCall, Gives, sessionAfte
 use Rattle.calls.specs.Understanding.{understandOf, spokenAs, spokenTo}
 use Rattle.calls.specs.Finding.{isSame, missedOf, soughtBy, soughtOf, tryCall, earlyCall, lateBy, lateCall, bySource, seekOf, findBy, findOf}
 use Rattle.calls.proofs.Same.{same-self, same-says}
+use Rattle.calls.proofs.Standing.{CallWent, call-went}
 
 -- no command's packet is longer than 19 bytes
 short-data : (c : Command) → length (ownData c) ≤ 4
@@ -90,43 +86,6 @@ sent-found : (s : Session) (k : Call) (p left : List ℕ) (after : Session) (n :
     → soughtBy s k p after left (end.Sent n) ≡ record { source = Found k; session = after }
 sent-found s k p left after n e = rw (e, same-self p)
 
--- ---- what a call sends that passes its tests: a command to an address, whatever buffer has room for its packet
-
-record Goes (s : Session) (k : Call) (called to : Address) (c : Command) : Type 0 where
-  ranged : inRange called ≡ true
-  fits : fitsOf c ≡ true
-  typed : Typed c
-  sends : (out : List ℕ) → Sends s called to c out (callPerform k s out)
-
-module _ {s : Session} {k : Call} {called to : Address} {c : Command} (g : Goes s k called to c) where
-  -- tried with room for the longest packet it is found
-  tried : tryCall s k (packetFor called c) ≡ record { source = Found k; session = openExchange s to c }
-  unfolding tryCall
-  tried =
-      let e : callPerform k s (replicate 19 0) ≡ sending s called to c (replicate 19 0) = g .sends (replicate 19 0) .room (omega (arith, short called c, length-replicate {A = ℕ} 19 0)) in
-      ap (soughtOf s k (packetFor called c)) e
-      ∙ sent-found s k (packetFor called c) (packetFor called c ++ drop (length (packetFor called c)) (replicate 19 0)) (openExchange s to c) (length (packetFor called c)) (take-at (packetFor called c) (drop (length (packetFor called c)) (replicate 19 0)) _ refl)
-
-  -- and its packet is understood
-  understood : understandOf (packetFor called c) ≡ spoken.Command called c
-  unfolding understandOf
-  understood =
-      let r = rw (append-nil (packetFor called c)) at (built-reads called c (g .ranged) (g .fits) (g .typed) []) in
-      rw (r .whole, le-ltb (length (packetFor called c)) (length (packetFor called c)) (omega arith), r .known)
-
--- a call that gives bytes gave the packet of its command, and opened the exchange
-module _ (s : Session) (k : Call) (called to : Address) (c : Command) (p : List ℕ) (g : Gives s k p) (r : callPerform k s (g .out) ≡ sending s called to c (g .out)) where
-  count-is : g .count ≡ length (packetFor called c)
-  count-is = sent-count (sym (g .sent) ∙ ap (λ (o : Outcome Step (List ℕ)). o .answer .end) r)
-
-  packet-is : p ≡ packetFor called c
-  packet-is =
-      sym (g .bytes) ∙ ap (λ (o : Outcome Step (List ℕ)). take (g .count) (o .left)) r
-      ∙ take-at (packetFor called c) (drop (length (packetFor called c)) (g .out)) (g .count) (sym count-is)
-
-  after-is : sessionAfter g ≡ openExchange s to c
-  after-is = ap (λ (o : Outcome Step (List ℕ)). o .answer .session) r
-
 -- ---- a call that is made is found again
 
 -- the bytes of a call are found to be a call's, with the session that it gave
@@ -135,25 +94,49 @@ pub record Again (s : Session) (p : List ℕ) (after : Session) : Type 0 where
   pub found : findOf s p .source ≡ Found call
   pub session : findOf s p .session ≡ after
 
-module _ {s : Session} {k : Call} {called to : Address} {c : Command} (g : Goes s k called to c) where
-  sought : findOf s (packetFor called c) ≡ seekOf s (earlyCall c) (lateCall called c) (packetFor called c)
+module _ {s : Session} {k : Call} {p : List ℕ} (g : Gives s k p) (w : CallWent k s (g .out)) where
+  abbrev packet : List ℕ
+  packet = packetFor (w .called) (w .command)
+
+  -- it gave the packet of its command, and opened the exchange
+  packet-is : p ≡ packet
+  packet-is =
+      let e : g .count ≡ length packet = sent-count (sym (g .sent) ∙ ap (λ (o : Outcome Step (List ℕ)). o .answer .end) (w .result)) in
+      sym (g .bytes) ∙ ap (λ (o : Outcome Step (List ℕ)). take (g .count) (o .left)) (w .result) ∙ take-at packet (drop (length packet) (g .out)) (g .count) (sym e)
+
+  after-is : sessionAfter g ≡ openExchange s (w .to) (w .command)
+  after-is = ap (λ (o : Outcome Step (List ℕ)). o .answer .session) (w .result)
+
+  -- tried with room for the longest packet it is found
+  tried : tryCall s k packet ≡ record { source = Found k; session = openExchange s (w .to) (w .command) }
+  unfolding tryCall
+  tried =
+      let e : callPerform k s (replicate 19 0) ≡ sending s (w .called) (w .to) (w .command) (replicate 19 0) = w .sends (replicate 19 0) .room (omega (arith, short (w .called) (w .command), length-replicate {A = ℕ} 19 0)) in
+      ap (soughtOf s k packet) e
+      ∙ sent-found s k packet (packet ++ drop (length packet) (replicate 19 0)) (openExchange s (w .to) (w .command)) (length packet) (take-at packet (drop (length packet) (replicate 19 0)) _ refl)
+
+  -- and its packet is understood
+  understood : understandOf packet ≡ spoken.Command (w .called) (w .command)
+  unfolding understandOf
+  understood =
+      let r = rw (append-nil packet) at (built-reads (w .called) (w .command) (w .ranged) (w .fits) (w .typed (g .typed)) []) in
+      rw (r .whole, le-ltb (length packet) (length packet) (omega arith), r .known)
+
+  again : seekOf s (earlyCall (w .command)) (lateCall (w .called) (w .command)) packet ≡ record { source = Found k; session = openExchange s (w .to) (w .command) }
+      → Again s p (sessionAfter g)
   unfolding findOf
-  sought = rw (understood g)
+  again e =
+      let x : findOf s p ≡ record { source = Found k; session = openExchange s (w .to) (w .command) } = ap (findOf s) packet-is ∙ ap (findBy s packet) understood ∙ e in
+      record { call = k; found = ap (λ (y : Sought). y .source) x; session = ap (λ (y : Sought). y .session) x ∙ sym after-is }
 
-  found-early : earlyCall c ≡ k → findOf s (packetFor called c) ≡ record { source = Found k; session = openExchange s to c }
+  -- as the walk's call for its command, or as the ready session's, where that one isn't sent
+  again-early : earlyCall (w .command) ≡ k → Again s p (sessionAfter g)
   unfolding seekOf
-  found-early e = sought ∙ rw (e, tried g)
+  again-early e = again (rw (e, tried))
 
-  found-late : tryCall s (earlyCall c) (packetFor called c) ≡ missedOf s → lateCall called c ≡ k
-      → findOf s (packetFor called c) ≡ record { source = Found k; session = openExchange s to c }
+  again-late : tryCall s (earlyCall (w .command)) packet ≡ missedOf s → lateCall (w .called) (w .command) ≡ k → Again s p (sessionAfter g)
   unfolding seekOf
-  found-late m e = sought ∙ rw (m, e, tried g)
-
-again : {s : Session} {k : Call} {called to : Address} {c : Command} → Goes s k called to c → (p : List ℕ) (g : Gives s k p) → callPerform k s (g .out) ≡ sending s called to c (g .out)
-    → findOf s (packetFor called c) ≡ record { source = Found k; session = openExchange s to c } → Again s p (sessionAfter g)
-again {s} {k} {called} {to} {c} goes p g r e =
-    let x : findOf s p ≡ record { source = Found k; session = openExchange s to c } = ap (findOf s) (packet-is s k called to c p g r) ∙ e in
-    record { call = k; found = ap (λ (y : Sought). y .source) x; session = ap (λ (y : Sought). y .session) x ∙ sym (after-is s k called to c p g r) }
+  again-late m e = again (rw (m, e, tried))
 
 -- a call that isn't sent is not found
 by-end : (e : End) (s : Session) (k : Call) (p left : List ℕ) (after : Session) → ((n : ℕ) → e ≡ end.Sent n → ⊥) → soughtBy s k p after left e ≡ missedOf s
@@ -185,36 +168,17 @@ late-order to c Idles h = refl
 late-order to c Resets h = refl
 
 pub found-again : (s : Session) (k : Call) (p : List ℕ) (g : Gives s k p) → Again s p (sessionAfter g)
-found-again s Next p g =
-    let w = next-went s (g .out) (sent-done (g .count) (g .sent)) in
-    let t = next-says s (w .passed) in
-    let h = t .walking in
-    let f = t .session .valid .few in
-    let goes : Goes s Next (nodeAt addressUp) (nodeAt (s .walk + 1)) (SetAddress (givenPlace (s .walk + 1))) =
-    record { ranged = refl; fits = rw (node-fits (s .n) (s .walk + 1) f (omega arith)); typed = omega arith; sends = λ out. next-sent s out (w .passed) } in
-    again goes p g (w .result) (found-early goes refl)
-found-again s Ask p g =
-    let w = ask-went s (g .out) (sent-done (g .count) (g .sent)) in
-    let t = ask-says s (w .passed) in
-    let h = t .walking in
-    let f = t .session .valid .few in
-    let goes : Goes s Ask (nodeAt (s .walk + 1)) (nodeAt (s .walk + 1)) Nop =
-    record { ranged = node-fits (s .n) (s .walk + 1) f (omega arith); fits = refl; typed = tt; sends = λ out. ask-sent s out (w .passed) } in
-    again goes p g (w .result) (found-early goes refl)
+unfolding call-went
+found-again s Next p g = again-early g (call-went Next s (g .out) (sent-done (g .count) (g .sent))) refl
+found-again s Ask p g = again-early g (call-went Ask s (g .out) (sent-done (g .count) (g .sent))) refl
 found-again s (Order to c) p g =
-    let w = order-went s (g .out) to c (sent-done (g .count) (g .sent)) in
-    let t = order-says s to c (w .passed) in
-    let o = ordinary-fits c (t .ordinary) in
-    let goes : Goes s (Order to c) to to c =
-    record { ranged = to-fits (s .n) to (t .session .valid .few) (t .group) (t .node); fits = o .0; typed = o .1; sends = λ out. order-sent s to c out (w .passed) } in
-    again goes p g (w .result) (found-late goes (ended-early (isPlacing (roleOf c)) s _ (t .ended)) (late-order to c (roleOf c) (t .ordinary)))
+    let d = sent-done (g .count) (g .sent) in
+    let t = order-says s to c (order-went s (g .out) to c d .passed) in
+    again-late g (call-went (Order to c) s (g .out) d) (ended-early (isPlacing (roleOf c)) s _ (t .ended)) (late-order to c (roleOf c) (t .ordinary))
 found-again s (Regroup i j leader) p g =
-    let w = regroup-went s (g .out) i j leader (sent-done (g .count) (g .sent)) in
-    let t = regroup-says s i j leader (w .passed) in
-    let f = node-fits (s .n) (i .0) (t .session .valid .few) (t .node .high) in
-    let goes : Goes s (Regroup i j leader) (address.Individual i) (address.Individual i) (SetAddress (record { address = i; group = j; leader = leader })) =
-    record { ranged = f; fits = rw (f, t .group); typed = g .typed; sends = λ out. regroup-sent s i j leader out (w .passed) } in
-    again goes p g (w .result) (found-late goes (ended-early true s _ (t .ended)) refl)
+    let d = sent-done (g .count) (g .sent) in
+    let t = regroup-says s i j leader (regroup-went s (g .out) i j leader d .passed) in
+    again-late g (call-went (Regroup i j leader) s (g .out) d) (ended-early true s _ (t .ended)) refl
 
 -- "where it finds none there is none"
 pub missing-unsendable : (s : Session) (p : List ℕ) → findOf s p .source ≡ Missing → Unsendable s p

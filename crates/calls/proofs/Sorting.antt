@@ -2,10 +2,10 @@
 use Prim.Native.Nat.{ℕ, _<_, _≤_}
 use mathlib.Core.Bool.{Bool, true, false}
 use mathlib.Core.List.{List}
-use mathlib.Core.Path.{_≡_, sym, ap, _∙_}
+use mathlib.Core.Path.{_≡_}
 use lib.ListN.{length, take, replicate}
 use borrow.Author.Tests.{lt-ltb, le-ltb}
-use Rattle.wire.specs.Promise.{Promise, promised, Outcome, Lending}
+use Rattle.wire.specs.Promise.{Promise, promised, Lending}
 use Rattle.wire.specs.declared.address.Individual.{Individual}
 use Rattle.wire.specs.declared.address.Group.{Group}
 use Rattle.wire.specs.declared.address.Address.{Address}
@@ -24,7 +24,6 @@ use Rattle.command.specs.Role.{roleOf}
 use Rattle.command.specs.Command.{commandRead}
 use Rattle.session.specs.declared.Session.{Session}
 use Rattle.session.specs.declared.Step.{Step}
-use Rattle.session.specs.declared.End.{End}
 use Rattle.session.specs.declared.End.the-variants as end
 use Rattle.session.specs.Session.{stepNumber}
 use Rattle.walk.specs.Walk.{nextOf, askOf}
@@ -34,7 +33,6 @@ use Rattle.calls.specs.declared.Call.the-variants.{Next, Ask, Order, Reg
 use Rattle.calls.specs.declared.Spoken.{Spoken}
 use Rattle.calls.specs.declared.Spoken.the-variants as spoken
 use Rattle.calls.specs.declared.Sought.{Sought}
-use Rattle.calls.specs.declared.Source.{Source}
 use Rattle.calls.specs.declared.Source.the-variants.{Found, Missing}
 use Rattle.calls.specs.Calls.{callPerform}
 use Rattle.calls.specs.Understanding.{spokenNumber, spokenTo, understandOf}

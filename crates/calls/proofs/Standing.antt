@@ -4,13 +4,17 @@ use mathlib.Core.Bool.{Bool, true, false, false≢true}
 use mathlib.Core.List.{List}
 use mathlib.Core.Path.{_≡_, refl, sym, ap, subst, _∙_}
 use Rattle.wire.specs.Numbers.{done}
+use native.Mathlib.Omega.{arith}
 use Rattle.wire.specs.Promise.{Outcome}
+use Rattle.wire.specs.Address.{inRange}
 use Rattle.wire.proofs.Impossible.{impossible}
 use Rattle.wire.specs.declared.address.Address.{Address}
 use Rattle.wire.specs.declared.address.Address.the-variants as address
 use Rattle.command.specs.declared.Command.{Command}
 use Rattle.command.specs.declared.Command.the-variants.{SetAddress, Nop}
 use Rattle.command.specs.Role.{roleOf, isReset}
+use Rattle.command.specs.Build.{fitsOf, Typed}
+use Rattle.command.proofs.Roles.{ordinary-fits}
 use Rattle.node.specs.Effect.{addressUp}
 use Rattle.session.specs.declared.Session.{Session}
 use Rattle.session.specs.declared.Step.{Step}
@@ -18,48 +22,87 @@ use Rattle.session.specs.declared.End.the-variants.{Done, Sent}
 use Rattle.session.specs.Session.{nodeAt, givenPlace, endNumber, stepNumber}
 use Rattle.sending.specs.Sending.{openExchange}
 use Rattle.sending.proofs.Passing.{Free}
-use Rattle.sending.proofs.Sent.{sending, opened-reset, opened-waits}
+use Rattle.sending.proofs.Sent.{sending, Sends, node-fits, opened-reset, opened-waits}
 use Rattle.walk.proofs.Passing.{next-says, ask-says}
-use Rattle.walk.proofs.Sent.{next-went, ask-went}
+use Rattle.walk.proofs.Sent.{next-sent, ask-sent, next-went, ask-went}
 use Rattle.walk.proofs.Stands.{next-stands, ask-stands}
 use Rattle.host.proofs.Passing.{order-says, regroup-says}
-use Rattle.host.proofs.Sent.{order-went, regroup-went}
+use Rattle.host.proofs.Sent.{to-fits, order-sent, regroup-sent, order-went, regroup-went}
 use Rattle.host.proofs.Stands.{order-stands, regroup-stands}
 use Rattle.calls.specs.declared.Call.{Call}
 use Rattle.calls.specs.declared.Call.the-variants.{Next, Ask, Order, Regroup}
-use Rattle.calls.specs.Calls.{callPerform}
+use Rattle.calls.specs.Calls.{callPerform, TypedCall}
 
--- a call with number 0: a command went out, in a session that was free to send
+-- a call with number 0: a command went out, in a session that was free to send; address and command are of their ranges, and go out with any buffer that has room
 pub record CallWent (k : Call) (s : Session) (out : List ℕ) : Type 0 where
   pub called : Address
   pub to : Address
   pub command : Command
   pub free : Free s
+  pub ranged : inRange called ≡ true
+  pub fits : fitsOf command ≡ true
+  pub typed : TypedCall k → Typed command
+  pub sends : (o : List ℕ) → Sends s called to command o (callPerform k s o)
   pub result : callPerform k s out ≡ sending s called to command out
 
-pub call-went : (k : Call) (s : Session) (out : List ℕ) → stepNumber (callPerform k s out .answer) ≡ done → CallWent k s out
+unfoldable pub call-went : (k : Call) (s : Session) (out : List ℕ) → stepNumber (callPerform k s out .answer) ≡ done → CallWent k s out
 call-went Next s out d =
     let w = next-went s out d in
+    let t = next-says s (w .passed) in
+    let h = t .walking in
     record {
       called = nodeAt addressUp;
       to = nodeAt (s .walk + 1);
       command = SetAddress (givenPlace (s .walk + 1));
-      free = next-says s (w .passed) .session;
+      free = t .session;
+      ranged = refl;
+      fits = rw (node-fits (s .n) (s .walk + 1) (t .session .valid .few) (omega arith));
+      typed = λ u. omega arith;
+      sends = λ o. next-sent s o (w .passed);
       result = w .result;
     }
 call-went Ask s out d =
     let w = ask-went s out d in
-    record { called = nodeAt (s .walk + 1); to = nodeAt (s .walk + 1); command = Nop; free = ask-says s (w .passed) .session; result = w .result }
+    let t = ask-says s (w .passed) in
+    let h = t .walking in
+    record {
+      called = nodeAt (s .walk + 1);
+      to = nodeAt (s .walk + 1);
+      command = Nop;
+      free = t .session;
+      ranged = node-fits (s .n) (s .walk + 1) (t .session .valid .few) (omega arith);
+      fits = refl;
+      typed = λ u. tt;
+      sends = λ o. ask-sent s o (w .passed);
+      result = w .result;
+    }
 call-went (Order to c) s out d =
     let w = order-went s out to c d in
-    record { called = to; to = to; command = c; free = order-says s to c (w .passed) .session; result = w .result }
+    let t = order-says s to c (w .passed) in
+    record {
+      called = to;
+      to = to;
+      command = c;
+      free = t .session;
+      ranged = to-fits (s .n) to (t .session .valid .few) (t .group) (t .node);
+      fits = ordinary-fits c (t .ordinary) .0;
+      typed = λ u. ordinary-fits c (t .ordinary) .1;
+      sends = λ o. order-sent s to c o (w .passed);
+      result = w .result;
+    }
 call-went (Regroup i g leader) s out d =
     let w = regroup-went s out i g leader d in
+    let t = regroup-says s i g leader (w .passed) in
+    let f = node-fits (s .n) (i .0) (t .session .valid .few) (t .node .high) in
     record {
       called = address.Individual i;
       to = address.Individual i;
       command = SetAddress (record { address = i; group = g; leader = leader });
-      free = regroup-says s i g leader (w .passed) .session;
+      free = t .session;
+      ranged = f;
+      fits = rw (f, t .group);
+      typed = λ u. u;
+      sends = λ o. regroup-sent s i g leader o (w .passed);
       result = w .result;
     }
 

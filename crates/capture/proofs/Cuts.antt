@@ -1,11 +1,10 @@
 -- One law for each exit of `cut`.
-use Prim.Native.Nat.{ℕ, _+_, _-_, _≤_, _<_}
+use Prim.Native.Nat.{ℕ, _-_, _<_}
 use native.Mathlib.Omega.{arith}
 use mathlib.Core.Path.{_≡_, refl, sym, ap, _∙_}
 use mathlib.Core.List.{List, []}
 use lib.ListN.{length, take, drop, length-drop, drop-of-length-le}
-use lib.Seq.{take-all, take-nil, drop-length}
-use borrow.Author.Tests.{lt-ltb, le-ltb}
+use lib.Seq.{take-all, take-nil}
 use Rattle.capture.specs.Packets.{cutOf}
 
 module _ (s : List ℕ) (from end : ℕ) where

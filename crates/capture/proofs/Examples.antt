@@ -2,7 +2,6 @@
 use Prim.Native.Nat.{ℕ}
 use mathlib.Core.Path.{_≡_, refl}
 use mathlib.Core.List.{List, [], _∷_}
-use Rattle.capture.specs.Packets.{packets}
 use Rattle.capture.specs.Steps.{sent, got, outset, leftAt}
 
 cs : List ℕ

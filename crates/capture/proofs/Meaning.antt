@@ -1,11 +1,11 @@
 -- What the checks mean, and what a good recording is.
 use Prim.Native.Nat.{ℕ, zero, suc, _≤_, _<_}
 use native.Mathlib.Omega.{arith}
-use mathlib.Core.Path.{_≡_, refl, sym, ap, subst, _∙_}
+use mathlib.Core.Path.{_≡_, refl, sym, subst}
 use mathlib.Core.Bool.{Bool, true, false, cond}
 use mathlib.Core.List.{List, [], _∷_}
 use lib.ListN.{length, getD}
-use lib.Dec.{T, ltb, eqb}
+use lib.Dec.{T, ltb}
 use borrow.Author.Tests.{ltb-false, le-ltb, eqb-true}
 use Rattle.capture.specs.Checks.{risesFrom, isRising, isEven, checkOf}
 use Rattle.capture.specs.declared.Checked.{Checked}

@@ -1,6 +1,6 @@
 -- One law for each exit of `packet` and of `step`.
 use Prim.Native.Nat.{ℕ}
-use mathlib.Core.Path.{_≡_, sym, subst, ap, _∙_}
+use mathlib.Core.Path.{_≡_, sym, subst, _∙_}
 use mathlib.Core.List.{List}
 use denote.Ref.{RefT, now}
 use Rattle.wire.specs.Part.{Part}

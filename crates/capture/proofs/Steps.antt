@@ -1,4 +1,4 @@
--- What a caller wants of each answer of `step`: what was shown, that `packet` is it, that the walk goes down, and that it ends at the end.
+-- What a caller wants of each answer of `step`: what was shown, that `packet_at` is it, that the walk goes down, and that it ends at the end.
 use Prim.Native.Nat.{ℕ, _+_, _≤_, _<_}
 use native.Mathlib.Omega.{arith}
 use mathlib.Core.Path.{_≡_, refl, sym, ap, subst, _∙_}
@@ -82,12 +82,10 @@ module _ (c r : RefT (List ℕ)) (cts rts : List ℕ) (at : Cursor) (s : Stepped
   unfolding captureStep
   part-of y e f p = subst (partBy c cts r rts at x) (line-by (dueOf cts rts at) _ _ ∙ ap lineOf (sym e ∙ f)) p
 
-  pub packet-command : (next : Cursor) → length cts ≡ length (now c) → s ≡ captureStep cts rts at → s ≡ FromCommand next → PacketAt c cts r rts at x
+  pub packet-command : (next : Cursor) → s ≡ captureStep cts rts at → s ≡ FromCommand next → PacketAt c cts r rts at x
       → Part c (at .command) (packetFrom (now c) cts (at .command) .bytes) x
-  packet-command next h e f p =
-      part-of (FromCommand next) e f p
+  packet-command next e f p = part-of (FromCommand next) e f p
 
-  pub packet-reply : (next : Cursor) → length rts ≡ length (now r) → s ≡ captureStep cts rts at → s ≡ FromReply next → PacketAt c cts r rts at x
+  pub packet-reply : (next : Cursor) → s ≡ captureStep cts rts at → s ≡ FromReply next → PacketAt c cts r rts at x
       → Part r (at .reply) (packetFrom (now r) rts (at .reply) .bytes) x
-  packet-reply next h e f p =
-      part-of (FromReply next) e f p
+  packet-reply next e f p = part-of (FromReply next) e f p

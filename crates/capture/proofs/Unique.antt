@@ -1,5 +1,5 @@
 -- A second result that meets a contract is equal to the first, for each public function.
-use mathlib.Core.Path.{_≡_, sym, _∙_}
+use mathlib.Core.Path.{sym, _∙_}
 use Rattle.wire.proofs.OneResult.{OneResult}
 use Rattle.wire.proofs.Parts.{OnePart, one-part}
 use Rattle.capture.proofs.Checked.number.Reads as number

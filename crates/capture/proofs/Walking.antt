@@ -2,13 +2,13 @@
 use Prim.Native.Nat.{ℕ, suc, _+_, _-_, _≤_, _<_}
 use native.Mathlib.Omega.{arith}
 use native.Mathlib.Nat.{add-sub-cancel-left}
-use mathlib.Core.Path.{_≡_, refl, sym, ap, subst, _∙_}
+use mathlib.Core.Path.{_≡_, refl, sym, ap, _∙_}
 use mathlib.Core.Bool.{Bool, true, false, cond}
 use mathlib.Core.List.{List, [], _∷_, _++_}
 use lib.ListN.{length, getD, take, drop, length-drop}
 use lib.Seq.{drop-cons, drop-drop, getD-drop, length-take-le}
 use lib.Dec.{leb}
-use Rattle.capture.specs.Packets.{isGap, Packet, onto, packets, runOn, firstCount, packetEnd, cutOf, joined}
+use Rattle.capture.specs.Packets.{isGap, Packet, packets, runOn, firstCount, packetEnd, cutOf, joined}
 use Rattle.capture.specs.Steps.{earlier, byLine, dueOf, captureStep, Recorded, sent, got, replies, merge, leftAt, packetFrom, recordedBy, sentBytes, gotBytes}
 use Rattle.capture.specs.declared.Cursor.{Cursor}
 use Rattle.capture.specs.declared.Line.{Line}

@@ -45,7 +45,7 @@ followOf s [] = record { ending = Ended; session = quietOf s }
 followOf s (sent p ∷ ps) =
     bySource (findOf (quietOf s) (p .bytes) .source)
     (followOf (findOf (quietOf s) (p .bytes) .session) ps)
-    (record { ending = Foreign; session = findOf (quietOf s) (p .bytes) .session })
+    (record { ending = Foreign; session = quietOf s })
 followOf s (got p ∷ ps) = followOf (reportOf s (p .bytes) .session) ps
 
 -- by the checks before it

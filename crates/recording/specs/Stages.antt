@@ -8,7 +8,6 @@ use Rattle.session.specs.declared.End.the-variants as end
 use Rattle.start.specs.Start.{freshOf}
 use Rattle.reports.specs.Report.{reportOf}
 use Rattle.calls.specs.Finding.{findOf}
-use Rattle.calls.specs.declared.Sought.{Sought}
 use Rattle.calls.specs.declared.Source.{Source}
 use Rattle.calls.specs.declared.Source.the-variants.{Found, Missing}
 use Rattle.capture.specs.Checks.{checkedNumber}
@@ -31,13 +30,13 @@ abbrev pub moveTo : Event → Cursor → Bool → Session → Moved
 moveTo e at over s = record { event = e; stage = record { at = at; over = over; session = s } }
 
 -- a command is the call that gives it; where there is none, it "ends the walk and says so"
-abbrev pub commandBy : Source → Cursor → Session → Moved
-commandBy (Found c) next s = moveTo (Sent c) next false s
-commandBy Missing next s = moveTo Foreign next true s
+abbrev pub commandBy : Source → Cursor → Session → Session → Moved
+commandBy (Found c) next before after = moveTo (Sent c) next false after
+commandBy Missing next before after = moveTo Foreign next true before
 
 -- after the silence of the one before it
 unfoldable pub takeCommand : Session → List ℕ → Cursor → Moved
-takeCommand s p next = commandBy (findOf (quietOf s) p .source) next (findOf (quietOf s) p .session)
+takeCommand s p next = commandBy (findOf (quietOf s) p .source) next (quietOf s) (findOf (quietOf s) p .session)
 
 -- a reply closes the exchange, or "is shown without effect"
 abbrev pub replyBy : End → Cursor → Session → Moved

@@ -44,20 +44,10 @@ pub struct Moved {
     pub stage: Stage,
 }
 
-// The first stage of a walk; of a refused recording, one that is over.
+// What the checks find, with their number, and the first stage of a walk; of a refused recording, one that is over.
 pub struct Begun {
     pub checked: Checked,
     pub stage: Stage,
-}
-
-impl Begun {
-    // The paper's number.
-    pub fn number(self) -> u8
-        ensures { λ r. ⌜ r ≡ begunNumber self ⌝ }
-    {
-        let checked = self.checked;
-        checked.number()
-    }
 }
 
 // How a whole walk ended.
@@ -149,11 +139,12 @@ fn move_to(event: Event, at: Cursor, over: bool, session: Session) -> Moved
 fn take_command(s: Session, bytes: &[u8], next: Cursor) -> Moved
     ensures { λ r. ⌜ r ≡ takeCommand s (now (bytes .entry)) next ⌝ }
 {
-    let sought = calls::find(quiet(s), bytes);
+    let before = quiet(s);
+    let sought = calls::find(before, bytes);
     let source = sought.source;
     match source {
         Source::Found(call) => move_to(Event::Sent(call), next, false, sought.session),
-        Source::Missing => move_to(Event::Foreign, next, true, sought.session),
+        Source::Missing => move_to(Event::Foreign, next, true, before),
     }
 }
 

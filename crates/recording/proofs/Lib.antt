@@ -1,0 +1,4 @@
+mod Exits
+mod Stepping
+pub mod Meaning
+pub mod Unique

@@ -2,3 +2,4 @@ pub mod Packets
 pub mod Checks
 pub mod Steps
 pub mod Traces
+pub mod Laying

@@ -1,4 +1,4 @@
--- The walk goes by lines and bytes alone; after no exchange or a report there is none to close.
+-- The walk goes by lines and bytes alone; with no exchange open, and so after a report, silence has no effect.
 use Prim.Native.Nat.{ℕ}
 use mathlib.Core.Bool.{Bool, true, false, cond}
 use mathlib.Core.List.{List, [], _∷_, _++_, map, map-append, append-nil, append-assoc}
@@ -65,8 +65,7 @@ timeless (replied p) = got (record { start = 0; bytes = p })
 pub timeless-follows : (s : Session) (ps : List Recorded) → followOf s (map timeless (tracedOf ps)) ≡ followOf s ps
 timeless-follows s [] = refl
 timeless-follows s (sent p ∷ ps) =
-    ap
-    (λ (x : Replayed). bySource (findOf (quietOf s) (p .bytes) .source) x (record { ending = Foreign; session = findOf (quietOf s) (p .bytes) .session }))
+    ap (λ (x : Replayed). bySource (findOf (quietOf s) (p .bytes) .source) x (record { ending = Foreign; session = quietOf s }))
     (timeless-follows (findOf (quietOf s) (p .bytes) .session) ps)
 timeless-follows s (got p ∷ ps) = timeless-follows (reportOf s (p .bytes) .session) ps
 
@@ -82,7 +81,7 @@ leads-on {s} {t} {u} {xs} {ys} f g = record {
       ∙ g .then ps;
 }
 
--- none lead nowhere
+-- no packets lead nowhere
 pub leads-nowhere : {s : Session} → Leads s [] s
 leads-nowhere = record { then = λ ps. refl }
 

@@ -1,2 +1,3 @@
 mod Following
 pub mod Walks
+pub mod Recordable

@@ -1,11 +1,13 @@
 -- A recording made by the host over demand 3's line walks to the host's own record.
-use Prim.Native.Nat.{ℕ}
+use Prim.Native.Nat.{ℕ, _≤_}
+use native.Mathlib.Omega.{arith}
 use mathlib.Core.List.{List, [], _∷_, _++_}
 use mathlib.Core.Option.{Option, none, some}
 use mathlib.Core.Path.{_≡_, refl, sym, ap, subst, _∙_}
 use lib.ListN.{length, take}
 use Rattle.status.specs.Status.{judgeOf}
 use Rattle.status.specs.declared.Answer.the-variants.{Silent}
+use Rattle.survey.specs.Chain.{Said, silence}
 use Rattle.session.specs.declared.Exchange.the-variants.{Idle}
 use Rattle.session.specs.declared.Session.{Session}
 use Rattle.session.specs.declared.Step.{Step}
@@ -21,14 +23,17 @@ use Rattle.calls.specs.declared.Call.{Call}
 use Rattle.calls.proofs.Standing.{call-went, call-not-done, sent-not-free}
 use Rattle.capture.specs.Steps.{outset, leftAt}
 use Rattle.capture.specs.Traces.{Traced}
-use Rattle.recording.specs.Recording.{powerOf, quietOf, replayOf}
+use Rattle.capture.specs.Checks.{checkOf}
+use Rattle.capture.specs.declared.Checked.the-variants.{Good}
+use Rattle.capture.proofs.Laying.{laid-packets, laid-good}
+use Rattle.recording.specs.Recording.{recordingCheck, powerOf, quietOf, replayOf}
 use Rattle.recording.specs.declared.Ending.the-variants.{Ended}
-use Rattle.line.specs.Line.{Line, quiet, going, coming, lingering, Nothing, absent, empty, reportedOf}
+use Rattle.line.specs.Line.{Line, quiet, going, coming, lingering, Nothing, absent, empty, saidAfter, reportedOf}
 use Rattle.line.specs.World.{World, callEnded, callMade, Comes, start, power, unpowered, call, deliver, report, hurry, delay, stray, bench}
 use Rattle.line.proofs.Powering.{freshAt, accepted-power}
 use Rattle.line.proofs.Refusing.{refused-power, refused-call, refused-report}
-use Rattle.recorded.specs.Trace.{callTrace, replyTrace, trace, told, Prompt}
-use Rattle.recorded.specs.Walks.{Walks, Replays}
+use Rattle.recorded.specs.Trace.{callTrace, replyTrace, lateTrace, trace, told, Prompt}
+use Rattle.recorded.specs.Walks.{Walks, Replays, OwnRecord}
 use Rattle.recorded.proofs.Following.{idle-finishes, idle-quiet, idle-reports, finished-quiet, Leads, leads-on, leads-nowhere, leads-end, call-leads}
 
 -- the session after what came back, if any byte did
@@ -41,6 +46,9 @@ heard-leads : (s : Session) (r : Option (List ℕ)) → Leads s (replyTrace r) (
 heard-leads s none = leads-nowhere
 heard-leads s (some []) = leads-nowhere
 heard-leads s (some (b ∷ bs)) = record { then = λ ps. refl }
+
+silent-leads : (s : Session) (x : Said) → x ≡ silence → Leads s (lateTrace x) s
+silent-leads s x e = rw e leads-nowhere
 
 -- with silence for the rest of it, that is the session after the report
 heard-reported : (s : Session) (r : Option (List ℕ)) → quietOf (heard s r) ≡ reportedOf s r .session
@@ -135,7 +143,7 @@ follows (delay {w = w} c p e q a) o =
     let f = follows c (o .0) in
     record {
       session = f .session;
-      leads = leads-on (f .leads) (rw (o .1) leads-nowhere);
+      leads = leads-on (f .leads) (silent-leads (f .session) (saidAfter q (w .nodes)) (o .1));
       stands = subst (Stands (f .session) (w .host)) e (f .stands);
     }
 follows (stray {w = w} c r why e) p = rw (refused-report (w .host) r why e) (follows c p)
@@ -149,3 +157,24 @@ walks w c p e ps same =
 pub replays : Replays
 unfolding replayOf
 replays w c p e cs cts rs rts good same = rw good (walks w c p e (leftAt cs cts rs rts outset) same)
+
+-- no power-up with more than 31 nodes is accepted
+told-few : {w : World} (c : Comes w) → told c ≤ 31
+told-few (start ns) = omega arith
+told-few (power {w = w} c bs e) = accepted-power (w .host) (length bs) e .few
+told-few (unpowered c n why e) = told-few c
+told-few (call c k typed out) = told-few c
+told-few (deliver c what p e q r a b) = told-few c
+told-few (report c what r e) = told-few c
+told-few (hurry c what p e r n) = told-few c
+told-few (delay c p e q a) = told-few c
+told-few (stray c r why e) = told-few c
+told-few (bench c i b) = told-few c
+
+good-check : (n : ℕ) (cs cts rs rts : List ℕ) → 1 ≤ n → n ≤ 31 → checkOf cs cts rs rts ≡ Good → recordingCheck n cs cts rs rts ≡ Good
+unfolding recordingCheck
+good-check n cs cts rs rts p q e = rw (powered-good freshOf n p q) e
+
+pub own-record : OwnRecord
+own-record w c p e least cs cts rs rts l =
+    replays w c p e cs cts rs rts (good-check (told c) cs cts rs rts least (told-few c) (laid-good l)) (laid-packets l)

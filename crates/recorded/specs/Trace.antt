@@ -56,7 +56,7 @@ told (delay c p e q a) = told c
 told (stray c r why e) = told c
 told (bench c i b) = told c
 
--- no reply comes after silence was reported: since the last power-up the nodes say nothing to a packet that comes after it
+-- a reply "is reported as it came", so none comes after silence was reported: since the last power-up the nodes say nothing to a packet that comes so late
 abbrev pub Prompt : {w : World} → Comes w → Type 0
 Prompt (start ns) = Unit {0}
 Prompt (power c bs e) = Unit {0}

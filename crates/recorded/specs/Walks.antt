@@ -1,10 +1,11 @@
 -- Document 02, 3: "A whole walk gives the host's record at its end".
-use Prim.Native.Nat.{ℕ}
+use Prim.Native.Nat.{ℕ, _≤_}
 use mathlib.Core.List.{List}
 use mathlib.Core.Path.{_≡_}
 use Rattle.session.specs.declared.Exchange.the-variants.{Idle}
 use Rattle.capture.specs.Steps.{Recorded, outset, leftAt}
 use Rattle.capture.specs.Traces.{tracedOf}
+use Rattle.capture.specs.Laying.{Laid, Laying}
 use Rattle.capture.specs.declared.Checked.the-variants.{Good}
 use Rattle.recording.specs.Recording.{recordingCheck, powerOf, followOf, replayOf}
 use Rattle.recording.specs.declared.Ending.the-variants.{Ended}
@@ -20,3 +21,12 @@ Walks = (w : World) (c : Comes w) → Prompt c → w .host .exchange ≡ Idle �
 abbrev pub Replays : Type 0
 Replays = (w : World) (c : Comes w) → Prompt c → w .host .exchange ≡ Idle → (cs cts rs rts : List ℕ) → recordingCheck (told c) cs cts rs rts ≡ Good
     → tracedOf (leftAt cs cts rs rts outset) ≡ trace c → replayOf (told c) cs cts rs rts ≡ record { ending = Ended; session = w .host }
+
+-- so after a power-up every recording with gaps as they are asked for is gone through to its end, and gives the host's own record
+abbrev pub OwnRecord : Type 0
+OwnRecord = (w : World) (c : Comes w) → Prompt c → w .host .exchange ≡ Idle → 1 ≤ told c → (cs cts rs rts : List ℕ) → Laid (trace c) cs cts rs rts
+    → replayOf (told c) cs cts rs rts ≡ record { ending = Ended; session = w .host }
+
+-- and of every course there is one
+abbrev pub Recordable : Type 0
+Recordable = (w : World) (c : Comes w) → Laying (trace c)

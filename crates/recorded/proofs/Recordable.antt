@@ -1,0 +1,72 @@
+-- What a recorder captures of a course can be laid with gaps as they are asked for, since no packet is empty.
+use Prim.Native.Nat.{ℕ, _≤_}
+use native.Mathlib.Omega.{arith}
+use mathlib.Core.List.{List, [], _∷_, _++_}
+use mathlib.Core.Option.{Option, none, some}
+use mathlib.Core.Path.{_≡_, refl, ap, sym, _∙_}
+use lib.ListN.{length, take, drop}
+use lib.Seq.{take-at}
+use Rattle.wire.specs.Promise.{Outcome}
+use Rattle.command.specs.Build.{packetFor}
+use Rattle.survey.specs.Chain.{Said, silence, reply, collided}
+use Rattle.session.specs.declared.Session.{Session}
+use Rattle.session.specs.declared.Step.{Step}
+use Rattle.session.specs.declared.End.{End}
+use Rattle.session.specs.declared.End.the-variants.{Done, Sent, Refused}
+use Rattle.session.specs.Session.{endNumber}
+use Rattle.calls.specs.Calls.{callPerform}
+use Rattle.calls.specs.declared.Call.{Call}
+use Rattle.calls.proofs.Standing.{call-went}
+use Rattle.capture.specs.Traces.{Traced}
+use Rattle.capture.specs.Laying.{NoneEmpty}
+use Rattle.capture.proofs.Laying.{can-be-laid}
+use Rattle.line.specs.Line.{saidAfter}
+use Rattle.line.specs.World.{World, Comes, start, power, unpowered, call, deliver, report, hurry, delay, stray, bench}
+use Rattle.recorded.specs.Trace.{callTrace, replyTrace, lateTrace, trace}
+use Rattle.recorded.specs.Walks.{Recordable}
+
+both-full : (xs ys : List Traced) → NoneEmpty xs → NoneEmpty ys → NoneEmpty (xs ++ ys)
+both-full [] ys f g = g
+both-full (x ∷ xs) ys f g = (f .0, both-full xs ys (f .1) g)
+
+-- a packet that was sent is the command's own
+sent-count : {n m : ℕ} → Sent n ≡ Sent m → n ≡ m
+sent-count e = cc
+
+packet-full : (k : Call) (s : Session) (out : List ℕ) (n : ℕ) → callPerform k s out .answer .end ≡ Sent n → 1 ≤ length (take n (callPerform k s out .left))
+packet-full k s out n e =
+    let w = call-went k s out (ap endNumber e) in
+    let p = packetFor (w .called) (w .command) in
+    let m : length p ≡ n = sent-count (sym (ap (λ (o : Outcome Step (List ℕ)). o .answer .end) (w .result)) ∙ e) in
+    let q : take n (callPerform k s out .left) ≡ p = ap (λ (o : Outcome Step (List ℕ)). take n (o .left)) (w .result) ∙ take-at p (drop (length p) out) n m in
+    rw q (omega arith)
+
+call-full : (k : Call) (s : Session) (out : List ℕ) (e : End) → callPerform k s out .answer .end ≡ e → NoneEmpty (callTrace e (callPerform k s out .left))
+call-full k s out (Sent n) e = (packet-full k s out n e, tt)
+call-full k s out Done e = tt
+call-full k s out (Refused why) e = tt
+
+reply-full : (r : Option (List ℕ)) → NoneEmpty (replyTrace r)
+reply-full none = tt
+reply-full (some []) = tt
+reply-full (some (b ∷ bs)) = (omega arith, tt)
+
+late-full : (s : Said) → NoneEmpty (lateTrace s)
+late-full silence = tt
+late-full (reply r) = reply-full (some r)
+late-full collided = tt
+
+trace-full : {w : World} (c : Comes w) → NoneEmpty (trace c)
+trace-full (start ns) = tt
+trace-full (power c bs e) = tt
+trace-full (unpowered c n why e) = trace-full c
+trace-full (call {w = w} c k typed out) = both-full (trace c) _ (trace-full c) (call-full k (w .host) out (callPerform k (w .host) out .answer .end) refl)
+trace-full (deliver c what p e q r a b) = both-full (trace c) (replyTrace r) (trace-full c) (reply-full r)
+trace-full (report c what r e) = trace-full c
+trace-full (hurry c what p e r n) = trace-full c
+trace-full (delay {w = w} c p e q a) = both-full (trace c) (lateTrace (saidAfter q (w .nodes))) (trace-full c) (late-full (saidAfter q (w .nodes)))
+trace-full (stray c r why e) = trace-full c
+trace-full (bench c i b) = trace-full c
+
+pub recordable : Recordable
+recordable w c = can-be-laid (trace c) (trace-full c)

@@ -28,12 +28,15 @@ use Rattle.capture.specs.declared.Checked.the-variants.{Good}
 use Rattle.capture.proofs.Laying.{laid-packets, laid-good}
 use Rattle.recording.specs.Recording.{recordingCheck, powerOf, quietOf, replayOf}
 use Rattle.recording.specs.declared.Ending.the-variants.{Ended}
+use Rattle.recording.specs.declared.Replayed.{Replayed}
 use Rattle.line.specs.Line.{Line, quiet, going, coming, lingering, Nothing, absent, empty, saidAfter, reportedOf}
-use Rattle.line.specs.World.{World, callEnded, callMade, Comes, start, power, unpowered, call, deliver, report, hurry, delay, stray, bench}
+use Rattle.line.specs.World.{World, hosting, callEnded, callMade, Comes, start, power, unpowered, call, deliver, report, hurry, delay, stray, bench}
+use Rattle.line.specs.Demand3.{Kept}
+use Rattle.line.proofs.Demand3.{demand3}
 use Rattle.line.proofs.Powering.{freshAt, accepted-power}
 use Rattle.line.proofs.Refusing.{refused-power, refused-call, refused-report}
 use Rattle.recorded.specs.Trace.{callTrace, replyTrace, lateTrace, trace, told, Prompt}
-use Rattle.recorded.specs.Walks.{Walks, Replays, OwnRecord}
+use Rattle.recorded.specs.Walks.{Walks, Replays, OwnRecord, RecordKept}
 use Rattle.recorded.proofs.Following.{idle-finishes, idle-quiet, idle-reports, finished-quiet, Leads, leads-on, leads-nowhere, leads-end, call-leads}
 
 -- the session after what came back, if any byte did
@@ -178,3 +181,7 @@ good-check n cs cts rs rts p q e = rw (powered-good freshOf n p q) e
 pub own-record : OwnRecord
 own-record w c p e least cs cts rs rts l =
     replays w c p e cs cts rs rts (good-check (told c) cs cts rs rts least (told-few c) (laid-good l)) (laid-packets l)
+
+pub record-kept : RecordKept
+record-kept w c p up e least cs cts rs rts l =
+    subst (λ (s : Session). Kept (hosting s w)) (sym (ap (λ (r : Replayed). r .session) (own-record w c p e least cs cts rs rts l))) (demand3 w c up e)

@@ -1,5 +1,6 @@
 -- Document 02, 3: "A whole walk gives the host's record at its end".
 use Prim.Native.Nat.{ℕ, _≤_}
+use mathlib.Core.Bool.{true}
 use mathlib.Core.List.{List}
 use mathlib.Core.Path.{_≡_}
 use Rattle.session.specs.declared.Exchange.the-variants.{Idle}
@@ -9,7 +10,8 @@ use Rattle.capture.specs.Laying.{Laid, Laying}
 use Rattle.capture.specs.declared.Checked.the-variants.{Good}
 use Rattle.recording.specs.Recording.{recordingCheck, powerOf, followOf, replayOf}
 use Rattle.recording.specs.declared.Ending.the-variants.{Ended}
-use Rattle.line.specs.World.{World, Comes}
+use Rattle.line.specs.World.{World, hosting, Comes}
+use Rattle.line.specs.Demand3.{Kept}
 use Rattle.recorded.specs.Trace.{trace, told, Prompt}
 
 -- with no exchange open, the packets captured since the last power-up, whenever each started, lead a powered-up session to the host's own
@@ -27,6 +29,11 @@ abbrev pub OwnRecord : Type 0
 OwnRecord = (w : World) (c : Comes w) → Prompt c → w .host .exchange ≡ Idle → 1 ≤ told c → (cs cts rs rts : List ℕ) → Laid (trace c) cs cts rs rts
     → replayOf (told c) cs cts rs rts ≡ record { ending = Ended; session = w .host }
 
--- and of every course there is one
+-- by demand 3, then, what that record calls known is what the nodes hold, and it is in doubt exactly as the demand says
+abbrev pub RecordKept : Type 0
+RecordKept = (w : World) (c : Comes w) → Prompt c → w .up ≡ true → w .host .exchange ≡ Idle → 1 ≤ told c → (cs cts rs rts : List ℕ) → Laid (trace c) cs cts rs rts
+    → Kept (hosting (replayOf (told c) cs cts rs rts .session) w)
+
+-- and of every course there is such a recording
 abbrev pub Recordable : Type 0
 Recordable = (w : World) (c : Comes w) → Laying (trace c)

@@ -123,8 +123,8 @@ fn power(n: u8) -> Session
 fn quiet(s: Session) -> Session
     ensures { λ r. ⌜ r ≡ quietOf s ⌝ }
 {
-    let step = reports::silence(s);
-    step.session
+    let silent = reports::silence(s);
+    silent.session
 }
 
 // What a step did, and the stage behind it. Made here alone, since a literal of a whole session is the costly part of a check.

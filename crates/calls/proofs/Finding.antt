@@ -1,5 +1,5 @@
 -- The call that is found for some bytes gives them in that session with number 0, and where none is found no call does: "a command the host couldn't have sent".
-use Prim.Native.Nat.{ℕ, _+_, _≤_}
+use Prim.Native.Nat.{ℕ, _+_}
 use mathlib.Core.Bool.{Bool, true, false, cond, true≢false}
 use mathlib.Core.List.{List, [], _++_, append-nil}
 use mathlib.Core.Path.{_≡_, refl, sym, ap, subst, _∙_}
@@ -8,7 +8,6 @@ use lib.Dec.{ltb}
 use lib.ListN.{length, take, drop, replicate, length-replicate}
 use lib.Seq.{take-at}
 use borrow.Author.Tests.{le-ltb}
-use Rattle.wire.specs.Address.{byteOf}
 use Rattle.wire.specs.Promise.{Outcome}
 use Rattle.wire.proofs.Impossible.{impossible}
 use Rattle.wire.proofs.Choice.{chose-second}
@@ -16,17 +15,15 @@ use Rattle.wire.specs.declared.address.Address.{Address}
 use Rattle.packet.specs.Packet.{readOf, dataPart}
 use Rattle.packet.specs.declared.Framed.{Framed}
 use Rattle.packet.specs.declared.Framed.the-variants as framed
-use Rattle.packet.proofs.Packets.{built-length}
 use Rattle.command.specs.declared.Command.{Command}
-use Rattle.command.specs.declared.Command.the-variants.{SetAddress, DefineStatus, ReadStatus, SetPwm, SynchOutput, SetOutputs, SetSynchOutput, SetTimerMode, SynchInput, Nop, HardReset}
 use Rattle.command.specs.declared.Reading.{Reading}
 use Rattle.command.specs.declared.Reading.the-variants as reading
 use Rattle.command.specs.declared.Role.{Role}
 use Rattle.command.specs.declared.Role.the-variants.{Plain, Places, Masks, Captures, Idles, Resets}
 use Rattle.command.specs.Role.{roleOf, isPlacing}
 use Rattle.command.specs.Command.{commandRead}
-use Rattle.command.specs.Build.{codeOf, typedBy, Typed, ownData, packetFor}
-use Rattle.command.proofs.Commands.{built-reads, reads-in-range}
+use Rattle.command.specs.Build.{typedBy, Typed, packetFor}
+use Rattle.command.proofs.Commands.{built-few, built-reads, reads-in-range}
 use Rattle.session.specs.declared.Session.{Session}
 use Rattle.session.specs.declared.Step.{Step}
 use Rattle.session.specs.declared.End.{End}
@@ -51,23 +48,6 @@ use Rattle.calls.specs.Understanding.{understandOf, spokenAs, spokenTo}
 use Rattle.calls.specs.Finding.{isSame, missedOf, soughtBy, soughtOf, tryCall, earlyCall, lateBy, lateCall, bySource, seekOf, findBy, findOf}
 use Rattle.calls.proofs.Same.{same-self, same-says}
 use Rattle.calls.proofs.Standing.{CallWent, call-went}
-
--- no command's packet is longer than 19 bytes
-short-data : (c : Command) → length (ownData c) ≤ 4
-short-data (SetAddress p) = omega arith
-short-data (DefineStatus m) = omega arith
-short-data (ReadStatus m) = omega arith
-short-data (SetPwm w) = omega arith
-short-data SynchOutput = omega arith
-short-data (SetOutputs w) = omega arith
-short-data (SetSynchOutput h) = omega arith
-short-data (SetTimerMode m) = omega arith
-short-data SynchInput = omega arith
-short-data Nop = omega arith
-short-data HardReset = omega arith
-
-short : (a : Address) (c : Command) → length (packetFor a c) ≤ 19
-short a c = omega (arith, built-length (byteOf a) (codeOf c) (ownData c), short-data c)
 
 found-not : {k : Call} → Found k ≡ Missing → ⊥
 found-not e = impossible cc
@@ -111,7 +91,7 @@ module _ {s : Session} {k : Call} {p : List ℕ} (g : Gives s k p) (w : CallWent
   tried : tryCall s k packet ≡ record { source = Found k; session = openExchange s (w .to) (w .command) }
   unfolding tryCall
   tried =
-      let e : callPerform k s (replicate 19 0) ≡ sending s (w .called) (w .to) (w .command) (replicate 19 0) = w .sends (replicate 19 0) .room (omega (arith, short (w .called) (w .command), length-replicate {A = ℕ} 19 0)) in
+      let e : callPerform k s (replicate 19 0) ≡ sending s (w .called) (w .to) (w .command) (replicate 19 0) = w .sends (replicate 19 0) .room (omega (arith, built-few (w .called) (w .command), length-replicate {A = ℕ} 19 0)) in
       ap (soughtOf s k packet) e
       ∙ sent-found s k packet (packet ++ drop (length packet) (replicate 19 0)) (openExchange s (w .to) (w .command)) (length packet) (take-at packet (drop (length packet) (replicate 19 0)) _ refl)
 

@@ -68,6 +68,10 @@ read-from k d c h e = let s = says k (length d) d c e in (s .code, s .bytes refl
 built-length : (a : Address) (c : Command) → length (packetFor a c) ≡ 4 + length (ownData c)
 built-length a c = packets.built-length (byteOf a) (codeOf c) (ownData c)
 
+-- no command has more than four data bytes, so no packet of one more than 8
+pub built-few : (a : Address) (c : Command) → length (packetFor a c) ≤ 8
+built-few a c = let z = sized c in omega (arith, built-length a c)
+
 -- a built packet, whatever follows it, reads back as the same command and ends at its length
 pub built-reads : (a : Address) (c : Command) → inRange a ≡ true → fitsOf c ≡ true → Typed c → (more : List ℕ) → ReadsAs (packetFor a c ++ more) a c (length (packetFor a c))
 built-reads a c h f t more =

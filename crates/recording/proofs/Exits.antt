@@ -7,7 +7,6 @@ use lib.ListN.{length}
 use denote.Ref.{RefT, now}
 use Rattle.wire.specs.Promise.{Promise, promised}
 use Rattle.wire.specs.declared.refusal.Refusal.{Refusal}
-use Rattle.wire.proofs.Impossible.{impossible}
 use Rattle.session.specs.declared.Session.{Session}
 use Rattle.session.specs.declared.Step.{Step}
 use Rattle.session.specs.declared.End.{End}
@@ -27,8 +26,6 @@ use Rattle.capture.specs.declared.Stepped.the-variants as stepped
 use Rattle.capture.specs.declared.Checked.{Checked}
 use Rattle.capture.specs.declared.Checked.the-variants.{Good, Refused}
 use Rattle.capture.proofs.Steps.{packet-command, packet-reply}
-use Rattle.capture.proofs.Meaning.{Sound}
-use Rattle.capture.proofs.Meaning as captured
 use Rattle.recording.specs.declared.Stage.{Stage}
 use Rattle.recording.specs.declared.Event.the-variants as event
 use Rattle.recording.specs.declared.Moved.{Moved}
@@ -36,7 +33,8 @@ use Rattle.recording.specs.declared.Begun.{Begun}
 use Rattle.recording.specs.declared.Ending.the-variants as ending
 use Rattle.recording.specs.declared.Replayed.{Replayed}
 use Rattle.capture.specs.Steps.{outset, leftAt}
-use Rattle.recording.specs.Recording.{quietOf, toldOf, thenCheck, recordingCheck, powerOf, followOf, replayOf, replayedNumber}
+use Rattle.recording.specs.Recording.{quietOf, toldOf, recordingCheck, powerOf, followOf, replayOf, replayedNumber}
+use Rattle.recording.proofs.Sound.{good-sound}
 use Rattle.recording.specs.Stages.{moveTo, takeCommand, takeReply, takeEnd, advanceBy, advanceOf, beginAt, begunNumber, beginOf}
 
 -- ---- the checks
@@ -131,14 +129,6 @@ module _ (n : ℕ) (cs cts rs rts : List ℕ) (t : Checked) (h : Promise checked
   replayed-not why s e f = promised (rw (← (h .answer), e, f))
 
 -- ---- what the walk counts on, once the checks are passed
-
-then-good : (a b : Checked) → thenCheck a b ≡ Good → b ≡ Good
-then-good Good b e = e
-then-good (Refused why) b e = impossible cc
-
-pub good-sound : (n : ℕ) (cs cts rs rts : List ℕ) → recordingCheck n cs cts rs rts ≡ Good → Sound cs cts rs rts
-unfolding recordingCheck
-good-sound n cs cts rs rts e = captured.good-sound cs cts rs rts (then-good (toldOf (startPowerUp freshOf n .end)) (checkOf cs cts rs rts) e)
 
 module _ (n : ℕ) (cs cts rs rts : List ℕ) (t : Checked) (h : Promise checkedNumber t (recordingCheck n cs cts rs rts)) where
   pub even-command : t ≡ Good → length cts ≡ length cs

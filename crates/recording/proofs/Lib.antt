@@ -1,4 +1,5 @@
-mod Exits
-mod Stepping
+pub mod Sound
+pub mod Stepping
 pub mod Meaning
+mod Exits
 pub mod Unique

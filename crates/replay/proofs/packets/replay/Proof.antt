@@ -2,7 +2,7 @@
 use borrow.Author.Needs.{needs}
 use Rattle.capture.specs.Steps.{bytesLeft}
 use Rattle.recording.specs.Recording.{replayOf}
-use Rattle.replay.proofs.Walks.{Coming, comes-start, comes-less, comes-on, comes-end}
+use Rattle.recording.proofs.Stepping.{Coming, comes-start, comes-less, comes-on, comes-end}
 use Rattle.replay.proofs.packets.replay.Statement.{statement}
 use Rattle.replay.proofs.packets.replay.Tie as tie
 

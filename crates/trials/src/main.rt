@@ -36,16 +36,42 @@ fn line_room() -> [u8; 3 * fields::MOST_BYTES]
     [0; 3 * fields::MOST_BYTES]
 }
 
+// Room for the answer to a recording, which is longer than all others, and for its line.
+fn recording_room() -> [u8; tryrecording::MOST_BYTES]
+    ensures { λ r. ⌜ 10682 ≡ length r ⌝ }
+{
+    [0; tryrecording::MOST_BYTES]
+}
+
+fn recording_line_room() -> [u8; 3 * tryrecording::MOST_BYTES]
+    ensures { λ r. ⌜ 32046 ≡ length r ⌝ }
+{
+    [0; 3 * tryrecording::MOST_BYTES]
+}
+
+// Writes bytes as a line, which `line` has room for.
+fn show_bytes(bytes: &[u8], line: &mut [u8]) {
+    match hex::write_line(bytes, line) {
+        Built::Bytes(n) => {
+            io::write_all(STDOUT_FILENO, text::first(line, n));
+        }
+        Built::Refused(_) => {}
+    }
+}
+
 // Writes an answer as a line.
 fn show(a: Answer) {
     let bytes = a.bytes;
     let mut line = line_room();
-    match hex::write_line(text::first(&bytes, a.length), &mut line) {
-        Built::Bytes(n) => {
-            io::write_all(STDOUT_FILENO, text::first(&line, n));
-        }
-        Built::Refused(_) => {}
-    }
+    show_bytes(text::first(&bytes, a.length), &mut line);
+}
+
+// Tries a recording, and writes its answer.
+fn try_recording(args: &[u8]) {
+    let mut bytes = recording_room();
+    let mut line = recording_line_room();
+    let n = tryrecording::replay(args, &mut bytes);
+    show_bytes(text::first(&bytes, n), &mut line);
 }
 
 // What a line is answered that leaves the session as it is.
@@ -79,15 +105,30 @@ fn read_line(line: &[u8], bytes: &mut [u8]) -> usize {
     }
 }
 
+// Writes what a line is answered; the session after it.
+fn show_tried(tried: Tried) -> Session {
+    let answer = tried.answer;
+    show(answer);
+    tried.session
+}
+
+// Tries a line by its first byte and those behind it; the session after it.
+fn try_bytes(s: Session, kind: u8, args: &[u8]) -> Session {
+    match kind {
+        0x50 => {
+            try_recording(args);
+            s
+        }
+        _ => show_tried(attempt(s, kind, args)),
+    }
+}
+
 // Tries a line; the session after it.
 fn try_line(s: Session, line: &[u8]) -> Session {
     let mut room = bytes_room();
     let n = read_line(line, &mut room);
     let bytes = text::first(&room, n);
-    let tried = attempt(s, byte(bytes, 0), text::rest(bytes, 1));
-    let answer = tried.answer;
-    show(answer);
-    tried.session
+    try_bytes(s, byte(bytes, 0), text::rest(bytes, 1))
 }
 
 // Tries each line, with one session from line to line.

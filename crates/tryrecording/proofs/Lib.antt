@@ -1,0 +1,6 @@
+mod Forms
+mod Writes
+mod Walks
+mod Shows
+mod Tries
+pub mod Unique

@@ -1,0 +1,160 @@
+-- What the line is answered; a law for each exit of the code.
+use Prim.Native.Nat.{ℕ, _-_, _≤_}
+use mathlib.Core.Bool.{Bool, true, false, _&&_}
+use mathlib.Core.List.{List, [], _∷_}
+use mathlib.Core.Path.{_≡_, refl, sym, _∙_}
+use native.Mathlib.Omega.{arith}
+use native.Mathlib.Nat.{sub-zero}
+use borrow.Author.Tests.{leb-true}
+use lib.Dec.{leb, eqb}
+use lib.ListN.{length, take, drop, length-take}
+use Rattle.wire.specs.Numbers.{numberOf}
+use Rattle.wire.specs.Promise.{Promise}
+use Rattle.wire.specs.declared.refusal.Refusal.{Refusal}
+use Rattle.wire.proofs.Choice.{both}
+use Rattle.wire.proofs.Impossible.{impossible}
+use Rattle.session.specs.declared.Session.{Session}
+use Rattle.capture.specs.declared.Checked.{Checked}
+use Rattle.capture.specs.declared.Checked.the-variants as checked
+use Rattle.capture.specs.Checks.{checkOf}
+use Rattle.capture.specs.Steps.{outset, leftAt}
+use Rattle.capture.proofs.Meaning.{Sound, good-sound}
+use Rattle.recording.specs.declared.Begun.{Begun}
+use Rattle.recording.specs.declared.Ending.the-variants.{Ended, Foreign, Refused}
+use Rattle.recording.specs.declared.Replayed.{Replayed}
+use Rattle.start.specs.Start.{freshOf, startPowerUp}
+use Rattle.recording.specs.Recording.{toldOf, thenCheck, recordingCheck, powerOf, followOf, replayBy, replayOf, replayedNumber}
+use Rattle.recording.specs.Stages.{beginOf, begunNumber}
+use Rattle.fields.specs.Field.{fieldsByte}
+use Rattle.tryrecording.specs.Form.{byteCount, bytePart, timeCount, timesIn, captureLength, mostCaptured, isCapture, commandPart, replyPart, isRecording}
+use Rattle.tryrecording.specs.Writing.{WroteEach}
+use Rattle.tryrecording.specs.Trying.{stepsOf, joinedSteps, headBytes, stateBytes, walkBytes, replayBytes, recordingBytes, tryrecordingReplay}
+use Rattle.tryrecording.specs.Moves.{stepsFrom, Walkable, IsGood}
+use Rattle.tryrecording.proofs.Writes.{each-then}
+
+-- ---- the walk of a recording that isn't refused
+
+then-good : (a b : Checked) → thenCheck a b ≡ checked.Good → b ≡ checked.Good
+then-good checked.Good b e = e
+then-good (checked.Refused why) b e = impossible cc
+
+sound-of : (n : ℕ) (cs cts rs rts : List ℕ) → recordingCheck n cs cts rs rts ≡ checked.Good → Sound cs cts rs rts
+unfolding recordingCheck
+sound-of n cs cts rs rts e = good-sound cs cts rs rts (then-good (toldOf (startPowerUp freshOf n .end)) (checkOf cs cts rs rts) e)
+
+module _ (n : ℕ) (cs cts rs rts : List ℕ) (b : Begun) (g : IsGood n cs cts rs rts) (p : Promise begunNumber b (beginOf n cs cts rs rts)) where
+  begun-at : b .stage ≡ record { at = outset; over = false; session = powerOf n }
+  unfolding beginOf
+  begun-at = rw (p .answer, g .good)
+
+  walk-from : (at : ℕ) → at ≤ 4 → Walkable cs cts rs rts (b .stage) at
+  walk-from at h =
+      let s = sound-of n cs cts rs rts (g .good) in
+      rw begun-at (record { command = s .command-number; reply = s .reply-number; on = refl; small = omega (arith, g .command, g .reply) })
+
+  pub walk-first : Walkable cs cts rs rts (b .stage) 0
+  walk-first = walk-from 0 (omega arith)
+
+  pub walk-behind : (e k at : ℕ) (out left : List ℕ) → WroteEach (headBytes e k) 0 out at left → Walkable cs cts rs rts (b .stage) at
+  unfolding headBytes
+  walk-behind e k at out left w = walk-from at (omega (arith, w .behind))
+
+  pub walked : (s : Session) (e k a a₂ r : ℕ) (out o₁ o₂ left : List ℕ) → k ≡ length (stepsFrom cs cts rs rts (b .stage)) → WroteEach (headBytes e k) 0 out a o₁
+      → WroteEach (joinedSteps (stepsFrom cs cts rs rts (b .stage))) a o₁ a₂ o₂ → WroteEach (stateBytes s) a₂ o₂ r left
+      → WroteEach (walkBytes e (stepsOf (powerOf n) outset (leftAt cs cts rs rts outset)) s) 0 out r left
+  unfolding walkBytes stepsFrom
+  walked s e k a a₂ r out o₁ o₂ left c h w t =
+      let i : stepsFrom cs cts rs rts (b .stage) ≡ stepsOf (powerOf n) outset (leftAt cs cts rs rts outset) = rw begun-at in
+      rw (← i, ← c) (each-then (each-then h w) t)
+
+-- ---- by how it ended
+
+ended-good : (c : Checked) (x : Replayed) → replayBy c x .ending ≡ Ended → c ≡ checked.Good
+ended-good checked.Good x e = refl
+ended-good (checked.Refused why) x e = impossible cc
+
+foreign-good : (c : Checked) (x : Replayed) → replayBy c x .ending ≡ Foreign → c ≡ checked.Good
+foreign-good checked.Good x e = refl
+foreign-good (checked.Refused why) x e = impossible cc
+
+module _ (n : ℕ) (cs cts rs rts : List ℕ) (x : Replayed) (p : Promise replayedNumber x (replayOf n cs cts rs rts)) where
+  module _ (h : length cts ≤ 0x400) (k : length rts ≤ 0x400) where
+    pub good-ended : x .ending ≡ Ended → IsGood n cs cts rs rts
+    unfolding replayOf
+    good-ended e = record {
+      good = ended-good (recordingCheck n cs cts rs rts) (followOf (powerOf n) (leftAt cs cts rs rts outset)) (rw (p .answer) at e);
+      command = h;
+      reply = k;
+    }
+
+    pub good-foreign : x .ending ≡ Foreign → IsGood n cs cts rs rts
+    unfolding replayOf
+    good-foreign e = record {
+      good = foreign-good (recordingCheck n cs cts rs rts) (followOf (powerOf n) (leftAt cs cts rs rts outset)) (rw (p .answer) at e);
+      command = h;
+      reply = k;
+    }
+
+  module _ (out left : List ℕ) (r : ℕ) where
+    pub shows-ended : x .ending ≡ Ended → WroteEach (walkBytes 0 (stepsOf (powerOf n) outset (leftAt cs cts rs rts outset)) (x .session)) 0 out r left
+        → WroteEach (replayBytes n cs cts rs rts) 0 out r left
+    unfolding replayBytes
+    shows-ended e w = rw (← (p .answer), e) w
+
+    pub shows-foreign : x .ending ≡ Foreign → WroteEach (walkBytes 1 (stepsOf (powerOf n) outset (leftAt cs cts rs rts outset)) (x .session)) 0 out r left
+        → WroteEach (replayBytes n cs cts rs rts) 0 out r left
+    unfolding replayBytes
+    shows-foreign e w = rw (← (p .answer), e) w
+
+    pub shows-refused : (why : Refusal) (k : ℕ) → x .ending ≡ Refused why → k ≡ numberOf why → WroteEach (k ∷ []) 0 out r left → WroteEach (replayBytes n cs cts rs rts) 0 out r left
+    unfolding replayBytes
+    shows-refused why k e f w = rw (← (p .answer), e, ← f) w
+
+-- ---- a line of the form
+
+captured-few : (s : List ℕ) → isCapture s ≡ true → timeCount s ≤ mostCaptured
+unfolding isCapture
+captured-few s e =
+    let few : Bool = leb (timeCount s) mostCaptured in
+    let whole : Bool = leb (captureLength s) (length s) in
+    leb-true (timeCount s) mostCaptured (both few whole (both (leb (byteCount s) mostCaptured) (few && whole) e .1) .0)
+
+module _ (s : List ℕ) (h : isRecording s ≡ true) where
+  pub command-few : (c : List ℕ) → c ≡ drop 1 s → timeCount c ≤ mostCaptured
+  unfolding isRecording
+  command-few c e = rw e (captured-few (commandPart s) (both (isCapture (commandPart s)) (isCapture (replyPart s) && eqb (length (replyPart s)) (captureLength (replyPart s))) h .0))
+
+  pub reply-few : (c : List ℕ) → c ≡ replyPart s → timeCount c ≤ mostCaptured
+  unfolding isRecording
+  reply-few c e =
+      let alone : Bool = eqb (length (replyPart s)) (captureLength (replyPart s)) in
+      rw e (captured-few (replyPart s) (both (isCapture (replyPart s)) alone (both (isCapture (commandPart s)) (isCapture (replyPart s) && alone) h .1) .0))
+
+  pub command-fits : (c ts : List ℕ) (t : ℕ) → c ≡ drop 1 s → t ≡ timeCount c → length ts ≡ 0x400 → t ≤ length ts
+  command-fits c ts t e f l = let k = command-few c e in omega arith
+
+  pub reply-fits : (c ts : List ℕ) (t : ℕ) → c ≡ replyPart s → t ≡ timeCount c → length ts ≡ 0x400 → t ≤ length ts
+  reply-fits c ts t e f l = let k = reply-few c e in omega arith
+
+pub part-few : (ts : List ℕ) (n : ℕ) → length ts ≡ 0x400 → length (take n ts) ≤ 0x400
+part-few ts n l = omega (arith, length-take n ts)
+
+pub shows-recording : (s c d cb db cts dts : List ℕ) (n t u r : ℕ) (out left : List ℕ) → c ≡ drop 1 s → d ≡ replyPart s → take (timeCount c) cts ≡ timesIn c
+    → take (timeCount d) dts ≡ timesIn d → t ≡ timeCount c → u ≡ timeCount d → n ≡ fieldsByte s 0 → cb ≡ bytePart c → db ≡ bytePart d
+    → WroteEach (replayBytes n cb (take (t - 0) cts) db (take (u - 0) dts)) 0 out r left → WroteEach (recordingBytes s) 0 out r left
+shows-recording s c d cb db cts dts n t u r out left ec ed ecs eds et eu en eb fb w =
+    rw (← ec, ← ed, ← en, ← eb, ← fb, ← ecs, ← eds, ← et, ← eu, ← (sub-zero t), ← (sub-zero u)) w
+
+-- ---- any line
+
+module _ (s out left : List ℕ) (t : Bool) (r : ℕ) (e : t ≡ isRecording s) where
+  pub replays : t ≡ true → WroteEach (recordingBytes s) 0 out r left → WroteEach (tryrecordingReplay s) 0 out r left
+  unfolding tryrecordingReplay
+  replays h w = rw (sym e ∙ h) w
+
+  pub replays-not : t ≡ false → WroteEach (0xFF ∷ []) 0 out r left → WroteEach (tryrecordingReplay s) 0 out r left
+  unfolding tryrecordingReplay
+  replays-not h w = rw (sym e ∙ h) w
+
+pub is-true : (s : List ℕ) (t : Bool) → t ≡ isRecording s → t ≡ true → isRecording s ≡ true
+is-true s t e h = sym e ∙ h

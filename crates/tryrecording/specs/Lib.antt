@@ -1,0 +1,4 @@
+pub mod Form
+pub mod Writing
+pub mod Trying
+pub mod Moves

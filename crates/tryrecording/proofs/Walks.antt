@@ -1,8 +1,8 @@
 -- The steps of a walk: what each adds, and that they end; a law for each exit of the code.
 use Prim.Native.Nat.{ℕ, _+_, _-_, _*_, _/_, _≤_, _<_}
-use mathlib.Core.Bool.{Bool, true, false, cond, true≢false}
+use mathlib.Core.Bool.{Bool, true, false, cond}
 use mathlib.Core.List.{List, [], _∷_, _++_}
-use mathlib.Core.Path.{_≡_, refl, sym, subst}
+use mathlib.Core.Path.{_≡_, refl, subst}
 use native.Mathlib.Omega.{arith}
 use native.Mathlib.Nat.{add-sub-cancel-left}
 use lib.ListN.{length, length-append}
@@ -18,13 +18,14 @@ use Rattle.capture.specs.Steps.{Recorded, sent, got, leftAt, packetFrom, captur
 use Rattle.capture.specs.declared.Cursor.{Cursor}
 use Rattle.capture.specs.declared.Stepped.{Stepped}
 use Rattle.capture.specs.declared.Stepped.the-variants as stepped
-use Rattle.capture.proofs.Steps.{down-command, down-reply, shows-command, shows-reply, shows-none, past-command, past-reply}
+use Rattle.capture.proofs.Steps.{shows-command, shows-reply, shows-none, past-command, past-reply}
 use Rattle.recording.specs.declared.Stage.{Stage}
 use Rattle.recording.specs.declared.Event.{Event}
 use Rattle.recording.specs.declared.Event.the-variants.{Sent, Foreign, Answered, Unawaited}
 use Rattle.recording.specs.declared.Event.the-variants as event
 use Rattle.recording.specs.declared.Moved.{Moved}
 use Rattle.recording.specs.Recording.{quietOf}
+use Rattle.recording.proofs.Stepping.{advance-less}
 use Rattle.recording.specs.Stages.{commandBy, replyBy, takeCommand, takeReply, takeEnd, advanceBy, advanceOf}
 use Rattle.tryrecording.specs.Writing.{WroteEach}
 use Rattle.tryrecording.specs.Trying.{stepBytes, pastCommand, pastReply, stepsOf, joinedSteps}
@@ -101,41 +102,11 @@ module _ (cs cts rs rts : List ℕ) where
     unfolding stepsFrom advanceOf
     steps-on g m o e = rw (e, o) (by-step (g .at) (g .session) (captureStep cts rts (g .at)) refl)
 
--- ---- a walk that isn't over goes down
-
-module _ (cts rts : List ℕ) where
-  -- where it goes on, fewer bytes are left
-  abbrev Down : Cursor → Moved → Type 0
-  Down at m = m .stage .over ≡ false → bytesLeft cts rts (m .stage .at) < bytesLeft cts rts at
-
-  command-down : (at next : Cursor) (b s : Session) (c : Source) → bytesLeft cts rts next < bytesLeft cts rts at → Down at (commandBy c next b s)
-  command-down at next b s (Found c) d o = d
-  command-down at next b s Missing d o = absurd (true≢false o)
-
-  reply-down : (at next : Cursor) (s : Session) (e : End) → bytesLeft cts rts next < bytesLeft cts rts at → Down at (replyBy e next s)
-  reply-down at next s end.Done d o = d
-  reply-down at next s (end.Sent n) d o = d
-  reply-down at next s (end.Refused why) d o = d
-
-  step-down : (cs rs : List ℕ) (at : Cursor) (s : Session) (x : Stepped) → captureStep cts rts at ≡ x → Down at (advanceBy cs cts rs rts at s x)
-  unfolding takeCommand takeReply takeEnd
-  step-down cs rs at s (stepped.FromCommand next) e =
-      command-down at next (quietOf s) (findOf (quietOf s) (packetFrom cs cts (at .command) .bytes) .session) (findOf (quietOf s) (packetFrom cs cts (at .command) .bytes) .source)
-      (down-command cts rts at (captureStep cts rts at) next refl e)
-  step-down cs rs at s (stepped.FromReply next) e =
-      reply-down at next (reportOf s (packetFrom rs rts (at .reply) .bytes) .session) (reportOf s (packetFrom rs rts (at .reply) .bytes) .end)
-      (down-reply cts rts at (captureStep cts rts at) next refl e)
-  step-down cs rs at s stepped.End e = λ o. absurd (true≢false o)
-
-  advance-down : (cs rs : List ℕ) (g : Stage) → g .over ≡ false → Down (g .at) (advanceOf cs cts rs rts g)
-  unfolding advanceOf
-  advance-down cs rs g o = rw o (step-down cs rs (g .at) (g .session) (captureStep cts rts (g .at)) refl)
-
 -- ---- the loop: the steps from a stage on are still to be written
 
 module _ (cs cts rs rts : List ℕ) (begun g : Stage) (from : ℕ) (m : Moved) (h : Walkable cs cts rs rts begun from) (o : g .over ≡ false) (e : m ≡ advanceOf cs cts rs rts g) where
   pub stage-down : m .stage .over ≡ false → bytesLeft cts rts (m .stage .at) < bytesLeft cts rts (g .at)
-  stage-down f = subst (λ (x : Moved). Down cts rts (g .at) x) (sym e) (advance-down cts rts cs rs g o) f
+  stage-down f = advance-less cs cts rs rts g m o e f
 
   module _ (p q : ℕ) (out left : List ℕ) (w : WroteEach (eventBytes (m .event) (g .at) (m .stage .at)) p out q left) where
     pub stage-small : Small cts rts (g .at) p → m .stage .over ≡ false → Small cts rts (m .stage .at) q

@@ -16,14 +16,12 @@ use Rattle.wire.proofs.Impossible.{impossible}
 use Rattle.session.specs.declared.Session.{Session}
 use Rattle.capture.specs.declared.Checked.{Checked}
 use Rattle.capture.specs.declared.Checked.the-variants as checked
-use Rattle.capture.specs.Checks.{checkOf}
 use Rattle.capture.specs.Steps.{outset, leftAt}
-use Rattle.capture.proofs.Meaning.{Sound, good-sound}
+use Rattle.recording.proofs.Sound.{good-sound}
 use Rattle.recording.specs.declared.Begun.{Begun}
 use Rattle.recording.specs.declared.Ending.the-variants.{Ended, Foreign, Refused}
 use Rattle.recording.specs.declared.Replayed.{Replayed}
-use Rattle.start.specs.Start.{freshOf, startPowerUp}
-use Rattle.recording.specs.Recording.{toldOf, thenCheck, recordingCheck, powerOf, followOf, replayBy, replayOf, replayedNumber}
+use Rattle.recording.specs.Recording.{recordingCheck, powerOf, followOf, replayBy, replayOf, replayedNumber}
 use Rattle.recording.specs.Stages.{beginOf, begunNumber}
 use Rattle.fields.specs.Field.{fieldsByte}
 use Rattle.tryrecording.specs.Form.{byteCount, bytePart, timeCount, timesIn, captureLength, mostCaptured, isCapture, commandPart, replyPart, isRecording}
@@ -34,14 +32,6 @@ use Rattle.tryrecording.proofs.Writes.{each-then}
 
 -- ---- the walk of a recording that isn't refused
 
-then-good : (a b : Checked) → thenCheck a b ≡ checked.Good → b ≡ checked.Good
-then-good checked.Good b e = e
-then-good (checked.Refused why) b e = impossible cc
-
-sound-of : (n : ℕ) (cs cts rs rts : List ℕ) → recordingCheck n cs cts rs rts ≡ checked.Good → Sound cs cts rs rts
-unfolding recordingCheck
-sound-of n cs cts rs rts e = good-sound cs cts rs rts (then-good (toldOf (startPowerUp freshOf n .end)) (checkOf cs cts rs rts) e)
-
 module _ (n : ℕ) (cs cts rs rts : List ℕ) (b : Begun) (g : IsGood n cs cts rs rts) (p : Promise begunNumber b (beginOf n cs cts rs rts)) where
   begun-at : b .stage ≡ record { at = outset; over = false; session = powerOf n }
   unfolding beginOf
@@ -49,7 +39,7 @@ module _ (n : ℕ) (cs cts rs rts : List ℕ) (b : Begun) (g : IsGood n cs cts r
 
   walk-from : (at : ℕ) → at ≤ 4 → Walkable cs cts rs rts (b .stage) at
   walk-from at h =
-      let s = sound-of n cs cts rs rts (g .good) in
+      let s = good-sound n cs cts rs rts (g .good) in
       rw begun-at (record { command = s .command-number; reply = s .reply-number; on = refl; small = omega (arith, g .command, g .reply) })
 
   pub walk-first : Walkable cs cts rs rts (b .stage) 0

@@ -19,7 +19,7 @@ callPerform Ask s out = askOf s out
 callPerform (Order to c) s out = orderOf s to c out
 callPerform (Regroup i g leader) s out = regroupOf s i g leader out
 
--- what the types of a call admit: a group is a byte
+-- what the types of a call admit, as far as its own tests don't see to it: a group is a byte
 abbrev pub TypedCall : Call → Type 0
 TypedCall Next = Unit {0}
 TypedCall Ask = Unit {0}

@@ -62,6 +62,7 @@ lateBy to c Captures = Order to c
 lateBy to c Idles = Order to c
 lateBy to c Resets = Order to c
 
+-- by its role
 abbrev pub lateCall : Address → Command → Call
 lateCall to c = lateBy to c (roleOf c)
 
@@ -74,10 +75,12 @@ bySource Missing x y = y
 unfoldable pub seekOf : Session → Call → Call → List ℕ → Sought
 seekOf s early late p = bySource (tryCall s early p .source) (tryCall s early p) (tryCall s late p)
 
+-- by what the bytes say: the walk's call for it, else the ready session's
 abbrev pub findBy : Session → List ℕ → Spoken → Sought
 findBy s p (spoken.Command to c) = seekOf s (earlyCall c) (lateCall to c) p
 findBy s p spoken.Other = missedOf s
 findBy s p (spoken.Refused why) = missedOf s
 
+-- the call that gives these bytes in this session, and the session after it
 unfoldable pub findOf : Session → List ℕ → Sought
 findOf s p = findBy s p (understandOf p)

@@ -26,6 +26,7 @@ abbrev pub spokenAs : List ℕ → Framed → Spoken
 spokenAs p (framed.Whole to k end) = cond (ltb end (length p)) (Refused Long) (spokenTo to (commandRead k (dataPart p)))
 spokenAs p (framed.Refused why) = Refused why
 
+-- what bytes between two gaps say, all of them
 unfoldable pub understandOf : List ℕ → Spoken
 understandOf p = spokenAs p (readOf p)
 

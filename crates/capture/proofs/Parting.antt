@@ -5,7 +5,8 @@ use mathlib.Core.List.{List}
 use denote.Ref.{RefT, now}
 use Rattle.wire.specs.Part.{Part}
 use Rattle.capture.specs.Packets.{packetEnd, cutOf}
-use Rattle.capture.specs.Steps.{dueOf, captureStep, partBy, PacketAt}
+use Rattle.capture.specs.Steps.{dueOf, captureStep}
+use Rattle.capture.proofs.Steps.{partBy, PacketAt}
 use Rattle.capture.specs.declared.Cursor.{Cursor}
 use Rattle.capture.specs.declared.Line.{Line}
 use Rattle.capture.specs.declared.Line.the-variants.{Command, Reply, Neither}

@@ -6,7 +6,7 @@ use mathlib.Core.List.{List, [], _∷_}
 use lib.ListN.{length}
 use denote.Ref.{RefT, now}
 use Rattle.wire.specs.Part.{Part}
-use Rattle.capture.specs.Steps.{byLine, dueOf, captureStep, sent, got, leftAt, packetFrom, recordedBy, bytesLeft, partBy, PacketAt}
+use Rattle.capture.specs.Steps.{byLine, dueOf, captureStep, sent, got, leftAt, packetFrom, recordedBy, bytesLeft, captureBy, startBy, bytesBy}
 use Rattle.capture.specs.declared.Cursor.{Cursor}
 use Rattle.capture.specs.declared.Line.{Line}
 use Rattle.capture.specs.declared.Line.the-variants.{Command, Reply, Neither}
@@ -65,6 +65,13 @@ module _ (cs cts rs rts : List ℕ) (at : Cursor) (s : Stepped) where
   past-reply next h e f =
       let p : Progress cts rts at (FromReply next) = progress-of cts rts at s (FromReply next) e f in
       behind-of (FromReply next) e f ∙ ap (λ (n : ℕ). record { command = at .command; reply = n }) (packet-length rs rts (at .reply) h (omega (arith, p .0, p .1)))
+
+-- x is the packet of a step of the line l, and of the step at a cursor: what `packet_at` promises
+abbrev pub partBy : RefT (List ℕ) → List ℕ → RefT (List ℕ) → List ℕ → Cursor → RefT (List ℕ) → Line → Type 0
+partBy c cts r rts at x l = Part (captureBy l c r) (startBy l at) (bytesBy (now c) cts (now r) rts at l) x
+
+abbrev pub PacketAt : RefT (List ℕ) → List ℕ → RefT (List ℕ) → List ℕ → Cursor → RefT (List ℕ) → Type 0
+PacketAt c cts r rts at x = partBy c cts r rts at x (dueOf cts rts at)
 
 -- ---- `packet_at` hands back what `step` shows: the part of that line's capture that starts at the cursor's own byte
 abbrev lineOf : Stepped → Line

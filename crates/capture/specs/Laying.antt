@@ -37,6 +37,7 @@ abbrev pub HasByte : Traced → Type 0
 HasByte (commanded p) = 1 ≤ length p
 HasByte (replied p) = 1 ≤ length p
 
+-- and so all of them
 abbrev pub NoneEmpty : List Traced → Type 0
 NoneEmpty [] = Unit {0}
 NoneEmpty (x ∷ xs) = HasByte x × NoneEmpty xs

@@ -4,8 +4,6 @@ use mathlib.Core.Bool.{cond}
 use mathlib.Core.List.{List, [], _∷_, _++_}
 use lib.ListN.{length, getD, drop}
 use lib.Dec.{leb}
-use denote.Ref.{RefT, now}
-use Rattle.wire.specs.Part.{Part}
 use Rattle.capture.specs.Packets.{Packet, packets, packetEnd, cutOf}
 use Rattle.capture.specs.declared.Line.{Line}
 use Rattle.capture.specs.declared.Line.the-variants.{Command, Reply, Neither}
@@ -18,11 +16,12 @@ pub data Recorded : Type 0 where
   sent : Packet → Recorded
   got : Packet → Recorded
 
--- the packets of both captures in the order in which they start, at equal times the command first
+-- those of the reply line alone
 abbrev pub replies : List Packet → List Recorded
 replies [] = []
 replies (q ∷ qs) = got q ∷ replies qs
 
+-- the packets of both captures in the order in which they start, at equal times the command first
 abbrev pub merge : List Packet → List Packet → List Recorded
 merge [] qs = replies qs
 merge (p ∷ ps) [] = sent p ∷ merge ps []
@@ -75,14 +74,6 @@ bytesBy cs cts rs rts at l =
 
 abbrev pub packetAt : List ℕ → List ℕ → List ℕ → List ℕ → Cursor → List ℕ
 packetAt cs cts rs rts at = bytesBy cs cts rs rts at (dueOf cts rts at)
-
--- x is the packet of a step of the line l
-abbrev pub partBy : RefT (List ℕ) → List ℕ → RefT (List ℕ) → List ℕ → Cursor → RefT (List ℕ) → Line → Type 0
-partBy c cts r rts at x l = Part (captureBy l c r) (startBy l at) (bytesBy (now c) cts (now r) rts at l) x
-
--- x is the packet of the step at a cursor, "a part of the command capture or of the reply capture"
-abbrev pub PacketAt : RefT (List ℕ) → List ℕ → RefT (List ℕ) → List ℕ → Cursor → RefT (List ℕ) → Type 0
-PacketAt c cts r rts at x = partBy c cts r rts at x (dueOf cts rts at)
 
 -- the packet from a byte on
 abbrev pub packetFrom : List ℕ → List ℕ → ℕ → Packet

@@ -8,7 +8,6 @@ use lib.ListN.{length, take, drop}
 use lib.Seq.{take-at}
 use Rattle.wire.specs.Promise.{Outcome}
 use Rattle.command.specs.Build.{packetFor}
-use Rattle.survey.specs.Chain.{Said, silence, reply, collided}
 use Rattle.session.specs.declared.Session.{Session}
 use Rattle.session.specs.declared.Step.{Step}
 use Rattle.session.specs.declared.End.{End}
@@ -20,9 +19,8 @@ use Rattle.calls.proofs.Standing.{call-went}
 use Rattle.capture.specs.Traces.{Traced}
 use Rattle.capture.specs.Laying.{NoneEmpty}
 use Rattle.capture.proofs.Laying.{can-be-laid}
-use Rattle.line.specs.Line.{saidAfter}
 use Rattle.line.specs.World.{World, Comes, start, power, unpowered, call, deliver, report, hurry, delay, stray, bench}
-use Rattle.recorded.specs.Trace.{callTrace, replyTrace, lateTrace, trace}
+use Rattle.recorded.specs.Trace.{callTrace, replyTrace, trace}
 use Rattle.recorded.specs.Walks.{Recordable}
 
 both-full : (xs ys : List Traced) → NoneEmpty xs → NoneEmpty ys → NoneEmpty (xs ++ ys)
@@ -51,11 +49,6 @@ reply-full none = tt
 reply-full (some []) = tt
 reply-full (some (b ∷ bs)) = (omega arith, tt)
 
-late-full : (s : Said) → NoneEmpty (lateTrace s)
-late-full silence = tt
-late-full (reply r) = reply-full (some r)
-late-full collided = tt
-
 trace-full : {w : World} (c : Comes w) → NoneEmpty (trace c)
 trace-full (start ns) = tt
 trace-full (power c bs e) = tt
@@ -64,7 +57,7 @@ trace-full (call {w = w} c k typed out) = both-full (trace c) _ (trace-full c) (
 trace-full (deliver c what p e q r a b) = both-full (trace c) (replyTrace r) (trace-full c) (reply-full r)
 trace-full (report c what r e) = trace-full c
 trace-full (hurry c what p e r n) = trace-full c
-trace-full (delay {w = w} c p e q a) = both-full (trace c) (lateTrace (saidAfter q (w .nodes))) (trace-full c) (late-full (saidAfter q (w .nodes)))
+trace-full (delay c p e q a) = trace-full c
 trace-full (stray c r why e) = trace-full c
 trace-full (bench c i b) = trace-full c
 

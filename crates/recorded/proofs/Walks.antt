@@ -7,7 +7,7 @@ use mathlib.Core.Path.{_≡_, refl, sym, ap, subst, _∙_}
 use lib.ListN.{length, take}
 use Rattle.status.specs.Status.{judgeOf}
 use Rattle.status.specs.declared.Answer.the-variants.{Silent}
-use Rattle.survey.specs.Chain.{Said, silence}
+use Rattle.survey.specs.Chain.{silence}
 use Rattle.session.specs.declared.Exchange.the-variants.{Idle}
 use Rattle.session.specs.declared.Session.{Session}
 use Rattle.session.specs.declared.Step.{Step}
@@ -29,13 +29,13 @@ use Rattle.capture.proofs.Laying.{laid-packets, laid-good}
 use Rattle.recording.specs.Recording.{recordingCheck, powerOf, quietOf, replayOf}
 use Rattle.recording.specs.declared.Ending.the-variants.{Ended}
 use Rattle.recording.specs.declared.Replayed.{Replayed}
-use Rattle.line.specs.Line.{Line, quiet, going, coming, lingering, Nothing, absent, empty, saidAfter, reportedOf}
+use Rattle.line.specs.Line.{Line, quiet, going, coming, lingering, Nothing, absent, empty, reportedOf}
 use Rattle.line.specs.World.{World, hosting, callEnded, callMade, Comes, start, power, unpowered, call, deliver, report, hurry, delay, stray, bench}
 use Rattle.line.specs.Demand3.{Kept}
 use Rattle.line.proofs.Demand3.{demand3}
 use Rattle.line.proofs.Powering.{freshAt, accepted-power}
 use Rattle.line.proofs.Refusing.{refused-power, refused-call, refused-report}
-use Rattle.recorded.specs.Trace.{callTrace, replyTrace, lateTrace, trace, told, Prompt}
+use Rattle.recorded.specs.Trace.{callTrace, replyTrace, trace, told}
 use Rattle.recorded.specs.Walks.{Walks, Replays, OwnRecord, RecordKept}
 use Rattle.recorded.proofs.Following.{idle-finishes, idle-quiet, idle-reports, finished-quiet, Leads, leads-on, leads-nowhere, leads-end, call-leads}
 
@@ -49,9 +49,6 @@ heard-leads : (s : Session) (r : Option (List ℕ)) → Leads s (replyTrace r) (
 heard-leads s none = leads-nowhere
 heard-leads s (some []) = leads-nowhere
 heard-leads s (some (b ∷ bs)) = record { then = λ ps. refl }
-
-silent-leads : (s : Session) (x : Said) → x ≡ silence → Leads s (lateTrace x) s
-silent-leads s x e = rw e leads-nowhere
 
 -- with silence for the rest of it, that is the session after the report
 heard-reported : (s : Session) (r : Option (List ℕ)) → quietOf (heard s r) ≡ reportedOf s r .session
@@ -125,41 +122,37 @@ powered-follows h n e =
     let p = accepted-power h n e in
     ap (λ (t : Step). quietOf (t .session)) (powered-good freshOf n (p .some) (p .few)) ∙ idle-quiet (freshAt n) refl ∙ sym (p .session)
 
-follows : {w : World} (c : Comes w) → Prompt c → Follows (told c) (trace c) (w .host) (w .line)
-follows (start ns) p = record { session = powerOf 0; leads = leads-nowhere; stands = never-powered }
-follows (power {w = w} c bs e) p = record { session = powerOf (length bs); leads = leads-nowhere; stands = powered-follows (w .host) (length bs) e }
-follows (unpowered {w = w} c n why e) p = rw (refused-power (w .host) n why e) (follows c p)
-follows (call {w = w} c k typed out) p = call-follows w (follows c p) k typed out
-follows (deliver {w = w} c what p e q r a b) o =
-    let f = follows c o in
+follows : {w : World} (c : Comes w) → Follows (told c) (trace c) (w .host) (w .line)
+follows (start ns) = record { session = powerOf 0; leads = leads-nowhere; stands = never-powered }
+follows (power {w = w} c bs e) = record { session = powerOf (length bs); leads = leads-nowhere; stands = powered-follows (w .host) (length bs) e }
+follows (unpowered {w = w} c n why e) = rw (refused-power (w .host) n why e) (follows c)
+follows (call {w = w} c k typed out) = call-follows w (follows c) k typed out
+follows (deliver {w = w} c what p e q r a b) =
+    let f = follows c in
     let t = subst (Stands (f .session) (w .host)) e (f .stands) in
     record { session = heard (f .session) r; leads = leads-on (f .leads) (heard-leads (f .session) r); stands = (ap (λ (s : Session). heard s r) (t .0), t .1) }
-follows (report {w = w} c what r e) o =
-    let f = follows c o in
+follows (report {w = w} c what r e) =
+    let f = follows c in
     let t = subst (Stands (f .session) (w .host)) e (f .stands) in
     record { session = f .session; leads = f .leads; stands = ap quietOf (t .0) ∙ heard-reported (w .host) r }
-follows (hurry {w = w} c what p e r n) o =
-    let f = follows c o in
+follows (hurry {w = w} c what p e r n) =
+    let f = follows c in
     let t = subst (Stands (f .session) (w .host)) e (f .stands) in
     record { session = f .session; leads = f .leads; stands = ap quietOf (t .0 ∙ sym (nothing-heard n (w .host))) ∙ heard-reported (w .host) r }
-follows (delay {w = w} c p e q a) o =
-    let f = follows c (o .0) in
-    record {
-      session = f .session;
-      leads = leads-on (f .leads) (silent-leads (f .session) (saidAfter q (w .nodes)) (o .1));
-      stands = subst (Stands (f .session) (w .host)) e (f .stands);
-    }
-follows (stray {w = w} c r why e) p = rw (refused-report (w .host) r why e) (follows c p)
-follows (bench c i b) p = follows c p
+follows (delay {w = w} c p e q a) =
+    let f = follows c in
+    record { session = f .session; leads = f .leads; stands = subst (Stands (f .session) (w .host)) e (f .stands) }
+follows (stray {w = w} c r why e) = rw (refused-report (w .host) r why e) (follows c)
+follows (bench c i b) = follows c
 
 pub walks : Walks
-walks w c p e ps same =
-    let f = follows c p in
+walks w c e ps same =
+    let f = follows c in
     leads-end (f .leads) ps same ∙ ap (λ (s : Session). record { ending = Ended; session = s }) (idle-stands (f .session) (w .host) (w .line) (f .stands) e)
 
 pub replays : Replays
 unfolding replayOf
-replays w c p e cs cts rs rts good same = rw good (walks w c p e (leftAt cs cts rs rts outset) same)
+replays w c e cs cts rs rts good same = rw good (walks w c e (leftAt cs cts rs rts outset) same)
 
 -- no power-up with more than 31 nodes is accepted
 told-few : {w : World} (c : Comes w) → told c ≤ 31
@@ -179,9 +172,9 @@ unfolding recordingCheck
 good-check n cs cts rs rts p q e = rw (powered-good freshOf n p q) e
 
 pub own-record : OwnRecord
-own-record w c p e least cs cts rs rts l =
-    replays w c p e cs cts rs rts (good-check (told c) cs cts rs rts least (told-few c) (laid-good l)) (laid-packets l)
+own-record w c e least cs cts rs rts l =
+    replays w c e cs cts rs rts (good-check (told c) cs cts rs rts least (told-few c) (laid-good l)) (laid-packets l)
 
 pub record-kept : RecordKept
-record-kept w c p up e least cs cts rs rts l =
-    subst (λ (s : Session). Kept (hosting s w)) (sym (ap (λ (r : Replayed). r .session) (own-record w c p e least cs cts rs rts l))) (demand3 w c up e)
+record-kept w c up e least cs cts rs rts l =
+    subst (λ (s : Session). Kept (hosting s w)) (sym (ap (λ (r : Replayed). r .session) (own-record w c e least cs cts rs rts l))) (demand3 w c up e)

@@ -2,14 +2,11 @@
 use Prim.Native.Nat.{ℕ}
 use mathlib.Core.List.{List, [], _∷_, _++_}
 use mathlib.Core.Option.{Option, none, some}
-use mathlib.Core.Path.{_≡_}
 use lib.ListN.{length, take}
-use Rattle.survey.specs.Chain.{Said, silence, reply, collided}
 use Rattle.session.specs.declared.End.{End}
 use Rattle.session.specs.declared.End.the-variants.{Done, Sent, Refused}
 use Rattle.calls.specs.Calls.{callPerform}
 use Rattle.capture.specs.Traces.{Traced, commanded, replied}
-use Rattle.line.specs.Line.{saidAfter}
 use Rattle.line.specs.World.{World, Comes, start, power, unpowered, call, deliver, report, hurry, delay, stray, bench}
 
 -- on the command line, what a call puts there
@@ -24,13 +21,7 @@ replyTrace none = []
 replyTrace (some []) = []
 replyTrace (some (b ∷ bs)) = replied (b ∷ bs) ∷ []
 
--- and what the nodes say to a packet that comes after silence was reported; of several at once anything may come
-abbrev pub lateTrace : Said → List Traced
-lateTrace silence = []
-lateTrace (reply r) = replyTrace (some r)
-lateTrace collided = []
-
--- the packets captured, the oldest first; of a report for which nothing came on the line the recorder has nothing
+-- the packets captured, the oldest first. A reply "is reported as it came", so none is on the line once silence was reported; a report for which nothing came leaves no trace
 abbrev pub trace : {w : World} → Comes w → List Traced
 trace (start ns) = []
 trace (power c bs e) = []
@@ -39,7 +30,7 @@ trace (call {w = w} c k typed out) = trace c ++ callTrace (callPerform k (w .hos
 trace (deliver c what p e q r a b) = trace c ++ replyTrace r
 trace (report c what r e) = trace c
 trace (hurry c what p e r n) = trace c
-trace (delay {w = w} c p e q a) = trace c ++ lateTrace (saidAfter q (w .nodes))
+trace (delay c p e q a) = trace c
 trace (stray c r why e) = trace c
 trace (bench c i b) = trace c
 
@@ -55,16 +46,3 @@ told (hurry c what p e r n) = told c
 told (delay c p e q a) = told c
 told (stray c r why e) = told c
 told (bench c i b) = told c
-
--- a reply "is reported as it came", so none comes after silence was reported: since the last power-up the nodes say nothing to a packet that comes so late
-abbrev pub Prompt : {w : World} → Comes w → Type 0
-Prompt (start ns) = Unit {0}
-Prompt (power c bs e) = Unit {0}
-Prompt (unpowered c n why e) = Prompt c
-Prompt (call c k typed out) = Prompt c
-Prompt (deliver c what p e q r a b) = Prompt c
-Prompt (report c what r e) = Prompt c
-Prompt (hurry c what p e r n) = Prompt c
-Prompt (delay {w = w} c p e q a) = Prompt c × (saidAfter q (w .nodes) ≡ silence)
-Prompt (stray c r why e) = Prompt c
-Prompt (bench c i b) = Prompt c

@@ -19,13 +19,13 @@ use Rattle.calls.specs.declared.Sought.{Sought}
 use Rattle.calls.specs.declared.Source.the-variants.{Found, Missing}
 use Rattle.calls.specs.Finding.{findOf}
 use Rattle.capture.specs.Checks.{checkOf, checkedNumber}
-use Rattle.capture.specs.Steps.{captureStep, PacketAt}
+use Rattle.capture.specs.Steps.{captureStep}
 use Rattle.capture.specs.declared.Cursor.{Cursor}
 use Rattle.capture.specs.declared.Stepped.{Stepped}
 use Rattle.capture.specs.declared.Stepped.the-variants as stepped
 use Rattle.capture.specs.declared.Checked.{Checked}
 use Rattle.capture.specs.declared.Checked.the-variants.{Good, Refused}
-use Rattle.capture.proofs.Steps.{packet-command, packet-reply}
+use Rattle.capture.proofs.Steps.{PacketAt, packet-command, packet-reply}
 use Rattle.recording.specs.declared.Stage.{Stage}
 use Rattle.recording.specs.declared.Event.the-variants as event
 use Rattle.recording.specs.declared.Moved.{Moved}
@@ -33,20 +33,20 @@ use Rattle.recording.specs.declared.Begun.{Begun}
 use Rattle.recording.specs.declared.Ending.the-variants as ending
 use Rattle.recording.specs.declared.Replayed.{Replayed}
 use Rattle.capture.specs.Steps.{outset, leftAt}
-use Rattle.recording.specs.Recording.{quietOf, toldOf, recordingCheck, powerOf, followOf, replayOf, replayedNumber}
+use Rattle.recording.specs.Recording.{quietOf, countCheck, recordingCheck, powerOf, followOf, replayOf, replayedNumber}
 use Rattle.recording.proofs.Sound.{good-sound}
 use Rattle.recording.specs.Stages.{moveTo, takeCommand, takeReply, takeEnd, advanceBy, advanceOf, beginAt, begunNumber, beginOf}
 
 -- ---- the checks
 
-pub told-refused : (e : End) (why : Refusal) → e ≡ end.Refused why → Refused why ≡ toldOf e
-told-refused e why h = rw h
+pub count-refused : (e : End) (why : Refusal) → e ≡ end.Refused why → Refused why ≡ countCheck e
+count-refused e why h = rw h
 
 pub powered : (n : ℕ) (f : Session) (r : Step) → f ≡ freshOf → Promise stepNumber r (startPowerUp f n) → r .session ≡ powerOf n
 unfolding powerOf
 powered n f r e h = rw (h .answer, e)
 
-module _ (n : ℕ) (cs cts rs rts : List ℕ) (f : Session) (r : Step) (t : Checked) (e : f ≡ freshOf) (h : Promise stepNumber r (startPowerUp f n)) (g : t ≡ toldOf (r .end)) where
+module _ (n : ℕ) (cs cts rs rts : List ℕ) (f : Session) (r : Step) (t : Checked) (e : f ≡ freshOf) (h : Promise stepNumber r (startPowerUp f n)) (g : t ≡ countCheck (r .end)) where
   pub checked-on : (x : Checked) → t ≡ Good → Promise checkedNumber x (checkOf cs cts rs rts) → Promise checkedNumber x (recordingCheck n cs cts rs rts)
   unfolding recordingCheck
   checked-on x i j = promised (rw (← e, ← (h .answer), ← g, i) (j .answer))

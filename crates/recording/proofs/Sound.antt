@@ -9,7 +9,7 @@ use Rattle.capture.specs.declared.Checked.{Checked}
 use Rattle.capture.specs.declared.Checked.the-variants.{Good, Refused}
 use Rattle.capture.proofs.Meaning.{Sound}
 use Rattle.capture.proofs.Meaning as captured
-use Rattle.recording.specs.Recording.{toldOf, thenCheck, recordingCheck}
+use Rattle.recording.specs.Recording.{countCheck, thenCheck, recordingCheck}
 
 then-good : (a b : Checked) → thenCheck a b ≡ Good → b ≡ Good
 then-good Good b e = e
@@ -18,4 +18,4 @@ then-good (Refused why) b e = impossible cc
 -- times and bytes are as many, and no time is less than the one before
 pub good-sound : (n : ℕ) (cs cts rs rts : List ℕ) → recordingCheck n cs cts rs rts ≡ Good → Sound cs cts rs rts
 unfolding recordingCheck
-good-sound n cs cts rs rts e = captured.good-sound cs cts rs rts (then-good (toldOf (startPowerUp freshOf n .end)) (checkOf cs cts rs rts) e)
+good-sound n cs cts rs rts e = captured.good-sound cs cts rs rts (then-good (countCheck (startPowerUp freshOf n .end)) (checkOf cs cts rs rts) e)

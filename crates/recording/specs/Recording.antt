@@ -17,18 +17,19 @@ use Rattle.recording.specs.declared.Ending.the-variants.{Ended, Foreign,
 use Rattle.recording.specs.declared.Replayed.{Replayed}
 
 -- "6 for the node count", as power-up gives it
-abbrev pub toldOf : End → Checked
-toldOf end.Done = checked.Good
-toldOf (end.Sent n) = checked.Good
-toldOf (end.Refused why) = checked.Refused why
+abbrev pub countCheck : End → Checked
+countCheck end.Done = checked.Good
+countCheck (end.Sent n) = checked.Good
+countCheck (end.Refused why) = checked.Refused why
 
 -- "then 15 .., then 16"
 abbrev pub thenCheck : Checked → Checked → Checked
 thenCheck checked.Good x = x
 thenCheck (checked.Refused why) x = checked.Refused why
 
+-- 6, then 15, then 16
 unfoldable pub recordingCheck : ℕ → List ℕ → List ℕ → List ℕ → List ℕ → Checked
-recordingCheck n cs cts rs rts = thenCheck (toldOf (startPowerUp freshOf n .end)) (checkOf cs cts rs rts)
+recordingCheck n cs cts rs rts = thenCheck (countCheck (startPowerUp freshOf n .end)) (checkOf cs cts rs rts)
 
 -- "the recording begins at power-up"
 unfoldable pub powerOf : ℕ → Session

@@ -44,6 +44,7 @@ replyBy end.Done next s = moveTo Answered next false s
 replyBy (end.Sent n) next s = moveTo Answered next false s
 replyBy (end.Refused why) next s = moveTo Unawaited next false s
 
+-- reported as it came
 unfoldable pub takeReply : Session → List ℕ → Cursor → Moved
 takeReply s p next = replyBy (reportOf s p .end) next (reportOf s p .session)
 
@@ -71,6 +72,7 @@ abbrev pub begunBy : Checked → Session → Begun
 begunBy checked.Good s = beginAt checked.Good false s
 begunBy (checked.Refused why) s = beginAt (checked.Refused why) true freshOf
 
+-- the first stage of a recording, or its refusal
 unfoldable pub beginOf : ℕ → List ℕ → List ℕ → List ℕ → List ℕ → Begun
 beginOf n cs cts rs rts = begunBy (recordingCheck n cs cts rs rts) (powerOf n)
 

@@ -14,7 +14,7 @@ ghost use lib.ListN.{length};
 ghost use Rattle.wire.specs.Promise.{Promise};
 ghost use Rattle.capture.specs.Checks.{checkedNumber};
 ghost use Rattle.capture.specs.Steps.{outset, leftAt};
-ghost use Rattle.recording.specs.Recording.{quietOf, toldOf, recordingCheck, powerOf, endingNumber, replayedNumber, followOf, replayOf};
+ghost use Rattle.recording.specs.Recording.{quietOf, countCheck, recordingCheck, powerOf, endingNumber, replayedNumber, followOf, replayOf};
 ghost use Rattle.recording.specs.Stages.{moveTo, takeCommand, takeReply, takeEnd, advanceOf, beginAt, begunNumber, beginOf};
 
 // How far a walk has come: its cursor in the captures, whether it has ended, and the host's session there.
@@ -81,8 +81,8 @@ pub struct Replayed {
 // ---- the checks before it
 
 // What the check is, by how power-up ended: 6 for the node count.
-fn told(end: End) -> Checked
-    ensures { λ r. ⌜ r ≡ toldOf end ⌝ }
+fn count_check(end: End) -> Checked
+    ensures { λ r. ⌜ r ≡ countCheck end ⌝ }
 {
     match end {
         End::Done => Checked::Good,
@@ -103,7 +103,7 @@ pub fn check(
 {
     let up = start::power_up(start::fresh(), n);
     let end = up.end;
-    match told(end) {
+    match count_check(end) {
         Checked::Good => capture::check(command, command_times, reply, reply_times),
         Checked::Refused(why) => Checked::Refused(why),
     }
@@ -168,7 +168,8 @@ fn take_end(s: Session, at: Cursor) -> Moved
     move_to(Event::End, at, true, quiet(s))
 }
 
-// The step at a stage: what the next packet does. Its own bytes are `capture::packet_at` the stage's cursor. A walk that is over stays as it is.
+// The step at a stage: what the next packet does. That packet's own bytes are `capture::packet_at` the cursor of the stage that is handed in; at `End` there is none.
+// A walk that is over stays as it is.
 pub fn advance<'a>(
     command: &'a [u8],
     command_times: &[u32],

@@ -175,23 +175,8 @@ fn long(prng: &mut Prng) -> u32 {
 }
 
 fn plain_node(node: &node::Node) -> Node {
-    let settings = &node.settings;
     Node {
-        settings: Settings {
-            place: Place {
-                address: settings.place.address,
-                group: settings.place.group,
-                leader: settings.place.leader,
-            },
-            mask: settings.mask,
-            outputs: settings.outputs,
-            pwm: settings.pwm,
-            held: Held {
-                outputs: settings.held.outputs,
-                pwm: settings.held.pwm,
-            },
-            timer: settings.timer_mode,
-        },
+        settings: plain_settings(&node.settings),
         addressed: node.addressed,
         bench: Bench {
             inputs: node.bench.inputs,
@@ -204,6 +189,24 @@ fn plain_node(node: &node::Node) -> Node {
             inputs: node.captured.inputs,
             counter: node.captured.counter,
         },
+    }
+}
+
+pub fn plain_settings(settings: &command::Settings) -> Settings {
+    Settings {
+        place: Place {
+            address: settings.place.address,
+            group: settings.place.group,
+            leader: settings.place.leader,
+        },
+        mask: settings.mask,
+        outputs: settings.outputs,
+        pwm: settings.pwm,
+        held: Held {
+            outputs: settings.held.outputs,
+            pwm: settings.held.pwm,
+        },
+        timer: settings.timer_mode,
     }
 }
 

@@ -4,13 +4,16 @@
 //!     harness count KIND SIZE SIDE   one pass of one side, for callgrind
 
 mod check;
+mod check_recording;
 mod check_sheet;
 mod clock;
 mod ours;
 mod plain;
+mod plain_recording;
 mod plain_sheet;
 mod sides;
 mod work;
+mod work_recording;
 
 use std::process::{Command, ExitCode};
 
@@ -22,17 +25,19 @@ pub const SEED: u64 = 773;
 /// Passes of each side, by turns.
 const ROUNDS: usize = 41;
 
-/// The packets, rehearsals and sheets that are compared before anything is timed.
+/// The packets, rehearsals, sheets and recordings that are compared before anything
+/// is timed.
 const CHECKED: usize = 200_000;
 const CHECKED_TEXTS: u64 = 100;
 const CHECKED_SHEETS: u64 = 20_000;
+const CHECKED_RECORDINGS: u64 = 20_000;
 
 /// Ours takes so many times as long as that side, and runs so many times as
 /// many instructions.
 const HEAD: &str = "\
 | Nodes | Side                    | Packets/s | ns/packet | Ours takes | Instructions/packet | Ours runs |
 |------:|-------------------------|----------:|----------:|-----------:|--------------------:|----------:|";
-const SHEET_HEAD: &str = "\
+const BYTE_HEAD: &str = "\
 | KiB | Side | MB/s | ns/byte | Ours takes | Instructions/byte | Ours runs |
 |----:|------|-----:|--------:|-----------:|------------------:|----------:|";
 
@@ -57,13 +62,14 @@ fn main() -> ExitCode {
 fn compare() -> check::Outcome {
     check::all(CHECKED, CHECKED_TEXTS)?;
     check_sheet::all(CHECKED_SHEETS)?;
+    check_recording::all(CHECKED_RECORDINGS)?;
     println!(
         "All sides answer alike, byte for byte, on {CHECKED} seeded packets, \
-         {CHECKED_TEXTS} seeded rehearsals, {CHECKED_SHEETS} seeded sheets and lists of packets \
-         and all that is timed."
+         {CHECKED_TEXTS} seeded rehearsals, {CHECKED_SHEETS} seeded sheets and lists of packets, \
+         {CHECKED_RECORDINGS} seeded recordings and all that is timed."
     );
     for kind in Kind::ALL {
-        let head = if kind.has_sheets() { SHEET_HEAD } else { HEAD };
+        let head = if kind.has_bytes() { BYTE_HEAD } else { HEAD };
         println!("\n{}\n\n{head}", kind.heading());
         for size in kind.sizes() {
             print_rows(kind, size);
@@ -76,7 +82,7 @@ fn compare() -> check::Outcome {
     Ok(())
 }
 
-/// A row for each side of a chain's length or a sheet's.
+/// A row for each side of a chain's length, a sheet's or a recording's.
 fn print_rows(kind: Kind, size: usize) {
     let mut sides = kind.sides(size);
     let rounds = time(&mut sides);
@@ -90,7 +96,7 @@ fn print_rows(kind: Kind, size: usize) {
         let more = counts[0].zip(count).map(|(ours, its)| ours / its);
         let more = more.map_or("-".to_string(), |more| format!("{more:.2}"));
         let (name, rate) = (side.name, 1e3 / time);
-        if kind.has_sheets() {
+        if kind.has_bytes() {
             let count = count.map_or("-".to_string(), |count| format!("{count:.1}"));
             println!(
                 "| {size:3} | {name:<4} | {rate:4.0} | {time:7.2} | {longer:10.2} | {count:>17} | {more:>9} |"

@@ -5,6 +5,7 @@
 //! enum is the number of its case in one byte, then what the case carries.
 
 use crate::plain::{Answer, Node};
+use crate::plain_recording::{Capture, Ending, Entry, Replayed, ENTRIES};
 use crate::plain_sheet::Refused;
 
 /// The number of a collision, which no refusal has.
@@ -25,6 +26,31 @@ struct Said {
     number: usize,
 }
 
+/// How a walk through a recording ended, and the session then; with room to
+/// spare, so that one laid out in another way does no harm but shows.
+#[repr(C)]
+struct Walked {
+    said: [u8; 2],
+    session: Session,
+    _spare: [u16; 256],
+}
+
+#[repr(C)]
+struct Session {
+    started: bool,
+    nodes: u8,
+    walk: u8,
+    exchange: Exchange,
+    entries: [Entry; ENTRIES],
+}
+
+/// Idle, or what waits, which is not looked at.
+#[repr(C)]
+struct Exchange {
+    case: u8,
+    _waiting: [u16; 4],
+}
+
 extern "C" {
     fn ours_rehearse(said: *mut Said, input: *const Slice<u8>, output: *const Slice<u8>);
     fn ours_deliver(
@@ -35,6 +61,14 @@ extern "C" {
     );
     fn ours_import(said: *mut Said, sheet: *const Slice<u8>, out: *const Slice<u8>);
     fn ours_export(said: *mut Said, packets: *const Slice<u8>, out: *const Slice<u8>);
+    fn ours_replay(
+        walked: *mut Walked,
+        nodes: u8,
+        command: *const Slice<u8>,
+        command_times: *const Slice<u32>,
+        reply: *const Slice<u8>,
+        reply_times: *const Slice<u32>,
+    );
 }
 
 impl<T> Slice<T> {
@@ -60,12 +94,33 @@ impl Said {
         number: 0,
     };
 
-    /// Refusals are declared in the order of their numbers, which are those
-    /// from 1 on without the collision's.
     fn refused(&self) -> u8 {
-        let number = self.refusal + 1;
-        number + u8::from(number >= COLLISION)
+        number_of(self.refusal)
     }
+}
+
+impl Walked {
+    const NOTHING: Walked = Walked {
+        said: [0; 2],
+        session: Session {
+            started: false,
+            nodes: 0,
+            walk: 0,
+            exchange: Exchange {
+                case: 0,
+                _waiting: [0; 4],
+            },
+            entries: [Entry::POWER_UP; ENTRIES],
+        },
+        _spare: [0; 256],
+    };
+}
+
+/// Refusals are declared in the order of their numbers, which are those from 1
+/// on without the collision's.
+fn number_of(refusal: u8) -> u8 {
+    let number = refusal + 1;
+    number + u8::from(number >= COLLISION)
 }
 
 /// `chain::deliver`.
@@ -123,5 +178,36 @@ pub fn export(packets: &[u8], out: &mut [u8]) -> Result<usize, Refused> {
     match said.case {
         0 => Ok(said.number),
         _ => Err(Refused::with(said.refused())),
+    }
+}
+
+/// `recording::replay`.
+pub fn replay(nodes: u8, commands: Capture, replies: Capture) -> Replayed {
+    let mut walked = Walked::NOTHING;
+    let (command, command_times) = (Slice::of(commands.bytes), Slice::of(commands.times));
+    let (reply, reply_times) = (Slice::of(replies.bytes), Slice::of(replies.times));
+    // SAFETY: as above.
+    unsafe {
+        ours_replay(
+            &mut walked,
+            nodes,
+            &command,
+            &command_times,
+            &reply,
+            &reply_times,
+        )
+    };
+    let session = walked.session;
+    Replayed {
+        ending: match walked.said {
+            [0, _] => Ending::Ended,
+            [1, _] => Ending::Foreign,
+            [_, refusal] => Ending::Refused(number_of(refusal)),
+        },
+        open: session.started,
+        nodes: session.nodes,
+        walk: session.walk,
+        waits: session.exchange.case != 0,
+        entries: session.entries,
     }
 }

@@ -66,7 +66,7 @@ pub struct Node {
 }
 
 #[derive(Clone, Copy)]
-enum Command {
+pub enum Command {
     SetAddress(Place),
     DefineStatus(u8),
     ReadStatus(u8),
@@ -100,7 +100,7 @@ impl Bench {
 }
 
 impl Node {
-    pub fn power_up(bench: Bench) -> Node {
+    pub const fn power_up(bench: Bench) -> Node {
         Node {
             settings: Settings {
                 place: Place {
@@ -208,7 +208,7 @@ impl Node {
     }
 }
 
-fn sum(bytes: &[u8]) -> u8 {
+pub fn sum(bytes: &[u8]) -> u8 {
     bytes.iter().fold(0, |sum, byte| sum.wrapping_add(*byte))
 }
 
@@ -238,13 +238,13 @@ fn read(command: u8, data: &[u8]) -> Option<Command> {
 
 /// A packet of the right form; no command where the sum is wrong or the
 /// command another one.
-struct Packet {
-    address: u8,
+pub struct Packet {
+    pub address: u8,
     intact: bool,
-    command: Option<Command>,
+    pub command: Option<Command>,
 }
 
-fn frame(bytes: &[u8]) -> Result<Packet, u8> {
+pub fn frame(bytes: &[u8]) -> Result<Packet, u8> {
     let length = bytes.len();
     if length == 0 {
         return Err(1);

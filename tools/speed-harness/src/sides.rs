@@ -4,12 +4,15 @@ use std::hint::black_box;
 use std::ops::Range;
 
 use oracle::bench;
+use oracle::recording::{self, Recording};
 use oracle::rules::Rules;
 
 use crate::plain::{Answer, Node, MOST_REPLY};
+use crate::plain_recording::{Capture, Replayed};
 use crate::plain_sheet::Refused;
 use crate::work::{chain, packets, sheet, text, Packets};
-use crate::{ours, plain, plain_sheet, SEED};
+use crate::work_recording::recording;
+use crate::{ours, plain, plain_recording, plain_sheet, SEED};
 
 /// One packet to a table of nodes: the answer, with the reply in the buffer.
 pub type Deliver = fn(&mut [Node], &[u8], &mut [u8]) -> Answer;
@@ -20,6 +23,9 @@ pub type Rehearse = fn(&[u8], &mut Vec<u8>);
 /// A sheet to packets, or packets to a sheet: how many bytes are written to the
 /// lent buffer.
 pub type Convert = fn(&[u8], &mut [u8]) -> Result<usize, Refused>;
+
+/// A walk through a recording: how it ended, and the host's session then.
+pub type Replay = fn(&Recording) -> Replayed;
 
 const OURS: &str = "ours";
 const FULL_SEARCH: &str = "Rust, full search";
@@ -39,6 +45,9 @@ pub const REHEARSALS: [(&str, Rehearse); 2] = [(OURS, our_text), (ONE_LOOK, plai
 pub const IMPORTS: [(&str, Convert); 2] = [(OURS, ours::import), (RUST, plain_import)];
 pub const EXPORTS: [(&str, Convert); 2] = [(OURS, ours::export), (RUST, plain_export)];
 
+/// What is compared of recordings.
+pub const REPLAYS: [(&str, Replay); 2] = [(OURS, our_replay), (RUST, plain_replay)];
+
 /// The packets of one pass of deliveries.
 pub const PACKETS: usize = 100_000;
 
@@ -46,7 +55,7 @@ pub const PACKETS: usize = 100_000;
 const OUTPUT: usize = 655_360;
 
 /// One side, ready to be run again and again: how much it does in a pass, in
-/// packets or in bytes of a sheet.
+/// packets or in bytes of a sheet or a recording.
 pub struct Side {
     pub name: &'static str,
     pub amount: usize,
@@ -59,10 +68,19 @@ pub enum Kind {
     Rehearsal,
     Import,
     Export,
+    Replay8,
+    Replay31,
 }
 
 impl Kind {
-    pub const ALL: [Kind; 4] = [Kind::Delivery, Kind::Rehearsal, Kind::Import, Kind::Export];
+    pub const ALL: [Kind; 6] = [
+        Kind::Delivery,
+        Kind::Rehearsal,
+        Kind::Import,
+        Kind::Export,
+        Kind::Replay8,
+        Kind::Replay31,
+    ];
 
     pub fn word(self) -> &'static str {
         match self {
@@ -70,6 +88,8 @@ impl Kind {
             Kind::Rehearsal => "rehearsal",
             Kind::Import => "import",
             Kind::Export => "export",
+            Kind::Replay8 => "replay8",
+            Kind::Replay31 => "replay31",
         }
     }
 
@@ -79,20 +99,23 @@ impl Kind {
             Kind::Rehearsal => "The whole bench: script::rehearse, a text of 64 KiB",
             Kind::Import => "A sheet read: sheet::import",
             Kind::Export => "A sheet written: sheet::export",
+            Kind::Replay8 => "A recording of 8 nodes: recording::replay",
+            Kind::Replay31 => "A recording of 31 nodes: recording::replay",
         }
     }
 
-    /// Whether it is about sheets and not about packets on a chain.
-    pub fn has_sheets(self) -> bool {
-        matches!(self, Kind::Import | Kind::Export)
+    /// Whether it is measured in bytes and not in packets to a chain.
+    pub fn has_bytes(self) -> bool {
+        !matches!(self, Kind::Delivery | Kind::Rehearsal)
     }
 
-    /// What is timed of it: chains of so many nodes, or sheets of so many KiB.
+    /// What is timed of it: chains of so many nodes, or sheets or recordings of
+    /// so many KiB.
     pub fn sizes(self) -> [usize; 3] {
-        if self.has_sheets() {
-            SHEETS
-        } else {
-            CHAINS
+        match self {
+            Kind::Delivery | Kind::Rehearsal => CHAINS,
+            Kind::Import | Kind::Export => SHEETS,
+            Kind::Replay8 | Kind::Replay31 => RECORDINGS,
         }
     }
 
@@ -110,6 +133,8 @@ impl Kind {
             ],
             Kind::Import => IMPORTS.map(|side| import(side, size)).into(),
             Kind::Export => EXPORTS.map(|side| export(side, size)).into(),
+            Kind::Replay8 => REPLAYS.map(|side| replay(side, RECORDED[0], size)).into(),
+            Kind::Replay31 => REPLAYS.map(|side| replay(side, RECORDED[1], size)).into(),
         }
     }
 }
@@ -117,6 +142,10 @@ impl Kind {
 /// The lengths of the chains that are timed, and the KiB of the sheets.
 pub const CHAINS: [usize; 3] = [1, 8, 31];
 pub const SHEETS: [usize; 3] = [4, 16, 64];
+
+/// The KiB of the recordings, in both captures together, and of how many nodes.
+pub const RECORDINGS: [usize; 3] = [1, 4, 16];
+pub const RECORDED: [usize; 2] = [8, 31];
 
 /// All packets to a fresh chain, one call each.
 fn delivery(
@@ -189,6 +218,11 @@ pub fn seeds(size: usize) -> Range<u64> {
     SEED..SEED + 1024 / size as u64
 }
 
+/// The same of recordings: 256 KiB of them in each pass.
+pub fn recording_seeds(size: usize) -> Range<u64> {
+    SEED..SEED + 256 / size as u64
+}
+
 /// A call for each input, into a lent buffer with room for all that is written.
 fn conversions(
     (name, convert): (&'static str, Convert),
@@ -206,6 +240,35 @@ fn conversions(
             }
         }),
     }
+}
+
+/// A walk through each recording of so many nodes and so many KiB.
+fn replay((name, replay): (&'static str, Replay), nodes: usize, size: usize) -> Side {
+    let recordings: Vec<_> = (recording_seeds(size))
+        .map(|seed| recording(nodes, size, seed))
+        .collect();
+    let lengths = (recordings.iter()).map(|it| it.commands.bytes.len() + it.replies.bytes.len());
+    Side {
+        name,
+        amount: lengths.sum(),
+        pass: Box::new(move || {
+            for recording in &recordings {
+                black_box(replay(black_box(recording)));
+            }
+        }),
+    }
+}
+
+fn lent(capture: &recording::Capture) -> Capture<'_> {
+    Capture {
+        bytes: &capture.bytes,
+        times: &capture.times,
+    }
+}
+
+fn our_replay(recording: &Recording) -> Replayed {
+    let (commands, replies) = (lent(&recording.commands), lent(&recording.replies));
+    ours::replay(recording.nodes, commands, replies)
 }
 
 // Calls, as ours is one.
@@ -228,6 +291,12 @@ fn plain_import(sheet: &[u8], out: &mut [u8]) -> Result<usize, Refused> {
 #[inline(never)]
 fn plain_export(packets: &[u8], out: &mut [u8]) -> Result<usize, Refused> {
     plain_sheet::export(packets, out)
+}
+
+#[inline(never)]
+fn plain_replay(recording: &Recording) -> Replayed {
+    let (commands, replies) = (lent(&recording.commands), lent(&recording.replies));
+    plain_recording::replay(recording.nodes, commands, replies)
 }
 
 fn our_text(input: &[u8], output: &mut Vec<u8>) {

@@ -1,0 +1,385 @@
+//! Recordings gone through as one writes it in Rust: two slices that grow
+//! shorter packet by packet, and one host that is changed in place. Nothing is
+//! allocated. `check_recording` holds it to the independent program.
+
+use crate::plain::{frame, sum, Bench, Command, Node, Place, Settings, MOST_REPLY};
+
+/// The entries that the host's record always has.
+pub const ENTRIES: usize = 31;
+
+/// So many milliseconds or more part two packets.
+const GAP: u32 = 2;
+
+/// The bit of a reply that says that the command had a wrong sum.
+const MARK: u8 = 0x02;
+
+/// What is captured of one line: bytes, and a time for each.
+#[derive(Clone, Copy)]
+pub struct Capture<'a> {
+    pub bytes: &'a [u8],
+    pub times: &'a [u32],
+}
+
+/// Which settings of a node are known; the others are in doubt.
+#[derive(Clone, Copy, Debug, PartialEq)]
+#[repr(C)]
+pub struct Known {
+    pub place: bool,
+    pub mask: bool,
+    pub outputs: bool,
+    pub pwm: bool,
+    pub held: bool,
+    pub timer: bool,
+}
+
+/// What is recorded of a node, laid out as the proved code lays it out, so that
+/// both sides move the same bytes.
+#[derive(Clone, Copy, Debug, PartialEq)]
+#[repr(C)]
+pub struct Entry {
+    pub settings: Settings,
+    pub known: Known,
+}
+
+#[derive(Clone, Copy, Debug, PartialEq)]
+pub enum Ending {
+    /// With the recording.
+    Ended,
+    /// With a command that the host couldn't have sent.
+    Foreign,
+    Refused(u8),
+}
+
+/// How a walk ended, and the host's session then.
+#[derive(Clone, Copy, Debug, PartialEq)]
+pub struct Replayed {
+    pub ending: Ending,
+    pub open: bool,
+    pub nodes: u8,
+    pub walk: u8,
+    pub waits: bool,
+    pub entries: [Entry; ENTRIES],
+}
+
+/// The whole walk. 6 for the node count, then 15, then 16, before any packet.
+pub fn replay(nodes: u8, mut commands: Capture, mut replies: Capture) -> Replayed {
+    if let Err(number) = check(nodes, commands, replies) {
+        return Host::FRESH.at_end(Ending::Refused(number));
+    }
+    let mut host = Host {
+        open: true,
+        nodes,
+        ..Host::FRESH
+    };
+    loop {
+        let command_comes = match (commands.times, replies.times) {
+            ([command, ..], [reply, ..]) => command <= reply,
+            ([_, ..], []) => true,
+            ([], [_, ..]) => false,
+            ([], []) => break,
+        };
+        if !command_comes {
+            host.take_reply(replies.take_packet());
+        } else if host.take_command(commands.take_packet()).is_none() {
+            return host.at_end(Ending::Foreign);
+        }
+    }
+    host.fall_silent();
+    host.at_end(Ending::Ended)
+}
+
+fn check(nodes: u8, commands: Capture, replies: Capture) -> Result<(), u8> {
+    let both = [commands, replies];
+    if !(1..=ENTRIES).contains(&usize::from(nodes)) {
+        return Err(6);
+    }
+    if both.iter().any(|it| it.bytes.len() != it.times.len()) {
+        return Err(15);
+    }
+    if !both.iter().all(|it| it.times.is_sorted()) {
+        return Err(16);
+    }
+    Ok(())
+}
+
+impl<'a> Capture<'a> {
+    /// Takes off the first packet, up to the first gap.
+    fn take_packet(&mut self) -> &'a [u8] {
+        let gap = (self.times.windows(2)).position(|pair| pair[1] - pair[0] >= GAP);
+        let end = gap.map_or(self.times.len(), |before| before + 1);
+        let (packet, rest) = self.bytes.split_at(end);
+        *self = Capture {
+            bytes: rest,
+            times: &self.times[end..],
+        };
+        packet
+    }
+}
+
+impl Known {
+    const ALL: Known = Known {
+        place: true,
+        mask: true,
+        outputs: true,
+        pwm: true,
+        held: true,
+        timer: true,
+    };
+
+    const NOTHING: Known = Known {
+        place: false,
+        mask: false,
+        outputs: false,
+        pwm: false,
+        held: false,
+        timer: false,
+    };
+}
+
+impl Entry {
+    pub const POWER_UP: Entry = Entry {
+        settings: Node::power_up(Bench::ZERO).settings,
+        known: Known::ALL,
+    };
+
+    /// What a confirmed command writes is known and new; what is copied from a
+    /// held set in doubt goes into doubt.
+    fn confirm(&mut self, command: &Command) {
+        let Entry { settings, known } = self;
+        match *command {
+            Command::SetAddress(place) => {
+                settings.place = place;
+                known.place = true;
+            }
+            Command::DefineStatus(mask) => {
+                settings.mask = mask;
+                known.mask = true;
+            }
+            Command::SetPwm(pwm) => {
+                settings.pwm = pwm;
+                known.pwm = true;
+            }
+            Command::SynchOutput => {
+                if known.held {
+                    settings.outputs = settings.held.outputs;
+                    settings.pwm = settings.held.pwm;
+                }
+                known.outputs = known.held;
+                known.pwm = known.held;
+            }
+            Command::SetOutputs(outputs) => {
+                settings.outputs = outputs;
+                known.outputs = true;
+            }
+            Command::SetSynchOutput(held) => {
+                settings.held = held;
+                known.held = true;
+            }
+            Command::SetTimerMode(mode) => {
+                settings.timer = mode;
+                known.timer = true;
+            }
+            // A Hard Reset waits for no reply.
+            Command::ReadStatus(_) | Command::SynchInput | Command::Nop | Command::HardReset => {}
+        }
+    }
+
+    /// All that a command may write goes into doubt, and shows what it showed.
+    fn doubt(&mut self, command: &Command) {
+        let known = &mut self.known;
+        match *command {
+            Command::SetAddress(_) => known.place = false,
+            Command::DefineStatus(_) => known.mask = false,
+            Command::SetPwm(_) => known.pwm = false,
+            Command::SynchOutput => {
+                known.outputs = false;
+                known.pwm = false;
+            }
+            Command::SetOutputs(_) => known.outputs = false,
+            Command::SetSynchOutput(_) => known.held = false,
+            Command::SetTimerMode(_) => known.timer = false,
+            Command::HardReset => *known = Known::NOTHING,
+            Command::ReadStatus(_) | Command::SynchInput | Command::Nop => {}
+        }
+    }
+}
+
+/// The host, from power-up on: no session is handed in, so that only those are
+/// met that its calls leave.
+struct Host {
+    open: bool,
+    nodes: u8,
+    walk: u8,
+    waiting: Option<Waiting>,
+    entries: [Entry; ENTRIES],
+}
+
+/// A command without a reply yet, and the node or group that it is for.
+#[derive(Clone, Copy)]
+struct Waiting {
+    to: u8,
+    command: Command,
+}
+
+/// What a reply comes to.
+enum Judged {
+    Clear,
+    Marked,
+    Silent,
+}
+
+impl Host {
+    const FRESH: Host = Host {
+        open: false,
+        nodes: 0,
+        walk: 0,
+        waiting: None,
+        entries: [Entry::POWER_UP; ENTRIES],
+    };
+
+    fn at_end(&self, ending: Ending) -> Replayed {
+        Replayed {
+            ending,
+            open: self.open,
+            nodes: self.nodes,
+            walk: self.walk,
+            waits: self.waiting.is_some(),
+            entries: self.entries,
+        }
+    }
+
+    /// Sends what has these bytes; None where the host couldn't have sent them.
+    fn take_command(&mut self, bytes: &[u8]) -> Option<()> {
+        self.fall_silent();
+        let packet = frame(bytes).ok()?;
+        let command = packet.command?;
+        let to = self.addressee(packet.address, &command)?;
+        if let Command::HardReset = command {
+            self.open = false;
+            for entry in &mut self.entries {
+                entry.doubt(&command);
+            }
+        } else {
+            self.waiting = Some(Waiting { to, command });
+        }
+        Some(())
+    }
+
+    /// The node or group that a command to an address is for, if the host can
+    /// send it now. A command has one packet, so that only this is to be tested.
+    fn addressee(&self, address: u8, command: &Command) -> Option<u8> {
+        if !self.open {
+            return None;
+        }
+        let is_sendable = if self.is_walking() {
+            let next = self.walk + 1;
+            let ask_is_due = !self.entries[usize::from(self.walk)].known.place;
+            let sends = match *command {
+                Command::SetAddress(place) => !ask_is_due && address == 0 && place == given(next),
+                Command::Nop => ask_is_due && address == next,
+                _ => false,
+            };
+            return sends.then_some(next);
+        } else if let Command::SetAddress(place) = *command {
+            self.has_node(address)
+                && place.address == address
+                && (!place.leader || self.may_lead(address, place.group))
+        } else {
+            address >= 0x80 || self.has_node(address)
+        };
+        is_sendable.then_some(address)
+    }
+
+    fn is_walking(&self) -> bool {
+        self.walk < self.nodes
+    }
+
+    fn has_node(&self, address: u8) -> bool {
+        (1..=self.nodes).contains(&address)
+    }
+
+    /// Whether no other node leads the group or has its place in doubt.
+    fn may_lead(&self, node: u8, group: u8) -> bool {
+        let nodes = (1..=self.nodes).zip(&self.entries);
+        nodes.filter(|(other, _)| *other != node).all(|(_, entry)| {
+            let place = &entry.settings.place;
+            entry.known.place && !(place.leader && place.group == group)
+        })
+    }
+
+    fn take_reply(&mut self, bytes: &[u8]) {
+        let Some(Waiting { to, command }) = self.waiting.take() else {
+            return;
+        };
+        match judge(bytes) {
+            Judged::Clear => self.confirm(to, &command),
+            Judged::Marked => {}
+            Judged::Silent => self.doubt(to, &command),
+        }
+    }
+
+    /// The command that waits, if one does, has no reply.
+    fn fall_silent(&mut self) {
+        if let Some(Waiting { to, command }) = self.waiting.take() {
+            self.doubt(to, &command);
+        }
+    }
+
+    fn confirm(&mut self, to: u8, command: &Command) {
+        if self.is_walking() {
+            // The reply to the Set Address, or to the Nop that asks after it.
+            self.entries[usize::from(self.walk)].confirm(&Command::SetAddress(given(to)));
+            self.walk += 1;
+        } else if to < 0x80 {
+            self.entries[usize::from(to - 1)].confirm(command);
+        } else {
+            for entry in self.chain() {
+                if !entry.known.place {
+                    entry.doubt(command);
+                } else if entry.settings.place.group == to {
+                    entry.confirm(command);
+                }
+            }
+        }
+    }
+
+    fn doubt(&mut self, to: u8, command: &Command) {
+        if to < 0x80 {
+            self.entries[usize::from(to - 1)].doubt(command);
+        } else {
+            for entry in self.chain() {
+                if !entry.known.place || entry.settings.place.group == to {
+                    entry.doubt(command);
+                }
+            }
+        }
+    }
+
+    /// The entries of nodes 1 to n.
+    fn chain(&mut self) -> &mut [Entry] {
+        &mut self.entries[..usize::from(self.nodes)]
+    }
+}
+
+/// The place that the walk gives to a node.
+fn given(node: u8) -> Place {
+    Place {
+        address: node,
+        ..Entry::POWER_UP.settings.place
+    }
+}
+
+fn judge(bytes: &[u8]) -> Judged {
+    match *bytes {
+        [status, .., last] if bytes.len() <= MOST_REPLY => {
+            if sum(&bytes[..bytes.len() - 1]) != last {
+                Judged::Silent
+            } else if status & MARK == 0 {
+                Judged::Clear
+            } else {
+                Judged::Marked
+            }
+        }
+        _ => Judged::Silent,
+    }
+}

@@ -69,7 +69,7 @@ abbrev pub doubtOf : Command → Entry → Entry
 doubtOf c e = record { settings = e .settings; known = markOf c false (e .known) }
 
 -- "Good and clear confirms the command. Good and not clear: the record stays as before. All else counts as silence: unconfirmed";
--- confirmed "except at nodes in doubt about their place when it went to a group"
+-- document 02, request 4: of a group command it "confirms only the leader, if known; every other node that may be written goes into doubt"
 abbrev pub noteOf : Answer → Reach → Command → Entry → Entry
 noteOf Marked r c e = e
 noteOf Clear Misses c e = e

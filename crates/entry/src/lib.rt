@@ -28,7 +28,8 @@ pub struct Entry {
     pub known: Known,
 }
 
-// Whether a command goes to the node: it does not; it does; nobody knows, since it went to a group and the node's place is in doubt.
+// What a command is to the node: it goes past it; it goes to it, and a reply to it is this node's own; it may be written, and no reply tells whether it was,
+// since it went to a group that the node is not known to lead.
 pub enum Reach {
     Misses,
     Hits,

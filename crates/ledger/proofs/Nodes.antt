@@ -20,8 +20,11 @@ module _ (to : Address) (k : ℕ) (known : Bool) (p : Place) where
   pub other-node : (i : Individual) → to ≡ address.Individual i → (i .0 ≡ k → ⊥) → Misses ≡ reachBy to k known p
   other-node i e q = rw (e, ne-eqb (i .0) k q)
 
-  pub its-group : (g : Group) → to ≡ address.Group g → known ≡ true → p .group .0 ≡ g .0 → Hits ≡ reachBy to k known p
-  its-group g e h q = rw (e, h, eq-eqb (p .group .0) (g .0) q)
+  pub its-leader : (g : Group) → to ≡ address.Group g → known ≡ true → p .group .0 ≡ g .0 → p .leader ≡ true → Hits ≡ reachBy to k known p
+  its-leader g e h q l = rw (e, h, eq-eqb (p .group .0) (g .0) q, l)
+
+  pub its-member : (g : Group) → to ≡ address.Group g → known ≡ true → p .group .0 ≡ g .0 → p .leader ≡ false → May ≡ reachBy to k known p
+  its-member g e h q l = rw (e, h, eq-eqb (p .group .0) (g .0) q, l)
 
   pub other-group : (g : Group) → to ≡ address.Group g → known ≡ true → (p .group .0 ≡ g .0 → ⊥) → Misses ≡ reachBy to k known p
   other-group g e h q = rw (e, h, ne-eqb (p .group .0) (g .0) q)

@@ -1,4 +1,4 @@
--- Document 01, "The host session": the record of all nodes. Node k has the entry of index k - 1; entries past n stay as they are.
+-- Document 01, "The host session", with document 02, request 4: the record of all nodes. Node k has the entry of index k - 1; entries past n stay as they are.
 use Prim.Native.Nat.{ℕ, zero, suc}
 use mathlib.Core.Bool.{Bool, false, cond, not, _&&_, _||_}
 use mathlib.Core.List.{List, [], _∷_, map}
@@ -31,10 +31,10 @@ unfoldable pub ledgerLeast : ℕ → ℕ
 ledgerLeast n = cond (ltb mostNodes n) mostNodes n
 
 -- "Who may be written: node k for an individual command ..; for a group, nodes known to be in it and every node whose place is in doubt"
--- by the node's place, and whether it is known
+-- by the node's place, and whether it is known. Document 02, request 4: "A good clear reply to a group command confirms only the leader, if known"
 abbrev pub reachBy : Address → ℕ → Bool → Place → Reach
 reachBy (address.Individual i) k known p = cond (eqb (i .0) k) Hits Misses
-reachBy (address.Group g) k known p = cond known (cond (eqb (p .group .0) (g .0)) Hits Misses) May
+reachBy (address.Group g) k known p = cond known (cond (eqb (p .group .0) (g .0)) (cond (p .leader) Hits May) Misses) May
 
 -- by its entry, which is asked for no more than that
 abbrev pub reachOf : Address → ℕ → Entry → Reach

@@ -32,6 +32,7 @@ fn least(n: u8) -> u8
 }
 
 // Whether a command to an address goes to node k, by its place, if that is known.
+// Of a group the known leader alone is sure to have it by a clear reply, which is its own: its members may have missed what it heard.
 fn reach_by(to: Address, k: u8, known: bool, place: Place) -> Reach
     ensures { λ r. ⌜ r ≡ reachBy to k known place ⌝ }
 {
@@ -40,7 +41,11 @@ fn reach_by(to: Address, k: u8, known: bool, place: Place) -> Reach
         Address::Group(g) => {
             if known {
                 if place.group.0 == g.0 {
-                    Reach::Hits
+                    if place.leader {
+                        Reach::Hits
+                    } else {
+                        Reach::May
+                    }
                 } else {
                     Reach::Misses
                 }

@@ -49,7 +49,6 @@ pub benched-exchange : {called : Address} {c : Command} {ls ns ms : List Node} {
 benched-exchange b x = record {
   did = x .did;
   acting = x .acting;
-  alike = x .alike;
   long = b .long ∙ x .long;
   settings = λ i l. b .settings i (omega (arith, x .long)) ∙ x .settings i l;
   addressed = λ i l. b .addressed i (omega (arith, x .long)) ∙ x .addressed i l;

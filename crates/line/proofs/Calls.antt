@@ -2,7 +2,7 @@
 use Prim.Native.Nat.{ℕ, suc, _+_, _≤_, _<_}
 use mathlib.Core.Bool.{true}
 use mathlib.Core.List.{List, [], _∷_}
-use mathlib.Core.Path.{_≡_, refl, ap}
+use mathlib.Core.Path.{_≡_, refl, sym, ap}
 use native.Mathlib.Omega.{arith}
 use lib.ListN.{length, drop}
 use lib.Seq.{take-append-seam}
@@ -22,10 +22,11 @@ use Rattle.survey.specs.declared.decision.Delivery.{Delivery}
 use Rattle.survey.specs.One.{messageAs, isRanged}
 use Rattle.survey.specs.Chain.{after, Said, silence, reply, collided, said, allRanged}
 use Rattle.survey.specs.Delivery.{Lent, valid, onSaid, deliveredTo, frameAlone, onFrame, deliverOf}
-use Rattle.survey.proofs.Meaning.{said-says}
-use Rattle.line.specs.Line.{takenBy, spokenBy}
+use Rattle.survey.proofs.Meaning.{length-after, said-says}
+use Rattle.line.specs.Line.{takenBy, parted, spokenBy}
 use Rattle.line.specs.Demand3.{saidIn, Delivers}
 use Rattle.line.proofs.Invariant.{at}
+use Rattle.line.proofs.Getting.{parted-same, parted-all, among-all}
 
 all-ranged : (l : List Node) → ((i : ℕ) → i < length l → isRanged (at l i .settings .place) ≡ true) → allRanged l ≡ true
 all-ranged [] f = refl
@@ -46,10 +47,13 @@ module _ (ns : List Node) (out : List ℕ) (room : T + 2 ≤ length out) where
       rw (le-ltb (length out) (length r) (omega arith)) (record { nodes = refl; says = ap reply (take-append-seam r (drop (length r) out)) })
   does to h collided e = record { nodes = refl; says = refl }
 
-  does-frame : (f : Framed) (q : List ℕ) → Does (onFrame f q ns out) (takenBy f q ns) (spokenBy f q ns)
+  -- where all nodes get the packet
+  does-frame : (f : Framed) (q : List ℕ) → Does (onFrame f q ns out) (parted (λ i. true) ns (takenBy f q ns)) (spokenBy (λ i. true) f q ns)
   unfolding deliveredTo
-  does-frame (framed.Whole to k n) q = does to (messageAs k q) (said to (messageAs k q) ns) refl
-  does-frame (framed.Refused why) q = record { nodes = refl; says = refl }
+  does-frame (framed.Whole to k n) q =
+      rw (parted-all ns (after to (messageAs k q) ns) (length-after to (messageAs k q) ns), among-all to (messageAs k q) ns)
+      (does to (messageAs k q) (said to (messageAs k q) ns) refl)
+  does-frame (framed.Refused why) q = record { nodes = sym (parted-same (λ i. true) ns); says = refl }
 
   pub delivers : 1 ≤ length ns → length ns ≤ 31 → ((i : ℕ) → i < length ns → isRanged (at ns i .settings .place) ≡ true) → (q : List ℕ) → Delivers ns q out
   unfolding deliverOf valid

@@ -20,12 +20,13 @@ use Rattle.session.specs.declared.End.the-variants as ends
 use Rattle.session.specs.declared.Step.{Step}
 use Rattle.reports.specs.Report.{concludeOf, finishOf}
 use Rattle.survey.specs.Chain.{Said, silence, reply, collided}
+use Rattle.survey.specs.Delivery.{frameAlone}
 use Rattle.calls.specs.declared.Call.{Call}
 use Rattle.calls.specs.Calls.{callPerform, TypedCall}
 use Rattle.calls.proofs.Standing.{call-not-done}
 use Rattle.line.specs.History.{Sending, Sent, counted}
 use Rattle.line.specs.Call.{whatOf, resets}
-use Rattle.line.specs.Line.{Line, quiet, going, coming, lingering, Arrival, nowhere, Arrives, lost, Nothing, absent, Returns, quietly, mixed, nodesAfter, saidAfter, reportedOf, answerIn}
+use Rattle.line.specs.Line.{Line, quiet, going, coming, lingering, Arrival, toNone, Arrives, Nothing, absent, Returns, quietly, mixed, takenBy, nodesAfter, saidAfter, reportedOf, answerIn}
 use Rattle.line.specs.Line as line
 use Rattle.line.specs.World.{World, hosting, callEnded, callMade, Comes, start, power, unpowered, call, deliver, report, hurry, delay, stray, bench}
 use Rattle.line.proofs.Refusing.{refused-power, refused-call, refused-report}
@@ -33,6 +34,7 @@ use Rattle.line.proofs.Due.{Due, CallSends, call-sends}
 use Rattle.line.proofs.Closing.{waitingAt, due-opens, reported-finished, reported-concludes, conclusion}
 use Rattle.line.proofs.Exactly.{Exactly, exactly-step}
 use Rattle.line.proofs.Invariant.{at, Invariant, Exchanged}
+use Rattle.line.proofs.Getting.{parted-none}
 use Rattle.line.proofs.Peace.{none-collided}
 use Rattle.line.proofs.Delivery.{nothing-silent, exchanged}
 use Rattle.line.proofs.Exchange.{exchange-step}
@@ -149,11 +151,16 @@ lingering-settles {h} {ns} {past} {p} l q a =
     rw (l .host, l .history) (settles-again (l .waiting) (nodesAfter q ns) (l .earlier) (l .what) none
     (arrives (l .waiting) ns (l .earlier) (l .what) p (l .sent) q none a (absent-of (saidAfter q ns))))
 
+-- it has come to nobody so far
+never-comes : {h : Session} {ns : List Node} {past : List Sent} {p : List ℕ} → Lingering h ns past p → Settled h ns past
+never-comes {h} {ns} {past} {p} l =
+    subst (λ (ms : List Node). Settled h ms past) (parted-none ns (takenBy (frameAlone p) p ns)) (lingering-settles l (toNone p) line.Arrives.whole)
+
 pub when-idle : (h : Session) (ns : List Node) (past : List Sent) (l : Line) → LineHolds h ns past l → h .exchange ≡ Idle → Settled h ns past
 when-idle h ns past quiet s e = s
 when-idle h ns past (going what p) s e = absurd (not-idle (s .opened) e)
 when-idle h ns past (coming what r) s e = absurd (not-idle (s .opened) e)
-when-idle h ns past (lingering p) s e = lingering-settles s nowhere lost
+when-idle h ns past (lingering p) s e = never-comes s
 
 hurries : (h : Session) (ns : List Node) (past : List Sent) (what : Sending) (p : List ℕ) → Going h ns past what p → (r : Option (List ℕ)) → Nothing r
     → Lingering (reportedOf h r .session) ns (record { what = what; answer = answerIn r } ∷ past) p
@@ -265,4 +272,4 @@ steady h ns past (coming what r) s =
       nodes = k .nodes ∙ sym (ap (λ (z : Session). z .n) (o .now));
       inv = exchange-step (o .due) (o .fits) _ (s .old) ns i (answerIn r) (s .exchange) k;
     }
-steady h ns past (lingering p) s = record { session = h; nodes = refl; inv = lingering-settles s nowhere lost .inv }
+steady h ns past (lingering p) s = record { session = h; nodes = refl; inv = never-comes s .inv }

@@ -39,7 +39,7 @@ use Rattle.calls.specs.declared.Call.the-variants.{Next, Ask, Order}
 use Rattle.calls.specs.Calls.{TypedCall}
 use Rattle.examples.specs.Example.{buffer, knownBut, entryWith, placeInDoubt, addressed, pair}
 use Rattle.line.specs.History.{Sending, Sent, gives, asks, sends}
-use Rattle.line.specs.Line.{Line, quiet, going, Arrival, came, Arrives, Returns, nodesAfter, saidAfter, reportedOf, answerIn}
+use Rattle.line.specs.Line.{Line, quiet, going, Arrival, toAll, Arrives, Returns, nodesAfter, saidAfter, reportedOf, answerIn}
 use Rattle.line.specs.Line as line
 use Rattle.line.specs.World.{World, callMade, Comes, start, power, call, deliver, report}
 use Rattle.line.specs.Courses.{Courses, unasked, asked, walked, lost, again}
@@ -141,70 +141,70 @@ unfolding judgeOf endsInSum total
 judged-good = refl
 
 -- the packets at the nodes
-takes-1 : nodesAfter (came (given 1)) (up ∷ up ∷ []) ≡ placed 1 0 ∷ up ∷ []
+takes-1 : nodesAfter (toAll (given 1)) (up ∷ up ∷ []) ≡ placed 1 0 ∷ up ∷ []
 unfolding frameOf frameAlone dataPart isIntact endsInSum total commandRead listedOf after turned doesAct
 takes-1 = refl
 
-takes-2 : nodesAfter (came (given 2)) (placed 1 0 ∷ up ∷ []) ≡ placed 1 0 ∷ placed 2 0 ∷ []
+takes-2 : nodesAfter (toAll (given 2)) (placed 1 0 ∷ up ∷ []) ≡ placed 1 0 ∷ placed 2 0 ∷ []
 unfolding frameOf frameAlone dataPart isIntact endsInSum total commandRead listedOf after turned doesAct
 takes-2 = refl
 
-takes-ask : nodesAfter (came nop1) (placed 1 0 ∷ up ∷ []) ≡ placed 1 0 ∷ up ∷ []
+takes-ask : nodesAfter (toAll nop1) (placed 1 0 ∷ up ∷ []) ≡ placed 1 0 ∷ up ∷ []
 unfolding frameOf frameAlone dataPart isIntact endsInSum total commandRead listedOf after turned doesAct
 takes-ask = refl
 
-takes-5 : (old : ℕ) → nodesAfter (came set5) (placed 1 0 ∷ placed 2 old ∷ []) ≡ placed 1 0 ∷ placed 2 5 ∷ []
+takes-5 : (old : ℕ) → nodesAfter (toAll set5) (placed 1 0 ∷ placed 2 old ∷ []) ≡ placed 1 0 ∷ placed 2 5 ∷ []
 unfolding frameOf frameAlone dataPart isIntact endsInSum total commandRead listedOf after turned doesAct
 takes-5 old = refl
 
-says-1 : saidAfter (came (given 1)) (up ∷ up ∷ []) ≡ reply good
+says-1 : saidAfter (toAll (given 1)) (up ∷ up ∷ []) ≡ reply good
 unfolding frameOf frameAlone dataPart isIntact endsInSum total commandRead listedOf said replierIn doesReply replyOf replyItems
 says-1 = refl
 
-says-2 : saidAfter (came (given 2)) (placed 1 0 ∷ up ∷ []) ≡ reply good
+says-2 : saidAfter (toAll (given 2)) (placed 1 0 ∷ up ∷ []) ≡ reply good
 unfolding frameOf frameAlone dataPart isIntact endsInSum total commandRead listedOf said replierIn doesReply replyOf replyItems
 says-2 = refl
 
-says-ask : saidAfter (came nop1) (placed 1 0 ∷ up ∷ []) ≡ reply good
+says-ask : saidAfter (toAll nop1) (placed 1 0 ∷ up ∷ []) ≡ reply good
 unfolding frameOf frameAlone dataPart isIntact endsInSum total commandRead listedOf said replierIn doesReply replyOf replyItems
 says-ask = refl
 
-says-5 : (old : ℕ) → saidAfter (came set5) (placed 1 0 ∷ placed 2 old ∷ []) ≡ reply good
+says-5 : (old : ℕ) → saidAfter (toAll set5) (placed 1 0 ∷ placed 2 old ∷ []) ≡ reply good
 unfolding frameOf frameAlone dataPart isIntact endsInSum total commandRead listedOf said replierIn doesReply replyOf replyItems
 says-5 old = refl
 
 -- the first "next": the reply is lost; "ask" is replied to
 unanswered : Comes (worldAt (pair 0 Idle placeInDoubt entryPowerUp rest) (placed 1 0 ∷ up ∷ []) quiet unasked)
 unanswered =
-    round powers Next tt _ _ (up ∷ up ∷ []) _ [] (gives 1) (given 1) (came (given 1)) none Silent (next-1 rest) line.whole (rw says-1 (line.lost line.absent))
+    round powers Next tt _ _ (up ∷ up ∷ []) _ [] (gives 1) (given 1) (toAll (given 1)) none Silent (next-1 rest) line.whole (rw says-1 (line.lost line.absent))
     takes-1 (silent-1 rest) refl
 
 answered : Comes (worldAt (pair 1 Idle (addressed 1) entryPowerUp rest) (placed 1 0 ∷ up ∷ []) quiet asked)
 answered =
-    round unanswered Ask tt _ _ (placed 1 0 ∷ up ∷ []) _ _ (asks 1) nop1 (came nop1) (some good) Clear (ask-1 rest _) line.whole (rw says-ask line.whole)
+    round unanswered Ask tt _ _ (placed 1 0 ∷ up ∷ []) _ _ (asks 1) nop1 (toAll nop1) (some good) Clear (ask-1 rest _) line.whole (rw says-ask line.whole)
     takes-ask (good-ask rest) judged-good
 
 -- the walk
 first : Comes (worldAt (pair 1 Idle (addressed 1) entryPowerUp rest) (placed 1 0 ∷ up ∷ []) quiet (record { what = gives 1; answer = Clear } ∷ []))
 first =
-    round powers Next tt _ _ (up ∷ up ∷ []) _ [] (gives 1) (given 1) (came (given 1)) (some good) Clear (next-1 rest) line.whole (rw says-1 line.whole)
+    round powers Next tt _ _ (up ∷ up ∷ []) _ [] (gives 1) (given 1) (toAll (given 1)) (some good) Clear (next-1 rest) line.whole (rw says-1 line.whole)
     takes-1 (good-1 rest) judged-good
 
 second : Comes (worldAt (pair 2 Idle (addressed 1) (addressed 2) rest) (placed 1 0 ∷ placed 2 0 ∷ []) quiet walked)
 second =
-    round first Next tt _ _ (placed 1 0 ∷ up ∷ []) _ _ (gives 2) (given 2) (came (given 2)) (some good) Clear (next-2 rest _) line.whole (rw says-2 line.whole)
+    round first Next tt _ _ (placed 1 0 ∷ up ∷ []) _ _ (gives 2) (given 2) (toAll (given 2)) (some good) Clear (next-2 rest _) line.whole (rw says-2 line.whole)
     takes-2 (good-2 rest) judged-good
 
 -- Set Outputs 5 to node 2: the reply is lost
 third : Comes (worldAt (pair 2 Idle (addressed 1) (entryWith (givenPlace 2) 0 (knownBut false true true)) rest) (placed 1 0 ∷ placed 2 5 ∷ []) quiet lost)
 third =
-    round second (Order (nodeAt 2) (SetOutputs 5)) tt _ _ (placed 1 0 ∷ placed 2 0 ∷ []) _ _ (sends (nodeAt 2) (SetOutputs 5)) set5 (came set5) none Silent
+    round second (Order (nodeAt 2) (SetOutputs 5)) tt _ _ (placed 1 0 ∷ placed 2 0 ∷ []) _ _ (sends (nodeAt 2) (SetOutputs 5)) set5 (toAll set5) none Silent
     (set-outputs rest (addressed 2) _ _) line.whole (rw (says-5 0) (line.lost line.absent)) (takes-5 0) (silent-5 rest) refl
 
 -- sent again, and replied to
 fourth : Comes (worldAt (pair 2 Idle (addressed 1) (entryWith (givenPlace 2) 5 (knownBut true true true)) rest) (placed 1 0 ∷ placed 2 5 ∷ []) quiet again)
 fourth =
-    round third (Order (nodeAt 2) (SetOutputs 5)) tt _ _ (placed 1 0 ∷ placed 2 5 ∷ []) _ _ (sends (nodeAt 2) (SetOutputs 5)) set5 (came set5) (some good) Clear
+    round third (Order (nodeAt 2) (SetOutputs 5)) tt _ _ (placed 1 0 ∷ placed 2 5 ∷ []) _ _ (sends (nodeAt 2) (SetOutputs 5)) set5 (toAll set5) (some good) Clear
     (set-outputs rest (entryWith (givenPlace 2) 0 (knownBut false true true)) _ _) line.whole (rw (says-5 5) line.whole) (takes-5 5) (good-5 rest) judged-good
 
 -- the first "next" is on its way

@@ -1,12 +1,15 @@
 -- Demand 3, proved; with it that no two nodes lead a group or reply at once, and that the chain's call delivers.
 use Prim.Native.Nat.{ℕ, suc, _-_, _≤_}
-use mathlib.Core.Bool.{false, not, true≢false}
+use mathlib.Core.Bool.{false, not}
 use mathlib.Core.List.{List}
 use mathlib.Core.Logic.{_↔_}
 use mathlib.Core.Path.{_≡_, sym, ap, subst, _∙_}
 use native.Mathlib.Omega.{arith}
 use borrow.Author.Tests.{not-false}
+use lib.ListN.{getD}
+use Rattle.wire.specs.Address.{addressOf}
 use Rattle.command.specs.Build.{packetFor}
+use Rattle.message.specs.declared.Message.the-variants.{Intact, Spoilt}
 use Rattle.node.specs.declared.state.Node.{Node}
 use Rattle.node.specs.Setting.{Setting}
 use Rattle.survey.specs.One.{isRanged}
@@ -54,7 +57,7 @@ one-leader w comes up g j k a b c d p q =
     let e = s .inv .alone (g .0) (j - 1) (k - 1) (omega arith) (omega arith) p q in
     omega arith
 
--- nobody replies to a packet that is lost; one that is not says what it says to one address
+-- whoever gets the packet, it says what it says to one address
 peace : (h : Session) (ns : List Node) (past : List Sent) (what : Sending) (p : List ℕ) → Going h ns past what p
     → (q : Arrival) → Arrives p q → saidAfter q ns ≡ collided → ⊥
 peace h ns past what p g q a c = go (rw (g .packet) at a) c
@@ -63,9 +66,10 @@ peace h ns past what p g q a c = go (rw (g .packet) at a) c
     o = g .opened
 
     go : {q : Arrival} → Arrives (packetFor (o .called) (o .command)) q → saidAfter q ns ≡ collided → ⊥
-    go line.whole c = none-collided (o .before) ns (o .inv) _ _ (sym (whole-means (o .called) (o .command) ns (o .range) (o .fits) (o .typed) .speaks) ∙ c)
-    go (line.damaged {q = q} d) c = none-collided (o .before) ns (o .inv) _ _ (sym (damaged-means (o .called) (o .command) ns (o .range) (o .fits) (o .typed) q d .speaks) ∙ c)
-    go line.lost c = true≢false (cc c)
+    go (line.whole {gets = gets}) c =
+        none-collided (o .before) ns (o .inv) gets (o .called) (Intact (o .command)) (sym (whole-means (o .called) (o .command) ns (o .range) (o .fits) (o .typed) gets .speaks) ∙ c)
+    go (line.damaged {q = q} {gets = gets} d) c =
+        none-collided (o .before) ns (o .inv) gets (addressOf (getD q 1 0)) Spoilt (sym (damaged-means (o .called) (o .command) ns (o .range) (o .fits) (o .typed) q gets d .speaks) ∙ c)
 
 pub no-collision : promised.NoCollision
 no-collision w comes up p o = go o (holds comes up)

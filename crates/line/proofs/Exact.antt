@@ -22,7 +22,7 @@ use Rattle.entry.specs.declared.Reach.the-variants.{Misses, Hits, May}
 use Rattle.entry.specs.Entry.{knows, shows, noteOf, noteFlag, noteValue}
 use Rattle.entry.proofs.Entries.{knows-noted, shows-noted}
 use Rattle.ledger.specs.Ledger.{reachOf}
-use Rattle.line.specs.History.{Counted, groupLost, placeIn, lastPlace, copied, goes, inDoubt}
+use Rattle.line.specs.History.{Counted, answers, placeIn, lastPlace, copied, goes, inDoubt}
 
 -- the entry of node k says what the history says
 pub record Exact (e : Entry) (past : List Counted) (k : ℕ) : Type 0 where
@@ -40,42 +40,49 @@ Counts Clear = Unit {0}
 Counts Marked = ⊥
 Counts Silent = Unit {0}
 
--- the host's belief about the way, against `goes`; l: the command went to a group while the place was in doubt
+-- the host's belief about the way, against `goes` and `answers`
 abbrev Way : Reach → Bool → Bool → Type 0
-Way Misses g l = g ≡ false
-Way Hits g l = (g ≡ true) × (l ≡ false)
-Way May g l = (g ≡ true) × (l ≡ true)
+Way Misses g o = g ≡ false
+Way Hits g o = (g ≡ true) × (o ≡ true)
+Way May g o = (g ≡ true) × (o ≡ false)
 
 -- one setting; d says which were in doubt
-flag-exact : {s : Setting} (a : Answer) → Counts a → (r : Reach) (f : Effect s) (e : Entry) (g l : Bool) (d : Setting → Bool) → Way r g l
-    → ((t : Setting) → knows e t ≡ not (d t)) → noteFlag a r f e ≡ not (cond (g && writes f) (not (confirms a) || l || copied f d) (d s))
-flag-exact {s} Clear t Misses f e g l d w p = rw w (p s)
-flag-exact {s} Clear t Hits keeps e g l d w p = rw (and-false g) (p s)
-flag-exact Clear t Hits (stores v) e g l d w p = rw (w .0, w .1) refl
-flag-exact Clear t Hits (copies u f) e g l d w p = rw (w .0, w .1) (p u)
-flag-exact {s} Clear t May keeps e g l d w p = rw (and-false g) (p s)
-flag-exact Clear t May (stores v) e g l d w p = rw (w .0, w .1) refl
-flag-exact Clear t May (copies u f) e g l d w p = rw (w .0, w .1) refl
-flag-exact {s} Silent t Misses f e g l d w p = rw w (p s)
-flag-exact {s} Silent t Hits keeps e g l d w p = rw (and-false g) (p s)
-flag-exact Silent t Hits (stores v) e g l d w p = rw (w .0) refl
-flag-exact Silent t Hits (copies u f) e g l d w p = rw (w .0) refl
-flag-exact {s} Silent t May keeps e g l d w p = rw (and-false g) (p s)
-flag-exact Silent t May (stores v) e g l d w p = rw (w .0) refl
-flag-exact Silent t May (copies u f) e g l d w p = rw (w .0) refl
+flag-exact : {s : Setting} (a : Answer) → Counts a → (r : Reach) (f : Effect s) (e : Entry) (g o : Bool) (d : Setting → Bool) → Way r g o
+    → ((t : Setting) → knows e t ≡ not (d t)) → noteFlag a r f e ≡ not (cond (g && writes f) (not (confirms a && o) || copied f d) (d s))
+flag-exact {s} Clear t Misses f e g o d w p = rw w (p s)
+flag-exact {s} Clear t Hits keeps e g o d w p = rw (and-false g) (p s)
+flag-exact Clear t Hits (stores v) e g o d w p = rw (w .0, w .1) refl
+flag-exact Clear t Hits (copies u f) e g o d w p = rw (w .0, w .1) (p u)
+flag-exact {s} Clear t May keeps e g o d w p = rw (and-false g) (p s)
+flag-exact Clear t May (stores v) e g o d w p = rw (w .0, w .1) refl
+flag-exact Clear t May (copies u f) e g o d w p = rw (w .0, w .1) refl
+flag-exact {s} Silent t Misses f e g o d w p = rw w (p s)
+flag-exact {s} Silent t Hits keeps e g o d w p = rw (and-false g) (p s)
+flag-exact Silent t Hits (stores v) e g o d w p = rw (w .0) refl
+flag-exact Silent t Hits (copies u f) e g o d w p = rw (w .0) refl
+flag-exact {s} Silent t May keeps e g o d w p = rw (and-false g) (p s)
+flag-exact Silent t May (stores v) e g o d w p = rw (w .0) refl
+flag-exact Silent t May (copies u f) e g o d w p = rw (w .0) refl
 
-way-test : (b : Bool) → Way (cond b Hits Misses) b false
-way-test true = (refl, refl)
-way-test false = refl
+way-node : (b : Bool) → Way (cond b Hits Misses) b true
+way-node true = (refl, refl)
+way-node false = refl
+
+-- a node known to be in the group, or not: its leader, or another member
+way-member : (b leads : Bool) → Way (cond b (cond leads Hits May) Misses) b (leads && b)
+way-member true true = (refl, refl)
+way-member true false = (refl, refl)
+way-member false leads = refl
 
 way-group : (g : ℕ) (e : Entry) (p : Place) (d : Bool) → knows e place ≡ not d → shows e place ≡ p
-    → Way (cond (knows e place) (cond (eqb (shows e place .group .0) g) Hits Misses) May) (d || eqb (p .group .0) g) d
+    → Way (cond (knows e place) (cond (eqb (shows e place .group .0) g) (cond (shows e place .leader) Hits May) Misses) May)
+    (d || eqb (p .group .0) g) (not d && p .leader && eqb (p .group .0) g)
 way-group g e p true k q = rw k (refl, refl)
-way-group g e p false k q = rw (k, q) (way-test (eqb (p .group .0) g))
+way-group g e p false k q = rw (k, q) (way-member (eqb (p .group .0) g) (p .leader))
 
 way : (to : Address) (k : ℕ) (e : Entry) (past : List Counted) → Exact e past k
-    → Way (reachOf to k e) (goes to k (inDoubt past k place) (lastPlace past k)) (groupLost to (inDoubt past k place))
-way (address.Individual i) k e past x = way-test (eqb (i .0) k)
+    → Way (reachOf to k e) (goes to k (inDoubt past k place) (lastPlace past k)) (answers to (inDoubt past k place) (lastPlace past k))
+way (address.Individual i) k e past x = way-node (eqb (i .0) k)
 way (address.Group g) k e past x = way-group (g .0) e (lastPlace past k) (inDoubt past k place) (x .known place) (x .place)
 
 -- no command copies a place
@@ -125,7 +132,7 @@ pub exact-step : (a : Answer) → Counts a → (to : Address) (c : Command) → 
     → Exact (noteOf a (reachOf to k e) c e) (record { to = to; command = c; confirmed = confirms a } ∷ past) k
 exact-step a u to c s e past k x = record {
   known = λ t. knows-noted a (reachOf to k e) c e t
-      ∙ flag-exact a u (reachOf to k e) (effect c t) e (goes to k (inDoubt past k place) (lastPlace past k)) (groupLost to (inDoubt past k place))
+      ∙ flag-exact a u (reachOf to k e) (effect c t) e (goes to k (inDoubt past k place) (lastPlace past k)) (answers to (inDoubt past k place) (lastPlace past k))
       (inDoubt past k) (way to k e past x) (x .known);
   place = place-exact a u to c s e past k x;
 }

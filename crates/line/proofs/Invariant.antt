@@ -96,8 +96,6 @@ pub record Exchanged (called : Address) (c : Command) (ns ms : List Node) (a : A
   -- the command came whole to the node of index i, which acted on it
   pub did : ℕ → Bool
   pub acting : (i : ℕ) → did i ≡ true → acts called ns i ≡ true
-  -- "A command reaches all nodes alike": where one acted on it, all did that act on such a command
-  pub alike : (i j : ℕ) → did i ≡ true → acts called ns j ≡ true → did j ≡ true
   pub long : length ms ≡ length ns
   pub settings : (i : ℕ) → i < length ns → at ms i .settings ≡ cond (did i) (settingsAfter c (at ns i .settings)) (at ns i .settings)
   pub addressed : (i : ℕ) → i < length ns → at ms i .addressed ≡ cond (did i) (addressedAfter (roleOf c) (at ns i .addressed)) (at ns i .addressed)

@@ -7,6 +7,7 @@ pub mod Returning
 pub mod Exactly
 mod Sound
 mod Invariant
+mod Getting
 mod Peace
 mod Delivery
 mod Step

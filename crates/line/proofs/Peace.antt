@@ -13,11 +13,12 @@ use Rattle.wire.proofs.Choice.{both}
 use Rattle.node.specs.declared.state.Node.{Node}
 use Rattle.message.specs.declared.Message.{Message}
 use Rattle.survey.specs.One.{isAnswering}
-use Rattle.survey.specs.Chain.{collided, said, hearsAt, repliesAt}
-use Rattle.survey.proofs.Collisions.{collision-two}
+use Rattle.survey.specs.Chain.{collided, hearsAt, repliesAt}
 use Rattle.session.specs.declared.Session.{Session}
+use Rattle.line.specs.Line.{saidAmong}
 use Rattle.line.proofs.Closing.{entryAt}
 use Rattle.line.proofs.Invariant.{at, UnplacedAt, EdgeAt, Invariant, deaf}
+use Rattle.line.proofs.Getting.{among-two}
 
 -- a node of its own address, or one at 0x00 that the walk has not come to
 abbrev Own : Session → List Node → ℕ → Type 0
@@ -61,7 +62,7 @@ module _ (h : Session) (ns : List Node) (inv : Invariant h ns) where
   only-address a i j l m (inr p) (inr q) e f x y false false g k = omega (arith, ltb-false i j g, ltb-false j i k)
 
   -- at most one node replies to an address
-  one-replies : (to : Address) (i j : ℕ) → i < h .n → j < h .n → repliesAt to ns i ≡ true → repliesAt to ns j ≡ true → i ≡ j
+  pub one-replies : (to : Address) (i j : ℕ) → i < h .n → j < h .n → repliesAt to ns i ≡ true → repliesAt to ns j ≡ true → i ≡ j
   one-replies (address.Individual a) i j l m p q =
       let x = both (hearsAt ns i) (isAnswering (address.Individual a) (at ns i .settings .place)) p in
       let y = both (hearsAt ns j) (isAnswering (address.Individual a) (at ns j .settings .place)) q in
@@ -72,9 +73,9 @@ module _ (h : Session) (ns : List Node) (inv : Invariant h ns) where
       let y = both (hearsAt ns j) (isAnswering (address.Group g) (at ns j .settings .place)) q in
       inv .alone (g .0) i j l m (x .1) (y .1)
 
-  pub none-collided : (to : Address) (message : Message) → said to message ns ≡ collided → ⊥
-  none-collided to message e =
-      let t = collision-two to message ns e in
+  pub none-collided : (gets : ℕ → Bool) (to : Address) (message : Message) → saidAmong gets to message ns ≡ collided → ⊥
+  none-collided gets to message e =
+      let t = among-two gets to message ns e in
       let n = inv .long in
-      let s = one-replies to (t .first) (t .second) (omega (arith, t .inside, t .apart)) (omega (arith, t .inside)) (t .one) (t .two) in
+      let s = one-replies to (t .first) (t .second) (omega (arith, t .one .0 .0)) (omega (arith, t .two .0 .0)) (t .one .0 .1) (t .two .0 .1) in
       omega (arith, t .apart)

@@ -24,15 +24,16 @@ use Rattle.node.specs.Effect.{effect, writes, settingsAfter}
 use Rattle.node.specs.Node.{addressedAfter}
 use Rattle.node.proofs.Laws.{addressed-stays, unwritten-stays}
 use Rattle.survey.specs.One.{isMeant}
-use Rattle.survey.specs.Chain.{hearsAt}
+use Rattle.survey.specs.Chain.{hearsAt, repliesAt}
 use Rattle.entry.specs.declared.Reach.the-variants.{Misses, Hits, May}
 use Rattle.entry.specs.Entry.{knows, shows}
 use Rattle.ledger.specs.Ledger.{blankEntry, reachOf, isLed}
 use Rattle.ledger.proofs.Ledgers.{free-says}
 use Rattle.session.specs.declared.Session.{Session}
 use Rattle.line.proofs.Closing.{entryAt, Concluded}
-use Rattle.line.proofs.Sound.{Fits, fits-test, hits-test}
+use Rattle.line.proofs.Sound.{Fits, fits-test, fits-member, hits-test}
 use Rattle.line.proofs.Invariant.{at, Placed, PlacedAt, leads, Alone, Invariant, acts, Answered, Exchanged}
+use Rattle.line.proofs.Peace.{one-replies}
 use Rattle.line.proofs.Step.{held-step, shrinks, stepped}
 
 -- a node that is addressed hears
@@ -54,8 +55,10 @@ module _ (h : Session) (ns : List Node) (inv : Invariant h ns) (ended : h .walk 
   acts-group g i e = sym (eqb-true (g .0) _ (both (hearsAt ns i) (isMeant (address.Group g) (at ns i .settings .place)) e .1))
 
   fits-group : (g : Group) (i : ℕ) → i < h .n → (b : Bool) → (b ≡ true → acts (address.Group g) ns i ≡ true) → (k : Bool) → knows (entryAt h i) place ≡ k
-      → Fits (cond k (cond (eqb (shows (entryAt h i) place .group .0) (g .0)) Hits Misses) May) b
-  fits-group g i l b f true k = rw (inv .held i l place k) (fits-test _ b (λ e. eq-eqb _ (g .0) (acts-group g i (f e))))
+      → Fits (cond k (cond (eqb (shows (entryAt h i) place .group .0) (g .0)) (cond (shows (entryAt h i) place .leader) Hits May) Misses) May) b
+  fits-group g i l b f true k =
+      let p : Place = at ns i .settings .place in
+      rw (inv .held i l place k) (fits-member (eqb (p .group .0) (g .0)) (p .leader) b (λ e. eq-eqb (p .group .0) (g .0) (acts-group g i (f e))))
   fits-group g i l b f false k = tt
 
   -- b: any fact that makes the node one that acts
@@ -63,21 +66,25 @@ module _ (h : Session) (ns : List Node) (inv : Invariant h ns) (ended : h .walk 
   fits-ready (address.Individual j) i l b f = fits-test (eqb (j .0) (suc i)) b (λ e. eq-eqb (j .0) (suc i) (acts-node j i l (f e)))
   fits-ready (address.Group g) i l b f = fits-group g i l b f (knows (entryAt h i) place) refl
 
-  -- a node known to be in a group acts on a command to it
-  member-acts : (g : Group) (i : ℕ) → i < h .n → reachOf (address.Group g) (suc i) (entryAt h i) ≡ Hits → acts (address.Group g) ns i ≡ true
-  member-acts g i l r =
+  -- whose the host takes a reply to be replies: a node by its number, of a group its known leader
+  hits-replies : (to : Address) (i : ℕ) → i < h .n → reachOf to (suc i) (entryAt h i) ≡ Hits → repliesAt to ns i ≡ true
+  hits-replies (address.Individual j) i l r =
+      rw (hears-addressed ns i (inv .front i (omega arith) .0), eq-eqb (j .0) _ (eqb-true (j .0) (suc i) (hits-test (eqb (j .0) (suc i)) r) ∙ sym (numbered i l))) refl
+  hits-replies (address.Group g) i l r =
       let k = chose-first (knows (entryAt h i) place) r (λ e. true≢false (cc e)) in
-      let m = eqb-true _ (g .0) (hits-test _ (k .1)) in
-      rw (hears-addressed ns i (inv .front i (omega arith) .0), eq-eqb (g .0) _ (sym m ∙ ap (λ (p : Place). p .group .0) (inv .held i l place (k .0)))) refl
+      let m = chose-first (eqb (shows (entryAt h i) place .group .0) (g .0)) (k .1) (λ e. true≢false (cc e)) in
+      let o = chose-first (shows (entryAt h i) place .leader) (m .1) (λ e. true≢false (cc e)) in
+      let p = inv .held i l place (k .0) in
+      let v : at ns i .settings .place .leader ≡ true = ap (λ (q : Place). q .leader) (sym p) ∙ o .0 in
+      let w : g .0 ≡ at ns i .settings .place .group .0 = sym (eqb-true _ (g .0) (m .0)) ∙ ap (λ (q : Place). q .group .0) p in
+      rw (hears-addressed ns i (inv .front i (omega arith) .0), v, eq-eqb (g .0) _ w) refl
 
-  -- a clear answer: whom the host counts as reached has acted. By its number it is the node that answered; in a group, all nodes are alike
+  -- a clear answer: whom the host counts as reached is the node that answered, since no two reply; so it acted
   reached : {c : Command} {ms : List Node} {a : Answer} (to : Address) (x : Exchanged to c ns ms a) → Answered to ns (x .did)
       → (i : ℕ) → i < h .n → reachOf to (suc i) (entryAt h i) ≡ Hits → x .did i ≡ true
-  reached (address.Individual j) x o i l r =
-      let m = acts-node j (o .index) (omega (arith, o .inside, inv .long)) (x .acting (o .index) (o .acted)) in
-      let e : i ≡ o .index = omega (arith, eqb-true (j .0) (suc i) (hits-test (eqb (j .0) (suc i)) r)) in
+  reached to x o i l r =
+      let e = one-replies h ns inv to i (o .index) l (omega (arith, o .inside, inv .long)) (hits-replies to i l r) (o .replies) in
       ap (x .did) e ∙ o .acted
-  reached (address.Group g) x o i l r = x .alike (o .index) i (o .acted) (member-acts g i l r)
 
   module _ (ms : List Node) (t : Session) (to : Address) (c : Command) (a : Answer) (x : Exchanged to c ns ms a) (k : Concluded h a to c (h .walk) t) where
     placed-if : (i : ℕ) (b : Bool) → PlacedAt ns i

@@ -45,6 +45,13 @@ fits-test true did f = tt
 fits-test false true f = sym (f refl)
 fits-test false false f = refl
 
+-- the same of a group's members, of whom the leader alone is sure to have what was answered
+pub fits-member : (b leads did : Bool) → (did ≡ true → b ≡ true) → Fits (cond b (cond leads Hits May) Misses) did
+fits-member true true did f = tt
+fits-member true false did f = tt
+fits-member false leads true f = sym (f refl)
+fits-member false leads false f = refl
+
 pub hits-test : (b : Bool) → cond b Hits Misses ≡ Hits → b ≡ true
 hits-test true e = refl
 hits-test false e = absurd (true≢false (cc e))

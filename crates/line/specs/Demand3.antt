@@ -19,7 +19,7 @@ use Rattle.entry.specs.Entry.{knows, shows}
 use Rattle.session.specs.declared.Exchange.the-variants.{Idle}
 use Rattle.session.specs.Session.{entryOf}
 use Rattle.line.specs.History.{counted, Doubtful}
-use Rattle.line.specs.Line.{OnItsWay, Arrival, came, Arrives, nodesAfter, saidAfter}
+use Rattle.line.specs.Line.{OnItsWay, Arrival, toAll, Arrives, nodesAfter, saidAfter}
 use Rattle.line.specs.World.{World, Comes}
 
 -- node k of the chain
@@ -46,7 +46,7 @@ abbrev pub OneLeader : Type 0
 OneLeader = (w : World) → Comes w → w .up ≡ true → (g : Group) (j k : ℕ) → 1 ≤ j → j ≤ w .host .n → 1 ≤ k → k ≤ w .host .n
     → isAnswering (address.Group g) (nodeOf (w .nodes) j .settings .place) ≡ true → isAnswering (address.Group g) (nodeOf (w .nodes) k .settings .place) ≡ true → j ≡ k
 
--- so no two nodes reply at once to a packet sent in that time, whatever becomes of it on its way
+-- so no two nodes reply at once to a packet sent in that time, whatever becomes of it on its way and whichever nodes get it
 abbrev pub NoCollision : Type 0
 NoCollision = (w : World) → Comes w → w .up ≡ true → (p : List ℕ) → OnItsWay p (w .line) → (q : Arrival) → Arrives p q → saidAfter q (w .nodes) ≡ collided → ⊥
 
@@ -57,11 +57,11 @@ saidIn (Replied n) left = reply (take n left)
 saidIn Collision left = collided
 saidIn (Refused why) left = silence
 
--- the chain's call over these nodes, with room for a reply, isn't refused for the table, and does to nodes and line what is said of the list
+-- the chain's call over these nodes, with room for a reply, isn't refused for the table, and does to nodes and line what is said of the list where all nodes get the packet
 pub record Delivers (ns : List Node) (q out : List ℕ) : Type 0 where
   pub taken : valid ns ≡ true
-  pub nodes : deliverOf ns q out .left .nodes ≡ nodesAfter (came q) ns
-  pub says : saidIn (deliverOf ns q out .answer) (deliverOf ns q out .left .reply) ≡ saidAfter (came q) ns
+  pub nodes : deliverOf ns q out .left .nodes ≡ nodesAfter (toAll q) ns
+  pub says : saidIn (deliverOf ns q out .answer) (deliverOf ns q out .left .reply) ≡ saidAfter (toAll q) ns
 
 abbrev pub ByCall : Type 0
 ByCall = (w : World) → Comes w → w .up ≡ true → (q out : List ℕ) → T + 2 ≤ length out → Delivers (w .nodes) q out

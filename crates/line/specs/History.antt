@@ -1,4 +1,4 @@
--- Demand 3: when a setting is in doubt, said over what was sent and answered since power-up. The host's record is not looked at.
+-- Demand 3, with document 02, request 4: when a setting is in doubt, said over what was sent and answered since power-up. The host's record is not looked at.
 use Prim.Native.Nat.{ℕ}
 use mathlib.Core.Bool.{Bool, true, false, cond, not, _&&_, _||_}
 use mathlib.Core.List.{List, [], _∷_}
@@ -27,7 +27,7 @@ pub record Sent : Type 0 where
   pub what : Sending
   pub answer : Answer
 
--- a command that counts, and whether it was confirmed
+-- a command that counts, and whether a good clear reply came to it
 pub record Counted : Type 0 where
   pub to : Address
   pub command : Command
@@ -82,6 +82,15 @@ abbrev pub goes : Address → ℕ → Bool → Place → Bool
 goes (address.Individual i) k lost p = eqb (i .0) k
 goes (address.Group g) k lost p = lost || eqb (p .group .0) (g .0)
 
+-- "A good clear reply to a group command confirms only the leader, if known": the reply to a command that goes to node k is known to be its own
+abbrev pub answers : Address → Bool → Place → Bool
+answers (address.Individual i) lost p = true
+answers (address.Group g) lost p = not lost && p .leader && eqb (p .group .0) (g .0)
+
+-- so of command x node k was confirmed to have it
+abbrev pub confirmedAt : Counted → Bool → Place → Bool
+confirmedAt x lost p = x .confirmed && answers (x .to) lost p
+
 -- "went to a group while the node's group was in doubt"
 abbrev pub groupLost : Address → Bool → Bool
 groupLost (address.Individual i) lost = false
@@ -92,7 +101,7 @@ abbrev pub inDoubt : List Counted → ℕ → Setting → Bool
 inDoubt [] k s = false
 inDoubt (x ∷ past) k s =
     cond (goes (x .to) k (inDoubt past k place) (lastPlace past k) && writes (effect (x .command) s))
-    (not (x .confirmed) || groupLost (x .to) (inDoubt past k place) || copied (effect (x .command) s) (inDoubt past k))
+    (not (confirmedAt x (inDoubt past k place) (lastPlace past k)) || copied (effect (x .command) s) (inDoubt past k))
     (inDoubt past k s)
 
 -- The same in the demand's words. Command x, after what went before it, could have written setting s of node k
@@ -104,10 +113,10 @@ pub data Last (k : ℕ) (s : Setting) : List Counted → Counted → List Counte
   this : {x : Counted} {before : List Counted} → could x before k s ≡ true → Last k s (x ∷ before) x before
   older : {x y : Counted} {past before : List Counted} → could y past k s ≡ false → Last k s past x before → Last k s (y ∷ past) x before
 
--- it "was unconfirmed, went to a group while the node's group was in doubt, or copied a setting in doubt"
+-- it "was unconfirmed, went to a group while the node's group was in doubt, or copied a setting in doubt"; the second is never the only one, since then the node isn't known to lead
 abbrev pub Unsure : Counted → List Counted → ℕ → Setting → Type 0
 Unsure x before k s =
-    (x .confirmed ≡ false)
+    (confirmedAt x (inDoubt before k place) (lastPlace before k) ≡ false)
     ⊎ (groupLost (x .to) (inDoubt before k place) ≡ true)
     ⊎ (copied (effect (x .command) s) (inDoubt before k) ≡ true)
 

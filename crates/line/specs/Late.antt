@@ -12,7 +12,7 @@ use Rattle.session.specs.declared.End.the-variants.{Done}
 use Rattle.session.specs.Session.{entryOf}
 use Rattle.start.specs.Start.{startPowerUp}
 use Rattle.line.specs.History.{gives}
-use Rattle.line.specs.Line.{going, came, nodesAfter}
+use Rattle.line.specs.Line.{going, toAll, nodesAfter}
 use Rattle.line.specs.World.{World, Comes}
 use Rattle.line.specs.Demand3.{nodeOf}
 
@@ -27,4 +27,4 @@ pub record Late : Type 0 where
   -- the place of node 1 is known; were the packet to arrive now, the node would hold another
   pub known : knows (entryOf (startPowerUp (world .host) (length bench) .session) 1) place ≡ true
   pub differs : shows (entryOf (startPowerUp (world .host) (length bench) .session) 1) place
-      ≡ get (nodeOf (nodesAfter (came packet) (map powerUp bench)) 1 .settings) place → ⊥
+      ≡ get (nodeOf (nodesAfter (toAll packet) (map powerUp bench)) 1 .settings) place → ⊥

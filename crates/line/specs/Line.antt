@@ -1,7 +1,9 @@
--- Demand 3's line: what comes to the nodes, what they make of it, what comes back. Nobody else sends on it.
-use Prim.Native.Nat.{ℕ}
-use mathlib.Core.List.{List, []}
+-- Demand 3's line, with document 02, request 4: what comes to the nodes, what they make of it, what comes back. Nobody else sends on it.
+use Prim.Native.Nat.{ℕ, zero, suc}
+use mathlib.Core.Bool.{Bool, true, false, cond}
+use mathlib.Core.List.{List, [], _∷_}
 use mathlib.Core.Option.{Option, none, some}
+use Rattle.wire.specs.declared.address.Address.{Address}
 use Rattle.buffer.specs.Change.{Altered, Damaged}
 use Rattle.packet.specs.declared.Framed.{Framed}
 use Rattle.packet.specs.declared.Framed.the-variants as framed
@@ -9,8 +11,10 @@ use Rattle.status.specs.Status.{judgeOf}
 use Rattle.status.specs.declared.Answer.{Answer}
 use Rattle.status.specs.declared.Answer.the-variants.{Silent}
 use Rattle.node.specs.declared.state.Node.{Node}
+use Rattle.message.specs.declared.Message.{Message}
+use Rattle.message.specs.Message.{isAnswered}
 use Rattle.survey.specs.One.{messageAs}
-use Rattle.survey.specs.Chain.{after, Said, silence, reply, collided, said}
+use Rattle.survey.specs.Chain.{after, repliersFrom, searchOf, Said, silence, reply, collided, saidBy}
 use Rattle.survey.specs.Delivery.{frameAlone}
 use Rattle.session.specs.declared.Session.{Session}
 use Rattle.session.specs.declared.Step.{Step}
@@ -29,34 +33,52 @@ pub data OnItsWay (p : List ℕ) : Line → Type 0 where
   awaited : {what : Sending} → OnItsWay p (going what p)
   overdue : OnItsWay p (lingering p)
 
--- what comes to the nodes of a packet: some bytes, or nothing
-pub data Arrival : Type 0 where
-  came : List ℕ → Arrival
-  nowhere : Arrival
+-- what comes to the nodes of a packet: bytes, and the nodes, by index, that get them
+pub record Arrival : Type 0 where
+  pub bytes : List ℕ
+  pub gets : ℕ → Bool
 
--- "A command reaches all nodes alike: whole, with one byte other than header and command byte changed, or not at all"
+-- they come to all nodes, as on the bench; they come to none
+abbrev pub toAll : List ℕ → Arrival
+toAll q = record { bytes = q; gets = λ i. true }
+
+abbrev pub toNone : List ℕ → Arrival
+toNone q = record { bytes = q; gets = λ i. false }
+
+-- "each separately hears a whole command or misses it; a changed command is still changed alike for those that hear it":
+-- one byte other than header and command byte is changed; "not at all": to none
 pub data Arrives (p : List ℕ) : Arrival → Type 0 where
-  whole : Arrives p (came p)
-  damaged : {q : List ℕ} → Damaged p q → Arrives p (came q)
-  lost : Arrives p nowhere
+  whole : {gets : ℕ → Bool} → Arrives p (record { bytes = p; gets = gets })
+  damaged : {q : List ℕ} {gets : ℕ → Bool} → Damaged p q → Arrives p (record { bytes = q; gets = gets })
 
 -- the nodes after the bytes q, as the chain delivers them
 abbrev pub takenBy : Framed → List ℕ → List Node → List Node
 takenBy (framed.Whole to k n) q ns = after to (messageAs k q) ns
 takenBy (framed.Refused why) q ns = ns
 
-abbrev pub nodesAfter : Arrival → List Node → List Node
-nodesAfter nowhere ns = ns
-nodesAfter (came q) ns = takenBy (frameAlone q) q ns
+-- a node that gets them is as in the second list, one that misses them as in the first
+abbrev pub parted : (ℕ → Bool) → List Node → List Node → List Node
+parted gets [] ms = []
+parted gets (n ∷ ns) [] = n ∷ ns
+parted gets (n ∷ ns) (m ∷ ms) = cond (gets zero) m n ∷ parted (λ i. gets (suc i)) ns ms
 
--- and what they say
-abbrev pub spokenBy : Framed → List ℕ → List Node → Said
-spokenBy (framed.Whole to k n) q ns = said to (messageAs k q) ns
-spokenBy (framed.Refused why) q ns = silence
+abbrev pub nodesAfter : Arrival → List Node → List Node
+nodesAfter q ns = parted (q .gets) ns (takenBy (frameAlone (q .bytes)) (q .bytes) ns)
+
+-- and what they say: of those that would reply, only who gets the packet does
+abbrev pub getting : (ℕ → Bool) → List ℕ → List ℕ
+getting gets [] = []
+getting gets (i ∷ is) = cond (gets i) (i ∷ getting gets is) (getting gets is)
+
+abbrev pub saidAmong : (ℕ → Bool) → Address → Message → List Node → Said
+saidAmong gets to m ns = cond (isAnswered m) (saidBy m ns (searchOf (getting gets (repliersFrom to 0 true ns)))) silence
+
+abbrev pub spokenBy : (ℕ → Bool) → Framed → List ℕ → List Node → Said
+spokenBy gets (framed.Whole to k n) q ns = saidAmong gets to (messageAs k q) ns
+spokenBy gets (framed.Refused why) q ns = silence
 
 abbrev pub saidAfter : Arrival → List Node → Said
-saidAfter nowhere ns = silence
-saidAfter (came q) ns = spokenBy (frameAlone q) q ns
+saidAfter q ns = spokenBy (q .gets) (frameAlone (q .bytes)) (q .bytes) ns
 
 -- nothing came: silence is reported, or no bytes
 pub data Nothing : Option (List ℕ) → Type 0 where

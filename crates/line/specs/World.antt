@@ -1,4 +1,4 @@
--- Demand 3's course of events: whatever can come about under its premises.
+-- Demand 3's course of events, with document 02, request 4: whatever can come about under its premises.
 use Prim.Native.Nat.{ℕ}
 use mathlib.Core.Bool.{Bool, true, false, cond}
 use mathlib.Core.List.{List, [], _∷_, map}
@@ -93,7 +93,7 @@ pub data Comes : World → Type 0 where
   unpowered : {w : World} → Comes w → (n : ℕ) (why : Refusal) → startPowerUp (w .host) n .end ≡ Refused why → Comes (hosting (startPowerUp (w .host) n .session) w)
   -- a call, accepted or refused, with any buffer, at any time
   call : {w : World} → Comes w → (c : Call) → TypedCall c → (out : List ℕ) → Comes (callMade c out w)
-  -- its packet comes to all nodes alike, and what they say comes back
+  -- its packet comes to each node that gets it, and what they say comes back
   deliver : {w : World} → Comes w → (what : Sending) (p : List ℕ) → w .line ≡ going what p
       → (q : Arrival) (r : Option (List ℕ)) → Arrives p q → Returns (saidAfter q (w .nodes)) r → Comes (delivered q what r w)
   -- what came is reported as it came

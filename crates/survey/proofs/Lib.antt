@@ -3,6 +3,7 @@ pub mod Members
 mod Searching
 pub mod Visiting
 mod Deciding
+pub mod Repliers
 pub mod Meaning
 pub mod Collisions
 pub mod Flags

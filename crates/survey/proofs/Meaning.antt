@@ -19,6 +19,7 @@ use Rattle.survey.specs.declared.sets.Replier.{Replier}
 use Rattle.survey.specs.declared.sets.Replier.the-variants.{None, One, Several}
 use Rattle.survey.specs.One.{doesHear, isMeant, doesAct, doesReply, turned}
 use Rattle.survey.specs.Chain.{turnedFrom, after, repliersFrom, searchOf, replierIn, Said, silence, reply, said, saidBy, blankNode, nearAt, hearsAt, repliesAt}
+use Rattle.survey.proofs.Repliers.{behind, Replies, repliers-rise, found-is, one-speaks}
 
 -- ---- the nodes afterwards
 
@@ -58,13 +59,6 @@ unfolding after
 other-stays to l = unmoved to Other (λ n. refl) true l
 
 -- ---- what is said on the line
-
--- what holds of each node and its `near`, behind the first node
-behind : (P : ℕ → Bool → Node → Type 0) (near : Bool) (n : Node) (ns : List Node)
-    → ((j : ℕ) → j < suc (length ns) → P j (nearAt near (n ∷ ns) j) (getD (n ∷ ns) j blankNode))
-    → (j : ℕ) → j < length ns → P (suc j) (nearAt (n .addressed) ns j) (getD ns j blankNode)
-behind P near n ns f zero b = f (suc zero) (omega arith)
-behind P near n ns f (suc j) b = f (suc (suc j)) (omega arith)
 
 -- nobody replies
 quiet-from : (to : Address) (i : ℕ) (near : Bool) (l : List Node)
@@ -108,45 +102,13 @@ pub said-one : (to : Address) (h : Message) (l : List Node) (j : ℕ) → isAnsw
 unfolding said replierIn doesReply
 said-one to h l j a b y f = rw (a, one-from to 0 true l j b y f, zero-add j)
 
--- who was found
-pub record Found (to : Address) (near : Bool) (l : List Node) (i m : ℕ) : Type 0 where
-  pub at : ℕ
-  pub index : m ≡ i + at
-  pub inside : at < length l
-  pub answering : doesReply to (nearAt near l at) (getD l at blankNode) ≡ true
-
-shift : (to : Address) (near : Bool) (n : Node) (ns : List Node) (i m : ℕ) → Found to (n .addressed) ns (suc i) m → Found to near (n ∷ ns) i m
-shift to near n ns i m f = record {
-  at = suc (f .at);
-  index = omega (arith, f .index);
-  inside = omega (arith, f .inside);
-  answering = back (f .at) (f .answering);
-} where
-  back : (j : ℕ) → doesReply to (nearAt (n .addressed) ns j) (getD ns j blankNode) ≡ true → doesReply to (nearAt near (n ∷ ns) (suc j)) (getD (n ∷ ns) (suc j) blankNode) ≡ true
-  back zero y = y
-  back (suc j) y = y
-
+-- who is found is a node of the chain
 pub none-one : (m : ℕ) → None ≡ One m → ⊥
 none-one m e = impossible cc
 
-alone : (i m : ℕ) (rest : List ℕ) → searchOf (i ∷ rest) ≡ One m → m ≡ i
-alone i m [] e = cc
-alone i m (x ∷ rest) e = impossible cc
-
-found-step : (to : Address) (near : Bool) (n : Node) (ns : List Node) (i m : ℕ) (t : Bool) → doesReply to near n ≡ t
-    → (searchOf (repliersFrom to (suc i) (n .addressed) ns) ≡ One m → Found to (n .addressed) ns (suc i) m)
-    → searchOf (cond t (i ∷ repliersFrom to (suc i) (n .addressed) ns) (repliersFrom to (suc i) (n .addressed) ns)) ≡ One m → Found to near (n ∷ ns) i m
-found-step to near n ns i m true y f e =
-    record { at = 0; index = alone i m (repliersFrom to (suc i) (n .addressed) ns) e ∙ sym (add-zero i); inside = omega arith; answering = y }
-found-step to near n ns i m false y f e = shift to near n ns i m (f e)
-
-found-from : (to : Address) (i : ℕ) (near : Bool) (l : List Node) (m : ℕ) → searchOf (repliersFrom to i near l) ≡ One m → Found to near l i m
-found-from to i near [] m e = absurd (none-one m e)
-found-from to i near (n ∷ ns) m e = found-step to near n ns i m (doesReply to near n) refl (found-from to (suc i) (n .addressed) ns m) e
-
 pub replier-below : (to : Address) (l : List Node) (i : ℕ) → replierIn to l ≡ One i → i < length l
 unfolding replierIn
-replier-below to l i e = let f = found-from to 0 true l i e in omega (arith, f .index, f .inside)
+replier-below to l i e = found-is (Replies to l) (repliersFrom to 0 true l) i (repliers-rise to l) e .0
 
 -- the one reply is that of a node of the chain that hears and answers
 pub record Replying (to : Address) (h : Message) (l : List Node) (r : List ℕ) : Type 0 where
@@ -156,21 +118,13 @@ pub record Replying (to : Address) (h : Message) (l : List Node) (r : List ℕ) 
   pub answered : isAnswered h ≡ true
   pub bytes : r ≡ replyOf h (getD l at blankNode)
 
-replying : (to : Address) (h : Message) (l : List Node) (r : List ℕ) (w : Replier) → replierIn to l ≡ w → isAnswered h ≡ true → saidBy h l w ≡ reply r → Replying to h l r
-unfolding replierIn doesReply
-replying to h l r None q a e = impossible cc
-replying to h l r (One m) q a e =
-    let f = found-from to 0 true l m q in
-    let k : m ≡ f .at = f .index ∙ zero-add (f .at) in
-    record { at = f .at; inside = f .inside; calling = f .answering; answered = a; bytes = rw (← k) (cc e) }
-replying to h l r Several q a e = impossible cc
-
-answered-by : (t : Bool) (s : Said) (r : List ℕ) → cond t s silence ≡ reply r → (t ≡ true) × (s ≡ reply r)
+pub answered-by : (t : Bool) (s : Said) (r : List ℕ) → cond t s silence ≡ reply r → (t ≡ true) × (s ≡ reply r)
 answered-by true s r e = (refl, e)
 answered-by false s r e = impossible cc
 
 pub said-says : (to : Address) (h : Message) (l : List Node) (r : List ℕ) → said to h l ≡ reply r → Replying to h l r
-unfolding said
+unfolding said replierIn
 said-says to h l r e =
     let p = answered-by (isAnswered h) (saidBy h l (replierIn to l)) r e in
-    replying to h l r (replierIn to l) refl (p .0) (p .1)
+    let s = one-speaks (Replies to l) h l (repliersFrom to 0 true l) r (repliers-rise to l) (p .1) in
+    record { at = s .at; inside = s .is .0; calling = s .is .1; answered = p .0; bytes = s .bytes }

@@ -1,6 +1,6 @@
 -- One law for each exit.
 use borrow.Author.Needs.{needs}
-use Rattle.ledger.proofs.Nodes.{its-node, other-node, its-group, other-group, some-group}
+use Rattle.ledger.proofs.Nodes.{its-node, other-node, its-leader, its-member, other-group, some-group}
 use Rattle.ledger.proofs.reach_by.Statement.{statement}
 use Rattle.ledger.proofs.reach_by.Tie as tie
 
@@ -12,6 +12,7 @@ reach-by-spec =
     (λ c. search needs)
     (λ c. search its-node)
     (λ c. search other-node)
-    (λ c. search its-group)
+    (λ c. search its-leader)
+    (λ c. search its-member)
     (λ c. search other-group)
     (λ c. search some-group))

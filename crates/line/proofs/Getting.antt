@@ -1,0 +1,82 @@
+-- Some nodes get a packet, the others miss it and stay as they are: what each node is afterwards, and whose the reply is.
+use Prim.Native.Nat.{ℕ, zero, suc, _<_}
+use mathlib.Core.Bool.{Bool, true, false, cond}
+use mathlib.Core.List.{List, [], _∷_}
+use mathlib.Core.Path.{_≡_, refl, ap}
+use native.Mathlib.Omega.{arith}
+use lib.ListN.{length}
+use Rattle.wire.specs.declared.address.Address.{Address}
+use Rattle.wire.proofs.Choice.{same}
+use Rattle.node.specs.declared.state.Node.{Node}
+use Rattle.message.specs.declared.Message.{Message}
+use Rattle.message.specs.Message.{isAnswered}
+use Rattle.survey.specs.Chain.{repliersFrom, replierIn, searchOf, reply, collided, said, saidBy, repliesAt}
+use Rattle.survey.proofs.Repliers.{Rising, lower, Replies, repliers-rise, Speaks, one-speaks, Two, two-speak}
+use Rattle.survey.proofs.Meaning.{answered-by}
+use Rattle.survey.proofs.Collisions.{collided-by}
+use Rattle.line.specs.Line.{parted, getting, saidAmong}
+use Rattle.line.proofs.Invariant.{at}
+
+-- ---- the nodes
+
+pub length-parted : (gets : ℕ → Bool) (ns ms : List Node) → length (parted gets ns ms) ≡ length ns
+length-parted gets [] ms = refl
+length-parted gets (n ∷ ns) [] = refl
+length-parted gets (n ∷ ns) (m ∷ ms) = ap suc (length-parted (λ i. gets (suc i)) ns ms)
+
+pub parted-at : (gets : ℕ → Bool) (ns ms : List Node) (i : ℕ) → length ms ≡ length ns → i < length ns → at (parted gets ns ms) i ≡ cond (gets i) (at ms i) (at ns i)
+parted-at gets [] ms i e l = absurd (omega arith)
+parted-at gets (n ∷ ns) [] i e l = absurd (omega arith)
+parted-at gets (n ∷ ns) (m ∷ ms) zero e l = refl
+parted-at gets (n ∷ ns) (m ∷ ms) (suc i) e l = parted-at (λ j. gets (suc j)) ns ms i (omega arith) (omega arith)
+
+-- where nothing changes it is all the same who gets it
+pub parted-same : (gets : ℕ → Bool) (ns : List Node) → parted gets ns ns ≡ ns
+parted-same gets [] = refl
+parted-same gets (n ∷ ns) = rw (same (gets zero) n, parted-same (λ i. gets (suc i)) ns) refl
+
+pub parted-none : (ns ms : List Node) → parted (λ i. false) ns ms ≡ ns
+parted-none [] ms = refl
+parted-none (n ∷ ns) [] = refl
+parted-none (n ∷ ns) (m ∷ ms) = ap (λ (l : List Node). n ∷ l) (parted-none ns ms)
+
+pub parted-all : (ns ms : List Node) → length ms ≡ length ns → parted (λ i. true) ns ms ≡ ms
+parted-all [] [] e = refl
+parted-all [] (m ∷ ms) e = absurd (omega arith)
+parted-all (n ∷ ns) [] e = absurd (omega arith)
+parted-all (n ∷ ns) (m ∷ ms) e = ap (λ (l : List Node). m ∷ l) (parted-all ns ms (omega arith))
+
+-- ---- what is said
+
+getting-all : (is : List ℕ) → getting (λ i. true) is ≡ is
+getting-all [] = refl
+getting-all (i ∷ is) = ap (λ (js : List ℕ). i ∷ js) (getting-all is)
+
+pub among-all : (to : Address) (m : Message) (ns : List Node) → saidAmong (λ i. true) to m ns ≡ said to m ns
+unfolding said replierIn
+among-all to m ns = rw (getting-all (repliersFrom to 0 true ns)) refl
+
+-- a node that replies, and gets the packet
+abbrev pub Calling : (ℕ → Bool) → Address → List Node → ℕ → Type 0
+Calling gets to ns i = Replies to ns i × (gets i ≡ true)
+
+getting-rises : (gets : ℕ → Bool) (P : ℕ → Type 0) (low : ℕ) (is : List ℕ) → Rising P low is → Rising (λ i. P i × (gets i ≡ true)) low (getting gets is)
+getting-rises gets P low [] u = tt
+getting-rises gets P low (i ∷ is) u = go (gets i) refl (getting-rises gets P (suc i) is (u .2))
+  where
+    go : (t : Bool) → gets i ≡ t → Rising (λ j. P j × (gets j ≡ true)) (suc i) (getting gets is)
+        → Rising (λ j. P j × (gets j ≡ true)) low (cond t (i ∷ getting gets is) (getting gets is))
+    go true e rest = (u .0, (u .1, e), rest)
+    go false e rest = lower (λ j. P j × (gets j ≡ true)) low (suc i) (getting gets is) (omega (arith, u .0)) rest
+
+module _ (gets : ℕ → Bool) (to : Address) (m : Message) (ns : List Node) where
+  rises : Rising (Calling gets to ns) 0 (getting gets (repliersFrom to 0 true ns))
+  rises = getting-rises gets (Replies to ns) 0 (repliersFrom to 0 true ns) (repliers-rise to ns)
+
+  -- the one reply is that of a node that gets the packet, hears and answers
+  pub among-says : (r : List ℕ) → saidAmong gets to m ns ≡ reply r → Speaks (Calling gets to ns) m ns r
+  among-says r e = one-speaks (Calling gets to ns) m ns (getting gets (repliersFrom to 0 true ns)) r rises (answered-by (isAnswered m) _ r e .1)
+
+  -- several are those of two that would reply if all got it
+  pub among-two : saidAmong gets to m ns ≡ collided → Two (Calling gets to ns)
+  among-two e = two-speak (Calling gets to ns) m ns (getting gets (repliersFrom to 0 true ns)) rises (collided-by (isAnswered m) _ e)

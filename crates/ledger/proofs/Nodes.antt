@@ -10,8 +10,9 @@ use Rattle.wire.specs.declared.address.Address.{Address}
 use Rattle.wire.specs.declared.address.Address.the-variants as address
 use Rattle.command.specs.declared.Place.{Place}
 use Rattle.entry.specs.declared.Entry.{Entry}
+use Rattle.entry.specs.declared.Reach.{Reach}
 use Rattle.entry.specs.declared.Reach.the-variants.{Misses, Hits, May}
-use Rattle.ledger.specs.Ledger.{reachBy, isRival}
+use Rattle.ledger.specs.Ledger.{groupReach, reachBy, isRival}
 
 module _ (to : Address) (k : ℕ) (known : Bool) (p : Place) where
   pub its-node : (i : Individual) → to ≡ address.Individual i → i .0 ≡ k → Hits ≡ reachBy to k known p
@@ -20,17 +21,21 @@ module _ (to : Address) (k : ℕ) (known : Bool) (p : Place) where
   pub other-node : (i : Individual) → to ≡ address.Individual i → (i .0 ≡ k → ⊥) → Misses ≡ reachBy to k known p
   other-node i e q = rw (e, ne-eqb (i .0) k q)
 
-  pub its-leader : (g : Group) → to ≡ address.Group g → known ≡ true → p .group .0 ≡ g .0 → p .leader ≡ true → Hits ≡ reachBy to k known p
-  its-leader g e h q l = rw (e, h, eq-eqb (p .group .0) (g .0) q, l)
+  pub by-group : (g : Group) (r : Reach) → to ≡ address.Group g → r ≡ groupReach g known p → r ≡ reachBy to k known p
+  by-group g r e q = rw e q
 
-  pub its-member : (g : Group) → to ≡ address.Group g → known ≡ true → p .group .0 ≡ g .0 → p .leader ≡ false → May ≡ reachBy to k known p
-  its-member g e h q l = rw (e, h, eq-eqb (p .group .0) (g .0) q, l)
+module _ (g : Group) (known : Bool) (p : Place) where
+  pub placeless : known ≡ false → May ≡ groupReach g known p
+  placeless h = rw h
 
-  pub other-group : (g : Group) → to ≡ address.Group g → known ≡ true → (p .group .0 ≡ g .0 → ⊥) → Misses ≡ reachBy to k known p
-  other-group g e h q = rw (e, h, ne-eqb (p .group .0) (g .0) q)
+  pub elsewhere : known ≡ true → (p .group .0 ≡ g .0 → ⊥) → Misses ≡ groupReach g known p
+  elsewhere h q = rw (h, ne-eqb (p .group .0) (g .0) q)
 
-  pub some-group : (g : Group) → to ≡ address.Group g → known ≡ false → May ≡ reachBy to k known p
-  some-group g e h = rw (e, h)
+  pub leader : known ≡ true → p .group .0 ≡ g .0 → p .leader ≡ true → Hits ≡ groupReach g known p
+  leader h q l = rw (h, eq-eqb (p .group .0) (g .0) q, l)
+
+  pub member : known ≡ true → p .group .0 ≡ g .0 → p .leader ≡ false → May ≡ groupReach g known p
+  member h q l = rw (h, eq-eqb (p .group .0) (g .0) q, l)
 
 module _ (k : ℕ) (g : Group) (j : ℕ) (e : Entry) where
   pub itself : j ≡ k → false ≡ isRival k g j e

@@ -30,11 +30,15 @@ ledgerPowerUp = replicate mostNodes entryPowerUp
 unfoldable pub ledgerLeast : ℕ → ℕ
 ledgerLeast n = cond (ltb mostNodes n) mostNodes n
 
--- "Who may be written: node k for an individual command ..; for a group, nodes known to be in it and every node whose place is in doubt"
--- by the node's place, and whether it is known. Document 02, request 4: "A good clear reply to a group command confirms only the leader, if known"
+-- "Who may be written: .. for a group, nodes known to be in it and every node whose place is in doubt"; document 02, request 4:
+-- "A good clear reply to a group command confirms only the leader, if known; every other node that may be written goes into doubt"
+abbrev pub groupReach : Group → Bool → Place → Reach
+groupReach g known p = cond known (cond (eqb (p .group .0) (g .0)) (cond (p .leader) Hits May) Misses) May
+
+-- "node k for an individual command"; by the node's place, and whether it is known
 abbrev pub reachBy : Address → ℕ → Bool → Place → Reach
 reachBy (address.Individual i) k known p = cond (eqb (i .0) k) Hits Misses
-reachBy (address.Group g) k known p = cond known (cond (eqb (p .group .0) (g .0)) (cond (p .leader) Hits May) Misses) May
+reachBy (address.Group g) k known p = groupReach g known p
 
 -- by its entry, which is asked for no more than that
 abbrev pub reachOf : Address → ℕ → Entry → Reach

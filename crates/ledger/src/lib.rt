@@ -10,7 +10,7 @@ use wire::Address;
 use wire::Group;
 use wire::MOST_NODES;
 ghost use mathlib.Core.Path.{_≡_};
-ghost use Rattle.ledger.specs.Ledger.{ledgerPowerUp, ledgerLeast, reachBy, settleOf, forgetOf, isRival, isLed};
+ghost use Rattle.ledger.specs.Ledger.{ledgerPowerUp, ledgerLeast, groupReach, reachBy, settleOf, forgetOf, isRival, isLed};
 
 // At power-up.
 pub fn power_up() -> [Entry; MOST_NODES]
@@ -31,28 +31,30 @@ fn least(n: u8) -> u8
     n
 }
 
-// Whether a command to an address goes to node k, by its place, if that is known.
-// Of a group the known leader alone is sure to have it by a clear reply, which is its own: its members may have missed what it heard.
+// What a command to a group is to a node, by its place, if that is known.
+// A reply is the leader's: its members may have missed what it heard.
+fn group_reach(g: Group, known: bool, place: Place) -> Reach
+    ensures { λ r. ⌜ r ≡ groupReach g known place ⌝ }
+{
+    if !known {
+        return Reach::May;
+    }
+    if place.group.0 != g.0 {
+        return Reach::Misses;
+    }
+    if place.leader {
+        return Reach::Hits;
+    }
+    Reach::May
+}
+
+// What a command to an address is to node k, by its place, if that is known.
 fn reach_by(to: Address, k: u8, known: bool, place: Place) -> Reach
     ensures { λ r. ⌜ r ≡ reachBy to k known place ⌝ }
 {
     match to {
         Address::Individual(i) => { if i.0 == k { Reach::Hits } else { Reach::Misses } }
-        Address::Group(g) => {
-            if known {
-                if place.group.0 == g.0 {
-                    if place.leader {
-                        Reach::Hits
-                    } else {
-                        Reach::May
-                    }
-                } else {
-                    Reach::Misses
-                }
-            } else {
-                Reach::May
-            }
-        }
+        Address::Group(g) => group_reach(g, known, place),
     }
 }
 

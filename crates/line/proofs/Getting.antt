@@ -10,7 +10,7 @@ use Rattle.wire.proofs.Choice.{same}
 use Rattle.node.specs.declared.state.Node.{Node}
 use Rattle.message.specs.declared.Message.{Message}
 use Rattle.message.specs.Message.{isAnswered}
-use Rattle.survey.specs.Chain.{repliersFrom, replierIn, searchOf, reply, collided, said, saidBy, repliesAt}
+use Rattle.survey.specs.Chain.{repliersFrom, replierIn, reply, collided, said}
 use Rattle.survey.proofs.Repliers.{Rising, lower, Replies, repliers-rise, Speaks, one-speaks, Two, two-speak}
 use Rattle.survey.proofs.Meaning.{answered-by}
 use Rattle.survey.proofs.Collisions.{collided-by}

@@ -19,5 +19,7 @@ pub mod Powering
 mod Course
 mod Calls
 pub mod Demand3
+mod Rounds
+mod Passes
 pub mod Courses
 pub mod Missed

@@ -14,7 +14,8 @@ use Rattle.line.specs.History.{Counted, answers, confirmedAt, groupLost,
 -- a node whose place is in doubt isn't known to lead, so a group command is unconfirmed there
 lost-unconfirmed : (c : Bool) (to : Address) (lost : Bool) (p : Place) → groupLost to lost ≡ true → (c && answers to lost p) ≡ false
 lost-unconfirmed c (address.Individual i) lost p e = absurd (false≢true e)
-lost-unconfirmed c (address.Group g) lost p e = rw e (and-false c)
+lost-unconfirmed c (address.Group g) true p e = and-false c
+lost-unconfirmed c (address.Group g) false p e = absurd (false≢true e)
 
 -- one of the three reasons, of which the second brings the first
 one-of : (c g h : Bool) → (not c || h) ≡ true → (c ≡ false) ⊎ (g ≡ true) ⊎ (h ≡ true)

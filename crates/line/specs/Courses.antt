@@ -1,9 +1,14 @@
--- Courses that come about, so that nobody need fear an empty promise: replies are lost, an "ask" and a command sent again make up for them.
+-- Courses that come about, so that nobody need fear an empty promise: replies are lost, an "ask" and a command sent again make up for them;
+-- document 02, request 4: "a node missed a Synch Output that its leader confirmed; its tray stood shut".
 use Prim.Native.Nat.{ℕ}
 use mathlib.Core.Bool.{Bool, true, false}
 use mathlib.Core.List.{List, [], _∷_}
 use mathlib.Core.Path.{_≡_}
-use Rattle.command.specs.declared.Command.the-variants.{SetOutputs}
+use Rattle.wire.specs.declared.address.Address.{Address}
+use Rattle.wire.specs.declared.address.Address.the-variants as address
+use Rattle.command.specs.declared.Place.{Place}
+use Rattle.command.specs.declared.Held.{Held}
+use Rattle.command.specs.declared.Command.the-variants.{SetAddress, SynchOutput, SetOutputs, SetSynchOutput}
 use Rattle.status.specs.declared.Answer.the-variants.{Clear, Silent}
 use Rattle.node.specs.Setting.{outputs, Setting, place, gate, Value, get}
 use Rattle.node.specs.Effect.{settingsPowerUp}
@@ -43,9 +48,43 @@ lost = record { what = sends (nodeAt 2) (SetOutputs 5); answer = Silent } ∷ wa
 abbrev pub again : List Sent
 again = record { what = sends (nodeAt 2) (SetOutputs 5); answer = Clear } ∷ lost
 
--- where a reply is lost, the node has done what it was told, and the host is in doubt and shows the last known value; afterwards it knows
+-- group 0x80, which node 1 leads and node 2 is in; and what both are told to hold: outputs 5
+abbrev pub group80 : Address
+group80 = address.Group (record { 0 = 0x80 })
+
+abbrev pub inGroup : ℕ → Bool → Place
+inGroup k leader = record { address = record { 0 = k }; group = record { 0 = 0x80 }; leader = leader }
+
+abbrev pub opened : Held
+opened = record { outputs = 5; pwm = record { first = 0; second = 0 } }
+
+-- the walk; then each node, by itself, is given its place in the group and a set to hold, all of it replied to
+abbrev pub held : List Sent
+held =
+    record { what = sends (nodeAt 2) (SetSynchOutput opened); answer = Clear } ∷ record { what = sends (nodeAt 1) (SetSynchOutput opened); answer = Clear }
+    ∷ record { what = sends (nodeAt 2) (SetAddress (inGroup 2 false)); answer = Clear } ∷ record { what = sends (nodeAt 1) (SetAddress (inGroup 1 true)); answer = Clear } ∷ walked
+
+-- then Synch Output to the group, replied to; and the same to node 2 by itself, replied to
+abbrev pub passed : List Sent
+passed = record { what = sends group80 SynchOutput; answer = Clear } ∷ held
+
+abbrev pub handed : List Sent
+handed = record { what = sends (nodeAt 2) SynchOutput; answer = Clear } ∷ passed
+
+-- the walk; node 1 is to lead the group, and the reply is lost; then Set Outputs 5 to the group, replied to
+abbrev pub unled : List Sent
+unled = record { what = sends group80 (SetOutputs 5); answer = Clear } ∷ record { what = sends (nodeAt 1) (SetAddress (inGroup 1 true)); answer = Silent } ∷ walked
+
+-- where a reply is lost, the node has done what it was told, and the host is in doubt and shows the last known value; afterwards it knows.
+-- Of a group's command the leader is known; a member that missed it is in doubt and holds the old outputs, as is one that did not, which holds the new ones; by itself it is known.
+-- A reply from a leader that isn't known makes nothing known
 pub record Courses : Type 0 where
   pub addressing : Course unasked 1 place false (settingsPowerUp .place) (givenPlace 1)
   pub addressed : Course asked 1 place true (givenPlace 1) (givenPlace 1)
   pub doubt : Course lost 2 (gate outputs) false 0 5
   pub known : Course again 2 (gate outputs) true 5 5
+  pub leading : Course passed 1 (gate outputs) true 5 5
+  pub missing : Course passed 2 (gate outputs) false 0 0
+  pub following : Course passed 2 (gate outputs) false 0 5
+  pub alone : Course handed 2 (gate outputs) true 5 5
+  pub unknown : Course unled 1 (gate outputs) false 0 5

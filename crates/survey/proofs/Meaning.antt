@@ -2,7 +2,7 @@
 use Prim.Native.Nat.{ℕ, zero, suc, _+_, _<_}
 use mathlib.Core.Bool.{Bool, true, false, cond, _&&_}
 use mathlib.Core.List.{List, [], _∷_}
-use mathlib.Core.Path.{_≡_, refl, sym, ap, _∙_}
+use mathlib.Core.Path.{_≡_, refl, ap}
 use native.Mathlib.Omega.{arith}
 use native.Mathlib.Nat.{not-suc-le-zero, le-of-suc-le-suc, add-suc, suc-add, add-zero, zero-add}
 use lib.ListN.{length, getD}
@@ -15,10 +15,9 @@ use Rattle.message.specs.declared.Message.the-variants.{Other, Spoilt}
 use Rattle.message.specs.Message.{isAnswered}
 use Rattle.node.specs.Node.{takeOf}
 use Rattle.reply.specs.Reply.{replyOf}
-use Rattle.survey.specs.declared.sets.Replier.{Replier}
-use Rattle.survey.specs.declared.sets.Replier.the-variants.{None, One, Several}
+use Rattle.survey.specs.declared.sets.Replier.the-variants.{None, One}
 use Rattle.survey.specs.One.{doesHear, isMeant, doesAct, doesReply, turned}
-use Rattle.survey.specs.Chain.{turnedFrom, after, repliersFrom, searchOf, replierIn, Said, silence, reply, said, saidBy, blankNode, nearAt, hearsAt, repliesAt}
+use Rattle.survey.specs.Chain.{turnedFrom, after, repliersFrom, replierIn, Said, silence, reply, said, saidBy, blankNode, nearAt, hearsAt, repliesAt}
 use Rattle.survey.proofs.Repliers.{behind, Replies, repliers-rise, found-is, one-speaks}
 
 -- ---- the nodes afterwards

@@ -235,8 +235,7 @@ impl Session {
         if !entry.knows(Setting::Place) {
             return self.rules.slips(Mistake::DoubtfulMayLead);
         }
-        let place = entry.settings.place;
-        !(place.leader && place.group == group) || self.rules.slips(Mistake::TwoLeaders)
+        !entry.leads(group) || self.rules.slips(Mistake::TwoLeaders)
     }
 
     /// Mistake: the group's range is looked at before 12 and 7.

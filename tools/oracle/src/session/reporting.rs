@@ -62,12 +62,112 @@ impl Session {
         self.exchange = Exchange::Idle;
         match self.slipped_outcome(outcome, target) {
             Outcome::Confirmed => self.confirm(target, command),
-            Outcome::Marked => {}
+            // "The record stays as before."
+            Outcome::Marked => self.mistake_marked(target, command),
             Outcome::Unconfirmed => self.doubt(target, command),
         }
         Ok(())
     }
 
+    /// A good clear reply: the command "makes what it writes known and new" for
+    /// the nodes that it is confirmed for, and "every other node that may be
+    /// written goes into doubt" (request 4). A confirmed Set Address of the walk,
+    /// by its own reply or by an ask's, moves the walk.
+    fn confirm(&mut self, target: Target, command: Command) {
+        let in_walk = self.walks() && target == Target::Node(self.walk + 1);
+        let command = match command {
+            Command::Nop if in_walk && self.asks() => self.asked_after(),
+            other => other,
+        };
+        let (confirmed, others) = self.parted(target);
+        for index in confirmed {
+            confirm_entry(self.rules, &mut self.entries[index], target, command);
+        }
+        if !self.rules.slips(Mistake::UnconfirmedKept) {
+            self.doubt_at(&others, command);
+        }
+        if in_walk && matches!(command, Command::SetAddress(_)) {
+            self.walk += 1;
+        }
+    }
+
+    /// The nodes that may be written: those for which a good clear reply confirms
+    /// the command, and the others.
+    fn parted(&self, target: Target) -> (Vec<usize>, Vec<usize>) {
+        let written = self.may_be_written(target).into_iter();
+        written.partition(|index| self.is_confirmed_for(*index, target))
+    }
+
+    /// Whether a good clear reply confirms the command for a node that may be
+    /// written: node k's own, and of a group "only the leader, if known" (request
+    /// 4).
+    fn is_confirmed_for(&self, index: usize, target: Target) -> bool {
+        match target {
+            Target::Node(_) => true,
+            Target::Group(group) => {
+                let leads = self.entries[index].leads(group);
+                self.slipped_lead(leads, index, group)
+            }
+        }
+    }
+
+    /// The Set Address that an ask's reply confirms.
+    fn asked_after(&self) -> Command {
+        if self.rules.slips(Mistake::AskKeepsOldPlace) {
+            return Command::SetAddress(self.entries[usize::from(self.walk)].settings.place);
+        }
+        walk_command(self.walk + 1)
+    }
+
+    /// Whether a Nop to the walk's next node is an ask.
+    fn asks(&self) -> bool {
+        self.ask_is_due() && !self.rules.slips(Mistake::AskConfirmsNothing)
+    }
+
+    /// "Unconfirmed: all that it may write goes into doubt. A setting in
+    /// doubt shows its last known value."
+    pub(super) fn doubt(&mut self, target: Target, command: Command) {
+        self.doubt_at(&self.may_be_written(target), command);
+    }
+
+    fn doubt_at(&mut self, nodes: &[usize], command: Command) {
+        for index in nodes {
+            doubt_entry(self.rules, &mut self.entries[*index], command);
+        }
+    }
+
+    /// "Who may be written: node k for an individual command and for the
+    /// walk's Set Address that gives k; for a group, nodes known to be in it
+    /// and every node whose place is in doubt."
+    fn may_be_written(&self, target: Target) -> Vec<usize> {
+        self.nodes()
+            .filter(|index| match target {
+                Target::Node(node) => *index + 1 == usize::from(node),
+                Target::Group(group) => self.may_be_in(*index, group),
+            })
+            .collect()
+    }
+
+    fn may_be_in(&self, index: usize, group: u8) -> bool {
+        let entry = &self.entries[index];
+        if !entry.knows(Setting::Place) {
+            return !self.rules.slips(Mistake::DoubtfulSpared);
+        }
+        entry.settings.place.group == group
+            || self.rules.slips(Mistake::EveryLeaderCounts) && self.leads_any(index)
+    }
+
+    /// The entries of nodes 1 to n.
+    fn nodes(&self) -> std::ops::Range<usize> {
+        let all = self.rules.slips(Mistake::BeyondNWritten);
+        let nodes = if all { MOST_NODES } else { self.n };
+        0..usize::from(nodes.min(MOST_NODES))
+    }
+}
+
+// ---- Mistakes alone ----------------------------------------------------
+
+impl Session {
     /// The outcome, with the mistakes in taking it.
     fn slipped_outcome(&self, outcome: Outcome, target: Target) -> Outcome {
         match outcome {
@@ -91,64 +191,47 @@ impl Session {
         }
     }
 
-    /// "A confirmed command makes what it writes known and new, except at
-    /// nodes in doubt about their place when it went to a group, and except
-    /// copies of a held set in doubt: those go into doubt." A confirmed Set
-    /// Address of the walk, by its own reply or by an ask's, moves the walk.
-    fn confirm(&mut self, target: Target, command: Command) {
-        let in_walk = self.walks() && target == Target::Node(self.walk + 1);
-        let command = match command {
-            Command::Nop if in_walk && self.asks() => self.asked_after(),
-            other => other,
-        };
-        for index in self.may_be_written(target) {
-            confirm_entry(self.rules, &mut self.entries[index], target, command);
+    /// Whether a group's reply confirms for a node that leads or doesn't, with the
+    /// mistakes in finding the one that it confirms for.
+    fn slipped_lead(&self, leads: bool, index: usize, group: u8) -> bool {
+        if self.rules.slips(Mistake::LeaderDoubted) {
+            return false;
         }
-        if in_walk && matches!(command, Command::SetAddress(_)) {
-            self.walk += 1;
+        if self.rules.slips(Mistake::FirstLeaderTaken) {
+            return leads && (0..index).all(|before| !self.leads_any(before));
         }
+        leads || self.slips_into_confirming(index, group)
     }
 
-    /// The Set Address that an ask's reply confirms.
-    fn asked_after(&self) -> Command {
-        if self.rules.slips(Mistake::AskKeepsOldPlace) {
-            return Command::SetAddress(self.entries[usize::from(self.walk)].settings.place);
+    /// Whether a mistaken host confirms for one that isn't the known leader.
+    fn slips_into_confirming(&self, index: usize, group: u8) -> bool {
+        let slips = |mistake| self.rules.slips(mistake);
+        let entry = &self.entries[index];
+        if !entry.knows(Setting::Place) {
+            let place = entry.settings.place;
+            let led = place.leader && place.group == group;
+            return slips(Mistake::DoubtfulConfirmed) || slips(Mistake::DoubtfulLeaderKnown) && led;
         }
-        walk_command(self.walk + 1)
+        let is_led = self.nodes().any(|other| self.entries[other].leads(group));
+        slips(Mistake::MembersConfirmed)
+            || slips(Mistake::AllHearAlike)
+            || slips(Mistake::LedMembersConfirmed) && is_led
+            || slips(Mistake::UnledMembersConfirmed) && !is_led
+            || slips(Mistake::LeaderlessConfirms) && self.is_leaderless(Target::Group(group))
+            || slips(Mistake::EveryLeaderCounts) && self.leads_any(index)
     }
 
-    /// Whether a Nop to the walk's next node is an ask.
-    fn asks(&self) -> bool {
-        self.ask_is_due() && !self.rules.slips(Mistake::AskConfirmsNothing)
+    /// Whether a node is the known leader of whatever group it is in.
+    fn leads_any(&self, index: usize) -> bool {
+        let entry = &self.entries[index];
+        entry.leads(entry.settings.place.group)
     }
 
-    /// "Unconfirmed: all that it may write goes into doubt. A setting in
-    /// doubt shows its last known value."
-    pub(super) fn doubt(&mut self, target: Target, command: Command) {
-        for index in self.may_be_written(target) {
-            doubt_entry(self.rules, &mut self.entries[index], command);
+    /// What a mistaken host takes from a reply that isn't clear.
+    fn mistake_marked(&mut self, target: Target, command: Command) {
+        if self.rules.slips(Mistake::MarkedDoubtsMembers) {
+            let (_, others) = self.parted(target);
+            self.doubt_at(&others, command);
         }
-    }
-
-    /// "Who may be written: node k for an individual command and for the
-    /// walk's Set Address that gives k; for a group, nodes known to be in it
-    /// and every node whose place is in doubt."
-    fn may_be_written(&self, target: Target) -> Vec<usize> {
-        let all = self.rules.slips(Mistake::BeyondNWritten);
-        let nodes = if all {
-            MOST_NODES
-        } else {
-            self.n.min(MOST_NODES)
-        };
-        let spared = self.rules.slips(Mistake::DoubtfulSpared);
-        (0..usize::from(nodes))
-            .filter(|index| match target {
-                Target::Node(node) => *index + 1 == usize::from(node),
-                Target::Group(group) => match self.entries[*index].knows(Setting::Place) {
-                    true => self.entries[*index].settings.place.group == group,
-                    false => !spared,
-                },
-            })
-            .collect()
     }
 }

@@ -76,7 +76,7 @@ pub const ASK: &str = "\
 
 /// Commands as address, command byte and data, to which header and sum are put,
 /// and replies; each packet at its time.
-const STORY: [(char, u32, &str); 63] = [
+const STORY: [(char, u32, &str); 70] = [
     // The walk: a reply before any command, not clear, sent again, a second
     // reply; silence and asks; a reply that isn't good.
     ('<', 0, "00"),
@@ -95,7 +95,8 @@ const STORY: [(char, u32, &str); 63] = [
     ('<', 44, "00 01"),
     ('>', 50, "03 0E"),
     ('<', 54, "00 00"),
-    // A group with a leader; replies with items; the longest, and one longer.
+    // A group with a leader, for whom alone its replies confirm; replies with
+    // items; the longest, and one longer.
     ('>', 100, "01 21 01 00"),
     ('<', 104, "00 00"),
     ('>', 110, "02 21 02 80"),
@@ -150,6 +151,14 @@ const STORY: [(char, u32, &str); 63] = [
     ('>', 410, "02 26 AA AA"),
     ('<', 412, "00 00 00 00"),
     ('>', 420, "03 05"),
+    // The leader's reply that isn't clear; then its place in doubt.
+    ('>', 500, "02 18 03"),
+    ('<', 504, "00 00"),
+    ('>', 510, "80 18 04"),
+    ('<', 514, "02 02"),
+    ('>', 520, "01 21 01 81"),
+    ('>', 530, "80 18 05"),
+    ('<', 534, "00 00"),
     ('>', 4_294_967_290, "FF 0F"),
     ('<', 4_294_967_295, "00 00"),
 ];

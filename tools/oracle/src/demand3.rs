@@ -1,67 +1,36 @@
 //! Demand 3 tried: a host session and a real chain over a faulty line.
 //!
-//! The premises are those of the acceptance conditions: all nodes power up
-//! when the host is told so; a command reaches all nodes alike, whole, with
-//! one byte other than header and command byte changed, or not at all; a
-//! reply comes whole, with one byte changed, or not at all, always before the
-//! next command. After each closed exchange three things are checked: what
-//! the host calls known is what the node holds; doubt is exactly what the
-//! history of sent and answered says; and no two nodes ever replied at once.
+//! The premises are those of the acceptance conditions, as request 4 has them:
+//! all nodes power up when the host is told so; a command goes out whole or with
+//! one byte other than header and command byte changed, and each node by itself
+//! hears it or misses it; a reply comes whole, with one byte changed, or not at
+//! all, always before the next command. After each closed exchange three things
+//! are checked: what the host calls known is what the node holds; doubt is
+//! exactly what the history of sent and answered says; and no two nodes ever
+//! replied at once.
 //!
 //! What goes over both lines is heard along, so that recordings can be made of
 //! it (request 3).
 
-use crate::chain::{deliver, Delivery};
+mod counts;
+mod line;
+
+use crate::chain::Delivery;
 use crate::command::{Command, Settings, COMMAND_BYTES};
 use crate::hex;
 use crate::history::History;
-use crate::make_packets::{any_command, damage, group};
+use crate::make_packets::{any_command, group};
 use crate::node::{BenchValues, Node};
 use crate::prng::Prng;
 use crate::record::Setting;
 use crate::refusal::{number_of, Refusal};
 use crate::rules::Rules;
-use crate::session::{Exchange, Session, MOST_NODES};
+use crate::session::{Exchange, Outcome, Session, MOST_NODES};
 use crate::status::T;
 use crate::target::Target;
-
-/// How often things happened.
-#[derive(Clone, Copy, Debug, Default)]
-pub struct Counts {
-    pub steps: usize,
-    pub power_ups: usize,
-    pub ready: usize,
-    pub sent: usize,
-    pub lost: usize,
-    pub changed: usize,
-    pub answered: usize,
-    pub silent: usize,
-    pub refused: usize,
-    pub doubts: usize,
-    pub checks: usize,
-}
-
-impl std::fmt::Display for Counts {
-    fn fmt(&self, out: &mut std::fmt::Formatter) -> std::fmt::Result {
-        write!(
-            out,
-            "demand 3 held: {} steps, {} power-ups, {} walks ended, {} commands sent, \
-             {} lost, {} changed, {} replies, {} silences, {} refusals, \
-             {} settings checked, {} of them in doubt",
-            self.steps,
-            self.power_ups,
-            self.ready,
-            self.sent,
-            self.lost,
-            self.changed,
-            self.answered,
-            self.silent,
-            self.refused,
-            self.checks,
-            self.doubts
-        )
-    }
-}
+use counts::Closing;
+pub use counts::Counts;
+use line::{Arriving, Line};
 
 /// What went wrong, and the story since the last power-up.
 #[derive(Debug)]
@@ -130,8 +99,11 @@ struct World {
     chain: Vec<Node>,
     /// What is on its way to the host while an exchange is open.
     reply: Vec<u8>,
-    /// Of a hundred commands or replies, so many are lost and so many changed.
-    faults: usize,
+    /// Which nodes missed the command that was sent last.
+    missed: Vec<bool>,
+    line: Line,
+    /// Of a hundred commands so many are a Hard Reset, which ends the story.
+    resets: usize,
     history: History,
     story: Vec<String>,
     heard: Vec<Heard>,
@@ -147,8 +119,10 @@ impl World {
             host: Session::fresh(rules),
             chain: Vec::new(),
             reply: Vec::new(),
-            faults: 0,
-            history: History::default(),
+            missed: Vec::new(),
+            line: Line::default(),
+            resets: 0,
+            history: History::new(rules),
             story: Vec::new(),
             heard: Vec::new(),
             stories: Vec::new(),
@@ -167,7 +141,7 @@ impl World {
 
     /// One step: a power-up, a command sent or a reply reported.
     fn step(&mut self) -> Step {
-        if !self.host.is_open() || self.prng.below(90) == 0 {
+        if !self.host.is_open() || self.prng.below(90) == 0 || self.gives_up() {
             return self.power_up();
         }
         if self.host.waits() {
@@ -176,19 +150,26 @@ impl World {
         self.send()
     }
 
+    /// "Where a Set Address never arrived, only a new power-up helps", after some
+    /// asking.
+    fn gives_up(&mut self) -> bool {
+        self.host.ask_is_due() && self.prng.below(10) == 0
+    }
+
     /// All nodes power up and the host is told.
     fn power_up(&mut self) -> Step {
         let n = if self.prng.percent(92) {
-            self.prng.between(1, 4)
+            self.prng.pick(&[1, 2, 3, 3, 4, 4])
         } else {
             self.prng.between(1, MOST_NODES)
         };
         self.end_story();
         let nodes = vec![Node::powered_up(BenchValues::ZERO); usize::from(n)];
         self.chain = nodes;
-        self.faults = self.prng.pick(&[0, 2, 6, 15]);
+        self.line = Line::any(&mut self.prng);
+        self.resets = self.prng.pick(&[0, 0, 0, 20]);
         self.story = vec![format!("power-up of {n}")];
-        self.history = History::default();
+        self.history = History::new(self.rules);
         self.counts.power_ups += 1;
         self.expect_number(0, |host| host.power_up(n).map(|()| 0))?;
         self.check()?;
@@ -259,7 +240,7 @@ impl World {
         }
         if self.prng.percent(30) {
             let node = self.own_node();
-            let group = group(&mut self.prng);
+            let group = self.group();
             let leader = self.prng.percent(60);
             let name = format!("regroup {node} to {group:02X}, leader {leader}");
             return (name, self.host.regroup(node, group, leader, buffer));
@@ -284,53 +265,66 @@ impl World {
     }
 
     fn target(&mut self) -> Target {
+        match self.prng.percent(50) {
+            true => Target::Node(self.own_node()),
+            false => Target::Group(self.group()),
+        }
+    }
+
+    /// A group, mostly one that a node leads or is in, so that leaders and members
+    /// meet.
+    fn group(&mut self) -> u8 {
+        let leaders = self.chain.iter().filter(|node| node.settings.place.leader);
+        let led: Vec<u8> = leaders.map(Node::group).collect();
         match self.prng.below(10) {
-            0..=4 => Target::Node(self.own_node()),
-            5..=7 => {
+            0..=5 if !led.is_empty() => self.prng.pick(&led),
+            0..=7 => {
                 let node = self.own_node();
-                Target::Group(self.chain[usize::from(node - 1)].group())
+                self.chain[usize::from(node - 1)].group()
             }
-            _ => Target::Group(group(&mut self.prng)),
+            _ => group(&mut self.prng),
         }
     }
 
     fn ready_command(&mut self) -> Command {
-        let byte = match self.prng.below(200) {
-            0 => 0x0F,
-            1..=40 => 0x05,
-            41..=80 => 0x47,
+        let byte = match self.prng.below(10) {
+            _ if self.prng.percent(self.resets) => 0x0F,
+            0..=1 => 0x05,
+            2..=3 => 0x47,
             _ => self.prng.pick(&COMMAND_BYTES[1..10]),
         };
         any_command(&mut self.prng, byte)
     }
 
-    /// The line takes the command to all nodes alike.
+    /// The line takes the command to the nodes.
     fn carry(&mut self, packet: &[u8]) -> Step {
         self.reply.clear();
-        let arriving = match self.prng.below(100) {
-            lost if lost < self.faults => {
-                self.counts.lost += 1;
-                self.story.push("  the command is lost".to_string());
-                return Ok(());
-            }
-            changed if changed < 2 * self.faults => {
-                self.counts.changed += 1;
-                damage(&mut self.prng, packet.to_vec())
-            }
-            _ => packet.to_vec(),
-        };
-        if arriving != packet {
-            self.story
-                .push(format!("  it arrives as {}", hex::format(&arriving)));
-        }
+        let arriving = self.line.carry(&mut self.prng, packet, self.chain.len());
+        self.tell(packet, &arriving);
         let mut buffer = [0; T + 2];
-        match deliver(self.rules, &mut self.chain, &arriving, &mut buffer) {
+        match arriving.deliver(self.rules, &mut self.chain, &mut buffer) {
             Ok(Delivery::Reply(length)) => self.reply = buffer[..length].to_vec(),
             Ok(Delivery::Silent) => {}
             Ok(Delivery::Collision) => return Err("several nodes replied".to_string()),
             Err(refusal) => return Err(format!("the chain gave {}", refusal.number())),
         }
+        self.missed = arriving.missed;
         Ok(())
+    }
+
+    /// What the line does to a command, told and counted.
+    fn tell(&mut self, packet: &[u8], arriving: &Arriving) {
+        if arriving.bytes != packet {
+            self.counts.changed += 1;
+            self.story
+                .push(format!("  it arrives as {}", hex::format(&arriving.bytes)));
+        }
+        for (node, missed) in (1..).zip(&arriving.missed) {
+            if *missed {
+                self.counts.missed += 1;
+                self.story.push(format!("  node {node} misses it"));
+            }
+        }
     }
 }
 
@@ -342,7 +336,9 @@ impl World {
             self.expect_number(7, |host| host.next(&mut [0; 19]))?;
             return self.unchanged(&before);
         }
-        let reply = self.line_back();
+        let reply = std::mem::take(&mut self.reply);
+        let reply = self.line.carry_back(&mut self.prng, reply);
+        self.count_met(&reply);
         let walked = self.host.walks();
         if reply.is_empty() {
             self.story.push("  silence".to_string());
@@ -360,18 +356,16 @@ impl World {
         self.check()
     }
 
-    /// The line takes the reply to the host.
-    fn line_back(&mut self) -> Vec<u8> {
-        let mut reply = std::mem::take(&mut self.reply);
-        let fault = self.prng.below(100);
-        if reply.is_empty() || fault < self.faults {
-            return Vec::new();
+    fn count_met(&mut self, reply: &[u8]) {
+        let closing = Closing {
+            host: &self.host,
+            chain: &self.chain,
+            missed: &self.missed,
+            clear: self.host.judge(reply) == Outcome::Confirmed,
+        };
+        for met in closing.met() {
+            self.counts.met[met as usize] += 1;
         }
-        if fault < 2 * self.faults {
-            let place = self.prng.below(reply.len());
-            reply[place] = self.prng.other_than(reply[place]);
-        }
-        reply
     }
 }
 

@@ -4,10 +4,13 @@
 //! "It is in doubt exactly if the last command that could have written it was
 //! unconfirmed, went to a group while the node's group was in doubt, or
 //! copied a setting in doubt. A reply with the checksum bit set makes its
-//! command count as unsent."
+//! command count as unsent." Of a group command "a good clear reply .. confirms
+//! only the leader, if known" (request 4): the one that the group was known to
+//! have when the command was sent.
 
-use crate::command::Command;
+use crate::command::{Command, Place, Settings};
 use crate::record::Setting;
+use crate::rules::{Mistake, Rules};
 use crate::target::Target;
 
 /// How a command was answered.
@@ -25,14 +28,23 @@ struct Sent {
 }
 
 /// The commands since the last power-up that count as sent, in order.
-#[derive(Default)]
 pub struct History {
+    rules: Rules,
     sent: Vec<Sent>,
     /// Whether the command that waits is an ask.
     asking: bool,
 }
 
 impl History {
+    /// At a power-up: nothing has been sent.
+    pub fn new(rules: Rules) -> History {
+        History {
+            rules,
+            sent: Vec::new(),
+            asking: false,
+        }
+    }
+
     /// A command goes out; until it is answered it is unconfirmed. A Nop
     /// during the walk is an ask, no command of its own: its good clear reply
     /// confirms the Set Address it asks after.
@@ -74,16 +86,36 @@ impl History {
         self.in_doubt_before(self.sent.len(), node, setting)
     }
 
-    /// Whether it was in doubt when so many commands had been sent.
+    /// Whether it was in doubt when so many commands had been sent. The three tests
+    /// are the demand's; the first takes in the second, since no leader in doubt is
+    /// known.
     fn in_doubt_before(&self, time: usize, node: u8, setting: Setting) -> bool {
         let Some(last) = self.last_writer(time, node, setting) else {
             return false;
         };
         let sent = &self.sent[last];
-        sent.answered == Answered::Nothing
+        !self.is_confirmed_for(last, node)
             || sent.target.is_group() && self.in_doubt_before(last, node, Setting::Place)
             || sent.command == Command::SynchOutput
                 && self.in_doubt_before(last, node, Setting::Held)
+    }
+
+    /// Whether a command is confirmed for a node: by a good clear reply, and where
+    /// it went to a group, only if the node was its known leader then.
+    fn is_confirmed_for(&self, at: usize, node: u8) -> bool {
+        let sent = &self.sent[at];
+        let confirms = match sent.target {
+            Target::Node(_) => true,
+            Target::Group(group) => self.slipped_lead(at, node, group),
+        };
+        sent.answered == Answered::GoodAndClear && confirms
+    }
+
+    /// Whether a node was known to lead a group when so many commands had been
+    /// sent.
+    fn leads(&self, time: usize, node: u8, group: u8) -> bool {
+        let told = self.told(time, node);
+        !self.in_doubt_before(time, node, Setting::Place) && told.leader && told.group == group
     }
 
     /// The last command before a time that could have written the setting.
@@ -99,19 +131,30 @@ impl History {
         match self.sent[at].target {
             Target::Node(other) => other == node,
             Target::Group(group) => {
-                self.in_doubt_before(at, node, Setting::Place)
-                    || self.known_group(at, node) == group
+                self.in_doubt_before(at, node, Setting::Place) || self.told(at, node).group == group
             }
         }
     }
 
-    /// The group that a node was last told, where its place is not in doubt.
-    fn known_group(&self, time: usize, node: u8) -> u8 {
+    /// The place that a node was last told before a time, or powered up with.
+    fn told(&self, time: usize, node: u8) -> Place {
         let writer = self.last_writer(time, node, Setting::Place);
         match writer.map(|at| self.sent[at].command) {
-            Some(Command::SetAddress(place)) => place.group,
-            _ => 0xFF,
+            Some(Command::SetAddress(place)) => place,
+            _ => Settings::POWER_UP.place,
         }
+    }
+
+    /// Whether a node is the one that a group's reply confirms for, with the
+    /// mistakes in finding it.
+    fn slipped_lead(&self, at: usize, node: u8, group: u8) -> bool {
+        let slips = |mistake| self.rules.slips(mistake);
+        if slips(Mistake::LeadJudgedLater) {
+            return self.leads(self.sent.len(), node, group);
+        }
+        self.leads(at, node, group)
+            || slips(Mistake::HistoryConfirmsMembers)
+            || slips(Mistake::AllHearAlike)
     }
 }
 

@@ -2,16 +2,16 @@
 //! laid out in time as the host would have it, then some of them spoilt.
 
 use crate::command::COMMAND_BYTES;
-use crate::demand3::{self, Heard};
+use crate::demand3::{self, Heard, Story};
 use crate::make_packets::{damage, group, misshape};
 use crate::packet::{whole, OVERHEAD};
 use crate::prng::Prng;
 use crate::recording::{Capture, Line, Recording, GAP};
 use crate::status::seal;
 
-/// Steps of the simulation that a recording is taken from: more than one
-/// power-up's worth, so that there is one to choose.
-const STEPS: usize = 150;
+/// Steps of the simulation that a recording is taken from: several power-ups'
+/// worth, so that there is one to choose.
+const STEPS: usize = 500;
 
 /// A recording of at most so many packets, right or spoilt.
 pub fn recording(prng: &mut Prng, packets: usize) -> Recording {
@@ -30,14 +30,42 @@ pub fn right(prng: &mut Prng, packets: usize) -> Recording {
 }
 
 /// A power-up's nodes, and the first packets heard from then on: mostly a whole
-/// walk and something behind it.
+/// walk and something behind it, often a group's reply.
 fn story(prng: &mut Prng, packets: usize) -> (u8, Vec<Heard>) {
     let stories = demand3::stories(prng.below(1 << 40) as u64, STEPS);
     let most = prng.pick(&[2, 3, 3, 31]);
-    let mut few = stories.iter().filter(|story| story.host.n <= most);
-    let story = few.next().unwrap_or(&stories[0]);
-    let kept = packets.min(story.heard.len());
-    (story.host.n, story.heard[..kept].to_vec())
+    let few: Vec<&Story> = stories
+        .iter()
+        .filter(|story| story.host.n <= most)
+        .collect();
+    let tells: fn(&[Heard]) -> bool = match prng.below(10) {
+        0..=4 => has_group_reply,
+        5 => |heard| has_command(heard, |_, byte| byte == 0x0F),
+        6..=8 => |heard| has_command(heard, |address, byte| address != 0x00 && byte != 0x0E),
+        _ => |_| true,
+    };
+    let telling = few.iter().find(|story| tells(first(story, packets)));
+    let story = telling.or(few.first()).copied().unwrap_or(&stories[0]);
+    (story.host.n, first(story, packets).to_vec())
+}
+
+fn first(story: &Story, packets: usize) -> &[Heard] {
+    &story.heard[..packets.min(story.heard.len())]
+}
+
+fn has_group_reply(heard: &[Heard]) -> bool {
+    heard.windows(2).any(|pair| match pair {
+        [Heard::Command(bytes), Heard::Reply(_)] => bytes[1] >= 0x80,
+        _ => false,
+    })
+}
+
+/// Whether there is a command with such an address and command byte.
+fn has_command(heard: &[Heard], test: fn(u8, u8) -> bool) -> bool {
+    heard.iter().any(|packet| match packet {
+        Heard::Command(bytes) => test(bytes[1], bytes[2]),
+        Heard::Reply(_) => false,
+    })
 }
 
 /// Proper times: no gap within a packet, one before each of its line, a reply no

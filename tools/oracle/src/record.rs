@@ -48,6 +48,13 @@ impl Entry {
         self.known & setting as u8 != 0
     }
 
+    /// Whether it is the known leader of a group: its place is known, and leads
+    /// that group.
+    pub fn leads(&self, group: u8) -> bool {
+        let place = self.settings.place;
+        self.knows(Setting::Place) && place.leader && place.group == group
+    }
+
     pub fn put_in_doubt(&mut self, setting: Setting) {
         self.known &= !(setting as u8);
     }
@@ -87,17 +94,16 @@ pub fn written_by(command: Command) -> &'static [Setting] {
     }
 }
 
-/// A confirmed command at one node that it may have written.
+/// A command at one node for which it is confirmed: "makes what it writes known
+/// and new, except .. copies of a held set in doubt".
 pub fn confirm_entry(rules: Rules, entry: &mut Entry, target: Target, command: Command) {
     let new = entry.settings.after(command);
-    let lost_in_group = target.is_group()
-        && !entry.knows(Setting::Place)
-        && !rules.slips(Mistake::DoubtfulConfirmed);
-    let doubtful_copy = command == Command::SynchOutput
-        && !entry.knows(Setting::Held)
-        && !rules.slips(Mistake::DoubtfulCopied);
+    let passed_over = rules.slips(Mistake::DoubtfulCopied)
+        || rules.slips(Mistake::LeaderCopiesDoubtful) && target.is_group();
+    let doubtful_copy =
+        command == Command::SynchOutput && !entry.knows(Setting::Held) && !passed_over;
     for setting in written_by(command) {
-        if lost_in_group || doubtful_copy {
+        if doubtful_copy {
             entry.put_in_doubt(*setting);
         } else {
             entry.learn(*setting, &new);
@@ -108,7 +114,8 @@ pub fn confirm_entry(rules: Rules, entry: &mut Entry, target: Target, command: C
     }
 }
 
-/// An unconfirmed command at one node that it may have written.
+/// A command at one node that it may have written and for which it isn't
+/// confirmed.
 pub fn doubt_entry(rules: Rules, entry: &mut Entry, command: Command) {
     let new = entry.settings.after(command);
     if rules.slips(Mistake::SameValueSure) && new == entry.settings {

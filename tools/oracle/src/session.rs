@@ -1,13 +1,15 @@
 //! "The host session": addressing the chain, sending commands, taking
 //! replies and keeping a record of each node.
 
+mod reporting;
+
 use crate::command::{Command, Place};
 use crate::packet::{self, OVERHEAD};
-use crate::record::{confirm_entry, doubt_entry, Entry, Setting};
+use crate::record::{Entry, Setting};
 use crate::refusal::{require, Refusal};
 use crate::rules::{Mistake, Rules};
-use crate::status::{sum_is_right, MARK, T};
 use crate::target::Target;
+pub use reporting::Outcome;
 
 /// The most nodes a session can have, and the entries it always keeps.
 pub const MOST_NODES: u8 = 31;
@@ -23,17 +25,6 @@ const UNADDRESSED: u8 = 0x00;
 pub enum Exchange {
     Idle,
     Waiting { target: Target, command: Command },
-}
-
-/// What a report says about the waiting command.
-#[derive(Clone, Copy, Debug, PartialEq, Eq)]
-pub enum Outcome {
-    /// A good and clear reply.
-    Confirmed,
-    /// A good reply with bit 1 set: "the record stays as before".
-    Marked,
-    /// "All else counts as silence: unconfirmed."
-    Unconfirmed,
 }
 
 /// A host session, as it can also be handed in by hand.
@@ -169,16 +160,6 @@ impl Session {
         let index = usize::from(if past { MOST_NODES } else { node }) - 1;
         self.entries.get(index).ok_or(Refusal::NoSuchNode)
     }
-
-    /// Closes the exchange with the bytes received. "Reporting gives only 8."
-    pub fn report(&mut self, bytes: &[u8]) -> Result<(), Refusal> {
-        self.close(self.judge(bytes))
-    }
-
-    /// Closes the exchange with silence.
-    pub fn silence(&mut self) -> Result<(), Refusal> {
-        self.close(Outcome::Unconfirmed)
-    }
 }
 
 /// The state that the calls look at.
@@ -254,8 +235,7 @@ impl Session {
         if !entry.knows(Setting::Place) {
             return self.rules.slips(Mistake::DoubtfulMayLead);
         }
-        let place = entry.settings.place;
-        !(place.leader && place.group == group) || self.rules.slips(Mistake::TwoLeaders)
+        !entry.leads(group) || self.rules.slips(Mistake::TwoLeaders)
     }
 
     /// Mistake: the group's range is looked at before 12 and 7.
@@ -298,127 +278,6 @@ impl Session {
         } else if !self.rules.slips(Mistake::ResetKeepsKnown) {
             self.entries.iter_mut().for_each(|entry| entry.known = 0);
         }
-    }
-
-    /// "A reply is good if it has 2 to T + 2 bytes and its sum is right;
-    /// clear if bit 1 is 0."
-    pub fn judge(&self, bytes: &[u8]) -> Outcome {
-        let least = 2 - usize::from(self.rules.slips(Mistake::LoneByteIsGood));
-        let most = T + 2 - usize::from(self.rules.slips(Mistake::ReplyOf16Items))
-            + usize::from(self.rules.slips(Mistake::ReplyOf18Items));
-        let whole = (least..=most).contains(&bytes.len());
-        let right =
-            bytes.len() < 2 || sum_is_right(bytes) || self.rules.slips(Mistake::BadSumConfirms);
-        let mark = if self.rules.slips(Mistake::OtherBitsMark) {
-            0xFF
-        } else {
-            MARK
-        };
-        match bytes.first() {
-            Some(status) if whole && right && status & mark == 0 => Outcome::Confirmed,
-            Some(_) if whole && right => Outcome::Marked,
-            _ => Outcome::Unconfirmed,
-        }
-    }
-
-    /// Closes the open exchange, or 8.
-    fn close(&mut self, outcome: Outcome) -> Result<(), Refusal> {
-        let open = self.waits() || self.rules.slips(Mistake::ClosedExchangeReports);
-        let (target, command) = match self.exchange {
-            Exchange::Waiting { target, command } if open => (target, command),
-            _ => return Err(Refusal::NothingToReport),
-        };
-        self.exchange = Exchange::Idle;
-        match self.slipped_outcome(outcome, target) {
-            Outcome::Confirmed => self.confirm(target, command),
-            Outcome::Marked => {}
-            Outcome::Unconfirmed => self.doubt(target, command),
-        }
-        Ok(())
-    }
-
-    /// The outcome, with the mistakes in taking it.
-    fn slipped_outcome(&self, outcome: Outcome, target: Target) -> Outcome {
-        match outcome {
-            Outcome::Unconfirmed if self.rules.slips(Mistake::SilenceIsNotDone) => Outcome::Marked,
-            Outcome::Unconfirmed if self.rules.slips(Mistake::SilenceIsDone) => Outcome::Confirmed,
-            Outcome::Unconfirmed
-                if self.rules.slips(Mistake::LeaderlessConfirms) && self.is_leaderless(target) =>
-            {
-                Outcome::Confirmed
-            }
-            Outcome::Marked if self.rules.slips(Mistake::MarkedConfirms) => Outcome::Confirmed,
-            Outcome::Marked if self.rules.slips(Mistake::MarkedDoubts) => Outcome::Unconfirmed,
-            _ => outcome,
-        }
-    }
-
-    fn is_leaderless(&self, target: Target) -> bool {
-        match target {
-            Target::Node(_) => false,
-            Target::Group(group) => self.may_lead(0, group),
-        }
-    }
-
-    /// "A confirmed command makes what it writes known and new, except at
-    /// nodes in doubt about their place when it went to a group, and except
-    /// copies of a held set in doubt: those go into doubt." A confirmed Set
-    /// Address of the walk, by its own reply or by an ask's, moves the walk.
-    fn confirm(&mut self, target: Target, command: Command) {
-        let in_walk = self.walks() && target == Target::Node(self.walk + 1);
-        let command = match command {
-            Command::Nop if in_walk && self.asks() => self.asked_after(),
-            other => other,
-        };
-        for index in self.may_be_written(target) {
-            confirm_entry(self.rules, &mut self.entries[index], target, command);
-        }
-        if in_walk && matches!(command, Command::SetAddress(_)) {
-            self.walk += 1;
-        }
-    }
-
-    /// The Set Address that an ask's reply confirms.
-    fn asked_after(&self) -> Command {
-        if self.rules.slips(Mistake::AskKeepsOldPlace) {
-            return Command::SetAddress(self.entries[usize::from(self.walk)].settings.place);
-        }
-        walk_command(self.walk + 1)
-    }
-
-    /// Whether a Nop to the walk's next node is an ask.
-    fn asks(&self) -> bool {
-        self.ask_is_due() && !self.rules.slips(Mistake::AskConfirmsNothing)
-    }
-
-    /// "Unconfirmed: all that it may write goes into doubt. A setting in
-    /// doubt shows its last known value."
-    fn doubt(&mut self, target: Target, command: Command) {
-        for index in self.may_be_written(target) {
-            doubt_entry(self.rules, &mut self.entries[index], command);
-        }
-    }
-
-    /// "Who may be written: node k for an individual command and for the
-    /// walk's Set Address that gives k; for a group, nodes known to be in it
-    /// and every node whose place is in doubt."
-    fn may_be_written(&self, target: Target) -> Vec<usize> {
-        let all = self.rules.slips(Mistake::BeyondNWritten);
-        let nodes = if all {
-            MOST_NODES
-        } else {
-            self.n.min(MOST_NODES)
-        };
-        let spared = self.rules.slips(Mistake::DoubtfulSpared);
-        (0..usize::from(nodes))
-            .filter(|index| match target {
-                Target::Node(node) => *index + 1 == usize::from(node),
-                Target::Group(group) => match self.entries[*index].knows(Setting::Place) {
-                    true => self.entries[*index].settings.place.group == group,
-                    false => !spared,
-                },
-            })
-            .collect()
     }
 }
 

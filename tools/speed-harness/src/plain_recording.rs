@@ -333,11 +333,13 @@ impl Host {
         } else if to < 0x80 {
             self.entries[usize::from(to - 1)].confirm(command);
         } else {
+            // The reply tells of the known leader alone.
             for entry in self.chain() {
-                if !entry.known.place {
-                    entry.doubt(command);
-                } else if entry.settings.place.group == to {
-                    entry.confirm(command);
+                let Place { group, leader, .. } = entry.settings.place;
+                match entry.known.place {
+                    true if group != to => {}
+                    true if leader => entry.confirm(command),
+                    _ => entry.doubt(command),
                 }
             }
         }

@@ -163,40 +163,38 @@ fn reply_cases() -> Vec<Case> {
     ]
 }
 
-/// Who may be written, and what a group's reply confirms.
+/// Who may be written, and for whom a group's reply confirms.
 fn doubt_cases() -> Vec<Case> {
     vec![
+        // The known leader alone is confirmed for; a reply that isn't clear; the
+        // leader's own place in doubt.
         when_ready(
             "doubt: a group with a place in doubt",
             3,
             "34 06 01 80 01; 35 00 00; 34 06 02 80 00; 35 00 00; 34 06 03 81 00; 36; 37; \
              33 06 01 80 26 07 00; 35 00 00; 37; 33 06 01 90 24 01 02; 36; 37; \
-             33 04 00 03 0E; 35 00 00; 37; 34 06 03 80 00; 35 00 00; 37; \
-             33 06 01 80 26 09 00; 35 00 00; 37",
+             33 04 00 03 0E; 35 00 00; 37; 34 06 03 80 00; 35 00 00; 33 05 01 80 18 01; \
+             35 02 02; 37; 34 06 01 81 00; 36; 33 05 01 80 18 01; 35 00 00; 37",
         ),
+        // The same value again, silent; another, with a reply.
         when_ready(
             "doubt: a group without leader",
             2,
-            "33 06 01 FF 26 07 00; 36; 37; 33 06 01 FF 26 07 00; 35 00 00; 37",
+            "33 06 01 FF 26 00 00; 36; 37; 33 05 01 FF 18 07; 35 00 00; 37",
         ),
-        when_ready(
-            "doubt: the same value again",
-            1,
-            "33 06 00 01 26 00 00; 36; 37",
-        ),
+        // The leader's, known and in doubt.
         when_ready(
             "doubt: copies of a held set",
             2,
-            "33 08 01 FF 47 07 00 11 22; 35 00 00; 33 08 00 01 47 08 00 33 44; 36; \
-             33 04 01 FF 05; 35 00 00; 37; 33 08 00 01 47 08 00 33 44; 35 00 00; \
-             33 04 00 01 05; 35 02 02; 37; 33 04 00 01 05; 35 00 00; 37; 33 04 00 02 05; 36; \
-             37",
+            "34 06 01 FF 01; 35 00 00; 33 08 01 FF 47 07 00 11 22; 35 00 00; 33 04 01 FF 05; \
+             35 00 00; 37; 33 08 00 01 47 08 00 33 44; 36; 33 04 01 FF 05; 35 00 00; 37",
         ),
+        // To a group of another leader than the first.
         when_ready(
             "doubt: a node that left the group",
             2,
-            "34 06 02 90 00; 35 00 00; 33 05 01 FF 18 01; 36; 37; 33 05 01 90 18 02; \
-             35 00 00; 37",
+            "34 06 01 80 01; 35 00 00; 34 06 02 90 01; 35 00 00; 33 05 01 80 18 01; 36; 37; \
+             33 05 01 90 18 02; 35 00 00; 37",
         ),
     ]
 }

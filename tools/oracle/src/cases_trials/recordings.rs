@@ -166,8 +166,9 @@ fn foreign_when_ready() -> Vec<String> {
     lines
 }
 
-/// All eleven, most of them silent, some to the group; behind the Hard Reset a
-/// reply and a command.
+/// All eleven, most of them silent, some to the group, which has no leader known
+/// to confirm for although a reply comes; behind the Hard Reset a reply and a
+/// command.
 fn every_command() -> Vec<String> {
     let parts = [
         "01 12 41",
@@ -190,7 +191,7 @@ fn every_command() -> Vec<String> {
             .zip(&sent)
             .map(|(place, own)| (2 * place, own.as_str())),
     );
-    vec![walk(1, &commands, &[(0, CLEAR), (22, CLEAR)])]
+    vec![walk(1, &commands, &[(0, CLEAR), (6, CLEAR), (22, CLEAR)])]
 }
 
 /// "The session of `30` to `38` isn't touched."

@@ -110,14 +110,25 @@ impl Story {
     }
 
     fn target(&mut self) -> Target {
-        if self.prng.percent(60) {
-            return Target::Node(self.own_node());
+        match self.prng.percent(55) {
+            true => Target::Node(self.own_node()),
+            false => Target::Group(self.own_group()),
         }
-        if self.prng.percent(30) {
-            return Target::Group(group(&mut self.prng));
+    }
+
+    /// A group, mostly one that an entry leads or is in, so that leaders and
+    /// members meet.
+    fn own_group(&mut self) -> u8 {
+        let node = self.own_node();
+        let entries = &self.model.session.entries[..usize::from(node)];
+        let own = entries[entries.len() - 1].settings.place.group;
+        let leader = entries.iter().rfind(|entry| entry.settings.place.leader);
+        let led = leader.map(|entry| entry.settings.place.group);
+        match self.prng.below(10) {
+            0..=4 => led.unwrap_or(own),
+            5..=7 => own,
+            _ => group(&mut self.prng),
         }
-        let node = usize::from(self.own_node() - 1);
-        Target::Group(self.model.session.entries[node].settings.place.group)
     }
 
     /// A command of the ready session; the Synch pair is common, Hard Reset
@@ -137,7 +148,7 @@ impl Story {
 
     fn regroup(&mut self) -> Vec<u8> {
         let node = self.own_node();
-        let group = group(&mut self.prng);
+        let group = self.own_group();
         let leader = u8::from(self.prng.percent(50));
         vec![0x34, self.room(6), node, group, leader]
     }

@@ -1,5 +1,5 @@
-//! The examples of document 01 and of request 2, one by one, against what is
-//! said of them.
+//! The examples of document 01 and of requests 2 and 4, one by one, against what
+//! is said of them.
 
 use super::{answers, last_answer};
 use crate::bench;
@@ -187,6 +187,78 @@ fn synch_output_copies_a_doubtful_held_set() {
     let expected = [Setting::Outputs, Setting::Pwm, Setting::Held];
     assert_eq!(in_doubt(&session, 2), expected);
     assert_eq!(session.entries[1].settings.outputs, 0);
+}
+
+/// A session of three nodes in which node 1 leads 0x80 and node 2 is in it.
+fn grouped() -> Session {
+    let mut session = ready(3);
+    regroup(&mut session, 1, true, &[0, 0]);
+    regroup(&mut session, 2, false, &[0, 0]);
+    session
+}
+
+/// Regroups a node to 0x80, as its leader or not, and reports what came.
+fn regroup(session: &mut Session, node: u8, leader: bool, reply: &[u8]) {
+    session
+        .regroup(node, 0x80, leader, &mut [0; 19])
+        .expect("a ready session");
+    session.report(reply).expect("an exchange is open");
+}
+
+const GROUP: Target = Target::Group(0x80);
+
+/// Request 4: "a node missed a Synch Output that its leader confirmed".
+#[test]
+fn a_group_s_reply_confirms_for_its_known_leader_alone() {
+    let mut session = grouped();
+    for node in [1, 2] {
+        let held = Command::decode(0x47, &[7, 1, 0x80, 0x40]).expect("Set Synch Output");
+        exchange(&mut session, Target::Node(node), held, &[0, 0]);
+    }
+    regroup(&mut session, 3, false, &[]);
+    exchange(&mut session, GROUP, Command::SynchOutput, &[0, 0]);
+    assert_eq!(in_doubt(&session, 1), []);
+    assert_eq!(session.entries[0].settings.outputs, 0x0107);
+    assert_eq!(in_doubt(&session, 2), [Setting::Outputs, Setting::Pwm]);
+    assert_eq!(session.entries[1].settings.outputs, 0);
+    let with_place = [Setting::Place, Setting::Outputs, Setting::Pwm];
+    assert_eq!(in_doubt(&session, 3), with_place);
+}
+
+/// ".. if known": nobody is confirmed for where none leads it, nor where its
+/// leader's place is in doubt.
+#[test]
+fn a_group_s_reply_confirms_for_nobody_without_a_known_leader() {
+    let mut leaderless = ready(2);
+    let to_all = Target::Group(0xFF);
+    exchange(&mut leaderless, to_all, Command::SetOutputs(5), &[0, 0]);
+    let mut doubtful = grouped();
+    regroup(&mut doubtful, 1, true, &[]);
+    exchange(&mut doubtful, GROUP, Command::SetOutputs(5), &[0, 0]);
+    assert_eq!(in_doubt(&doubtful, 1), [Setting::Place, Setting::Outputs]);
+    for (session, node) in [(&leaderless, 1), (&leaderless, 2), (&doubtful, 2)] {
+        assert_eq!(in_doubt(session, node), [Setting::Outputs]);
+    }
+}
+
+/// A copy of a held set in doubt goes into doubt at the leader, too.
+#[test]
+fn a_leader_copies_a_doubtful_held_set() {
+    let mut session = grouped();
+    let held = Command::decode(0x47, &[7, 1, 0x80, 0x40]).expect("Set Synch Output");
+    exchange(&mut session, GROUP, held, &[]);
+    exchange(&mut session, GROUP, Command::SynchOutput, &[0, 0]);
+    let expected = [Setting::Outputs, Setting::Pwm, Setting::Held];
+    assert_eq!(in_doubt(&session, 1), expected);
+}
+
+/// A group's reply that isn't clear changes nothing, at nobody.
+#[test]
+fn a_group_s_marked_reply_changes_nothing() {
+    let mut session = grouped();
+    let before = session.clone();
+    exchange(&mut session, GROUP, Command::SetOutputs(5), &[2, 2]);
+    assert_eq!(session, before);
 }
 
 #[test]

@@ -7,7 +7,7 @@ use crate::cases::{self, line_names};
 use crate::cases_sheets::{self, further_exports, further_imports, further_plays, Named};
 use crate::rules::{Mistake, Rules, ALL};
 use crate::{bench, cases_bench, cases_replay, cases_trials, demand3, edges, export, hex, import};
-use crate::{play, replay, trials};
+use crate::{make_trials, play, replay, trials};
 
 /// The seed and the steps of demand 3 that each mistake is tried on.
 const DEMAND3: (u64, usize) = (1, 12_000);
@@ -236,6 +236,61 @@ fn recordings_are_noticed_in_their_own_lines() {
         );
         let own = |kind: &String| kind == "50" || *mistake == Mistake::RecordingKept;
         assert!(kinds.iter().all(own), "{meaning}: {kinds:?}");
+    }
+}
+
+/// What is wrong about whom a group's reply confirms for (request 4), in the
+/// record.
+const ABOUT_LEADERS: [Mistake; 12] = [
+    Mistake::MembersConfirmed,
+    Mistake::LedMembersConfirmed,
+    Mistake::UnledMembersConfirmed,
+    Mistake::LeaderDoubted,
+    Mistake::DoubtfulConfirmed,
+    Mistake::DoubtfulLeaderKnown,
+    Mistake::FirstLeaderTaken,
+    Mistake::EveryLeaderCounts,
+    Mistake::UnconfirmedKept,
+    Mistake::MarkedDoubtsMembers,
+    Mistake::AllHearAlike,
+    Mistake::LeaderCopiesDoubtful,
+];
+
+/// Each is noticed by a stored case, by made inputs and by demand 3.
+#[test]
+fn leaders_are_noticed_everywhere() {
+    let stored = trials_input();
+    let made: Vec<Tried> = (0..20)
+        .map(|seed| Tried::new(make_trials::make(seed, 1500), Vec::new(), trials::run))
+        .collect();
+    for mistake in ABOUT_LEADERS {
+        let rules = Rules::with(mistake);
+        assert!(stored.differences(rules).is_some(), "{mistake:?}, stored");
+        let by_made = made
+            .iter()
+            .filter(|tried| tried.differences(rules).is_some());
+        assert!(by_made.count() >= 2, "{mistake:?}, made");
+        assert!(in_demand3(rules), "{mistake:?}, demand 3");
+    }
+    let old_rule = stored.kinds_differing(Rules::with(Mistake::MembersConfirmed));
+    for kind in ["37", "50"] {
+        assert!(old_rule.contains(kind), "line {kind}");
+    }
+}
+
+/// Where record and history agree in the old reading, the nodes themselves tell:
+/// what one missed is called known.
+#[test]
+fn nodes_that_miss_a_command_are_told_by_the_line() {
+    let rules = Rules::with(Mistake::AllHearAlike);
+    for seed in 1..=3 {
+        let violation = demand3::run(rules, seed, DEMAND3.1).expect_err("a node missed it");
+        assert!(violation.what.contains("called known but differs"));
+        let missed = violation
+            .story
+            .iter()
+            .any(|line| line.ends_with(" misses it"));
+        assert!(missed, "{violation}");
     }
 }
 

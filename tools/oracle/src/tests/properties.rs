@@ -210,5 +210,7 @@ fn demand_3_holds() {
         let counts = demand3::run(RIGHT, seed, 20_000);
         let counts = counts.unwrap_or_else(|violation| panic!("{violation}"));
         assert!(counts.ready > 50 && counts.doubts > 1000 && counts.refused > 100);
+        assert!(counts.missed > 1000, "{counts}");
+        assert!(counts.met.iter().all(|count| *count >= 20), "{counts}");
     }
 }

@@ -53,7 +53,9 @@ fn an_ask() {
          silence before it: node 1: place 00 group FF in doubt; sent",
         "55 < 00 00 | clear | node 1: place 01 group FF",
         "207 < 02 02 | not clear | no change",
-        "245 < 00 00 | clear | node 1: outputs 0005, PWM 40 41; node 2: outputs 0005, PWM 40 41",
+        "227 < 00 00 | clear | node 1: held 0005 40 41; node 2: held 0000 00 00 in doubt",
+        "245 < 00 00 | clear | node 1: outputs 0005, PWM 40 41; \
+         node 2: outputs 0000 in doubt, PWM 00 00 in doubt",
         "300 < 00 00 | clear | nobody waits for it",
         "400 > AA 02 21 02 00 25 | Set Address 02 group 80 leader to node 2 | \
          not the host's, the walk ends",
@@ -89,6 +91,8 @@ fn the_stored_input_says_much() {
         "sent, the session closes, all in doubt",
         "| silence before it: no change; sent\n",
         "| silence before it: node 3: outputs 0000 in doubt; sent\n",
+        "| clear | node 1: PWM 40 41; node 2: PWM 00 00 in doubt\n",
+        "| clear | node 1: timer 00 in doubt; node 2: timer 03 in doubt\n",
         "| no change\n",
         "| nobody waits for it\n",
         "in doubt; node 2:",

@@ -64,7 +64,10 @@ fn quoted(cell: &str) -> Vec<&str> {
 #[test]
 fn recordings_are_replayed_as_printed() {
     for (name, text) in [
-        ("lost-reply", include_str!("../../../../shows/lost-reply.txt")),
+        (
+            "lost-reply",
+            include_str!("../../../../shows/lost-reply.txt"),
+        ),
         ("ask", include_str!("../../../../shows/ask.txt")),
     ] {
         let mut inputs = cases_replay::further().into_iter();

@@ -31,6 +31,44 @@ pub const LOST_REPLY: &str = "\
 < 1796 00 00
 ";
 
+/// `shows/missed-pass.txt`: two gates are to open at once, the leader's reply
+/// tells of the leader alone, and the other is told again by itself.
+pub const MISSED_PASS: &str = "\
+2
+> 0 AA 00
+> 1 21 01
+> 2 FF 21
+< 6 00 00
+> 20 AA 00
+> 21 21 02
+> 22 FF 22
+< 26 00 00
+> 100 AA 01
+> 101 21 01
+> 102 00 23
+< 106 00 00
+> 110 AA 02
+> 111 21 02
+> 112 80 A5
+< 116 00 00
+> 200 AA 01
+> 201 47 01
+> 202 00 00
+> 203 00 49
+< 207 00 00
+> 220 AA 02
+> 221 47 01
+> 222 00 00
+> 223 00 4A
+< 227 00 00
+> 1000 AA 80
+> 1001 05 85
+< 1005 00 00
+> 1400 AA 02
+> 1401 05 07
+< 1405 00 00
+";
+
 /// `shows/ask.txt`: a walk whose first reply is lost, an ask, a group with a
 /// leader, a reply that isn't clear, one that nobody waits for, and a wish for
 /// a second leader, which the host refuses.
@@ -206,6 +244,7 @@ fn told_whole() -> Texts {
     let ready = walk(2);
     vec![
         ("lost-reply", LOST_REPLY.to_string()),
+        ("missed-pass", MISSED_PASS.to_string()),
         ("ask", ASK.to_string()),
         (
             "document",

@@ -68,6 +68,10 @@ fn recordings_are_replayed_as_printed() {
             "lost-reply",
             include_str!("../../../../shows/lost-reply.txt"),
         ),
+        (
+            "missed-pass",
+            include_str!("../../../../shows/missed-pass.txt"),
+        ),
         ("ask", include_str!("../../../../shows/ask.txt")),
     ] {
         let mut inputs = cases_replay::further().into_iter();

@@ -29,10 +29,10 @@ pub record Exact (e : Entry) (past : List Counted) (k : ℕ) : Type 0 where
   pub known : (s : Setting) → knows e s ≡ not (inDoubt past k s)
   pub place : shows e place ≡ lastPlace past k
 
-abbrev pub confirms : Answer → Bool
-confirms Clear = true
-confirms Marked = false
-confirms Silent = false
+abbrev pub isClear : Answer → Bool
+isClear Clear = true
+isClear Marked = false
+isClear Silent = false
 
 -- an answer that makes its command count
 abbrev pub Counts : Answer → Type 0
@@ -48,7 +48,7 @@ Way May g o = (g ≡ true) × (o ≡ false)
 
 -- one setting; d says which were in doubt
 flag-exact : {s : Setting} (a : Answer) → Counts a → (r : Reach) (f : Effect s) (e : Entry) (g o : Bool) (d : Setting → Bool) → Way r g o
-    → ((t : Setting) → knows e t ≡ not (d t)) → noteFlag a r f e ≡ not (cond (g && writes f) (not (confirms a && o) || copied f d) (d s))
+    → ((t : Setting) → knows e t ≡ not (d t)) → noteFlag a r f e ≡ not (cond (g && writes f) (not (isClear a && o) || copied f d) (d s))
 flag-exact {s} Clear t Misses f e g o d w p = rw w (p s)
 flag-exact {s} Clear t Hits keeps e g o d w p = rw (and-false g) (p s)
 flag-exact Clear t Hits (stores v) e g o d w p = rw (w .0, w .1) refl
@@ -103,7 +103,7 @@ Sendable (address.Individual i) c = Unit {0}
 Sendable (address.Group g) c = writes (effect c place) ≡ false
 
 place-node : (a : Answer) → Counts a → (b : Bool) (f : Effect place) → copied f (λ t. true) ≡ false → (e : Entry) (q : Place) → shows e place ≡ q
-    → noteValue a (cond b Hits Misses) f e ≡ cond (confirms a && b) (placeIn f q) q
+    → noteValue a (cond b Hits Misses) f e ≡ cond (isClear a && b) (placeIn f q) q
 place-node Clear t true keeps n e q p = p
 place-node Clear t true (stores v) n e q p = refl
 place-node Clear t true (copies u f) n e q p = absurd (true≢false n)
@@ -111,7 +111,7 @@ place-node Clear t false f n e q p = p
 place-node Silent t b f n e q p = p
 
 place-group : (a : Answer) → Counts a → (r : Reach) (f : Effect place) → writes f ≡ false → (e : Entry) (q : Place) → shows e place ≡ q
-    → noteValue a r f e ≡ cond (confirms a && false) (placeIn f q) q
+    → noteValue a r f e ≡ cond (isClear a && false) (placeIn f q) q
 place-group Clear t Misses f n e q p = p
 place-group Clear t Hits keeps n e q p = p
 place-group Clear t Hits (stores v) n e q p = absurd (true≢false n)
@@ -120,7 +120,7 @@ place-group Clear t May f n e q p = p
 place-group Silent t r f n e q p = p
 
 place-exact : (a : Answer) → Counts a → (to : Address) (c : Command) → Sendable to c → (e : Entry) (past : List Counted) (k : ℕ) → Exact e past k
-    → shows (noteOf a (reachOf to k e) c e) place ≡ lastPlace (record { to = to; command = c; confirmed = confirms a } ∷ past) k
+    → shows (noteOf a (reachOf to k e) c e) place ≡ lastPlace (record { to = to; command = c; clear = isClear a } ∷ past) k
 place-exact a u (address.Individual i) c s e past k x =
     shows-noted a (reachOf (address.Individual i) k e) c e place ∙ place-node a u (eqb (i .0) k) (effect c place) (not-copied c) e (lastPlace past k) (x .place)
 place-exact a u (address.Group g) c s e past k x =
@@ -129,7 +129,7 @@ place-exact a u (address.Group g) c s e past k x =
 
 -- one more command that counts
 pub exact-step : (a : Answer) → Counts a → (to : Address) (c : Command) → Sendable to c → (e : Entry) (past : List Counted) (k : ℕ) → Exact e past k
-    → Exact (noteOf a (reachOf to k e) c e) (record { to = to; command = c; confirmed = confirms a } ∷ past) k
+    → Exact (noteOf a (reachOf to k e) c e) (record { to = to; command = c; clear = isClear a } ∷ past) k
 exact-step a u to c s e past k x = record {
   known = λ t. knows-noted a (reachOf to k e) c e t
       ∙ flag-exact a u (reachOf to k e) (effect c t) e (goes to k (inDoubt past k place) (lastPlace past k)) (answers to (inDoubt past k place) (lastPlace past k))

@@ -18,7 +18,7 @@ use Rattle.entry.proofs.Entries.{quiet-noted}
 use Rattle.ledger.specs.Ledger.{reachOf}
 use Rattle.session.specs.declared.Session.{Session}
 use Rattle.line.specs.History.{Sending, sends, Counted, count}
-use Rattle.line.proofs.Exact.{Exact, confirms, Counts, Sendable, exact-step}
+use Rattle.line.proofs.Exact.{Exact, isClear, Counts, Sendable, exact-step}
 use Rattle.line.proofs.Due.{Due, next, ask, order, regroup}
 use Rattle.line.proofs.Closing.{entryAt, Concluded, settles, walkOn}
 
@@ -27,7 +27,7 @@ Exactly h past = (i : ℕ) → i < h .n → Exact (entryAt h i) past (suc i)
 
 -- an answered command, by what its answer makes of it
 module _ (h t : Session) (past : List Counted) (x : Exactly h past) (to : Address) (c : Command) (w : ℕ) where
-  counts : (a : Answer) → Counts a → Sendable to c → Concluded h a to c w t → Exactly t (record { to = to; command = c; confirmed = confirms a } ∷ past)
+  counts : (a : Answer) → Counts a → Sendable to c → Concluded h a to c w t → Exactly t (record { to = to; command = c; clear = isClear a } ∷ past)
   counts a u s k i l =
       let m : i < h .n = omega (arith, k .nodes) in
       rw (k .entry i m) (exact-step a u to c s (entryAt h i) past (suc i) (x i m))

@@ -48,7 +48,7 @@ last-in-doubt : {past : List Counted} {k : ℕ} {s : Setting} {x : Counted} {bef
 last-in-doubt {k = k} {s = s} (this {x = x} {before = before} c) u =
     let lost : Bool = inDoubt before k place in
     let p : Place = lastPlace before k in
-    rw c (from-one (confirmedAt x lost p) (groupLost (x .to) lost) (copied (effect (x .command) s) (inDoubt before k)) (lost-unconfirmed (x .confirmed) (x .to) lost p) u)
+    rw c (from-one (confirmedAt x lost p) (groupLost (x .to) lost) (copied (effect (x .command) s) (inDoubt before k)) (lost-unconfirmed (x .clear) (x .to) lost p) u)
 last-in-doubt (older c l) u = rw c (last-in-doubt l u)
 
 pub same-words : (past : List Counted) (k : ℕ) (s : Setting) → (inDoubt past k s ≡ true) ↔ Doubtful past k s

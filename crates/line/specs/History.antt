@@ -31,13 +31,13 @@ pub record Sent : Type 0 where
 pub record Counted : Type 0 where
   pub to : Address
   pub command : Command
-  pub confirmed : Bool
+  pub clear : Bool
 
 -- what is sent counts as a command to a node or a group: the walk's Set Address goes to the node that it gives its address, and an "ask" is about that Set Address
 abbrev pub countsAs : Sending → Bool → Counted
-countsAs (gives k) b = record { to = nodeAt k; command = SetAddress (givenPlace k); confirmed = b }
-countsAs (asks k) b = record { to = nodeAt k; command = SetAddress (givenPlace k); confirmed = b }
-countsAs (sends to c) b = record { to = to; command = c; confirmed = b }
+countsAs (gives k) b = record { to = nodeAt k; command = SetAddress (givenPlace k); clear = b }
+countsAs (asks k) b = record { to = nodeAt k; command = SetAddress (givenPlace k); clear = b }
+countsAs (sends to c) b = record { to = to; command = c; clear = b }
 
 -- a good clear reply confirms, an "ask"'s "confirms that Set Address"; "A reply with the checksum bit set makes its command count as unsent";
 -- silence leaves a command unconfirmed, and an "ask" tells nothing by it
@@ -68,7 +68,7 @@ placeIn (copies t f) p = p
 abbrev pub lastPlace : List Counted → ℕ → Place
 lastPlace [] k = settingsPowerUp .place
 lastPlace (x ∷ past) k =
-    cond (x .confirmed && toNode (x .to) k) (placeIn (effect (x .command) place) (lastPlace past k)) (lastPlace past k)
+    cond (x .clear && toNode (x .to) k) (placeIn (effect (x .command) place) (lastPlace past k)) (lastPlace past k)
 
 -- a copy of a setting that is in doubt
 abbrev pub copied : {s : Setting} → Effect s → (Setting → Bool) → Bool
@@ -87,9 +87,9 @@ abbrev pub answers : Address → Bool → Place → Bool
 answers (address.Individual i) lost p = true
 answers (address.Group g) lost p = not lost && p .leader && eqb (p .group .0) (g .0)
 
--- so of command x node k was confirmed to have it
+-- command x is confirmed at node k
 abbrev pub confirmedAt : Counted → Bool → Place → Bool
-confirmedAt x lost p = x .confirmed && answers (x .to) lost p
+confirmedAt x lost p = x .clear && answers (x .to) lost p
 
 -- "went to a group while the node's group was in doubt"
 abbrev pub groupLost : Address → Bool → Bool
@@ -113,7 +113,8 @@ pub data Last (k : ℕ) (s : Setting) : List Counted → Counted → List Counte
   this : {x : Counted} {before : List Counted} → could x before k s ≡ true → Last k s (x ∷ before) x before
   older : {x y : Counted} {past before : List Counted} → could y past k s ≡ false → Last k s past x before → Last k s (y ∷ past) x before
 
--- it "was unconfirmed, went to a group while the node's group was in doubt, or copied a setting in doubt"; the second is never the only one, since then the node isn't known to lead
+-- it "was unconfirmed, went to a group while the node's group was in doubt, or copied a setting in doubt";
+-- the second is never the only one: a node in doubt about its place isn't known to lead, and so the command was unconfirmed there
 abbrev pub Unsure : Counted → List Counted → ℕ → Setting → Type 0
 Unsure x before k s =
     (confirmedAt x (inDoubt before k place) (lastPlace before k) ≡ false)

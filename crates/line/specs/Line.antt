@@ -62,21 +62,25 @@ parted gets [] ms = []
 parted gets (n ∷ ns) [] = n ∷ ns
 parted gets (n ∷ ns) (m ∷ ms) = cond (gets zero) m n ∷ parted (λ i. gets (suc i)) ns ms
 
+-- the nodes after an arrival
 abbrev pub nodesAfter : Arrival → List Node → List Node
 nodesAfter q ns = parted (q .gets) ns (takenBy (frameAlone (q .bytes)) (q .bytes) ns)
 
--- and what they say: of those that would reply, only who gets the packet does
+-- of the nodes that would reply, by index, those that get the packet
 abbrev pub getting : (ℕ → Bool) → List ℕ → List ℕ
 getting gets [] = []
 getting gets (i ∷ is) = cond (gets i) (i ∷ getting gets is) (getting gets is)
 
+-- what is said: as on the chain, by these alone
 abbrev pub saidAmong : (ℕ → Bool) → Address → Message → List Node → Said
 saidAmong gets to m ns = cond (isAnswered m) (saidBy m ns (searchOf (getting gets (repliersFrom to 0 true ns)))) silence
 
+-- by whoever gets the bytes q
 abbrev pub spokenBy : (ℕ → Bool) → Framed → List ℕ → List Node → Said
 spokenBy gets (framed.Whole to k n) q ns = saidAmong gets to (messageAs k q) ns
 spokenBy gets (framed.Refused why) q ns = silence
 
+-- what the nodes say to an arrival
 abbrev pub saidAfter : Arrival → List Node → Said
 saidAfter q ns = spokenBy (q .gets) (frameAlone (q .bytes)) (q .bytes) ns
 

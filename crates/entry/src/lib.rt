@@ -28,8 +28,8 @@ pub struct Entry {
     pub known: Known,
 }
 
-// What a command is to the node: it goes past it; it goes to it, and a reply to it is this node's own; it may be written, and no reply tells whether it was,
-// since it went to a group that the node is not known to lead.
+// What a command is to the node. Misses: it doesn't go there. Hits: it goes there, and a reply to it is this node's own.
+// May: it went to a group that the node isn't known to lead; the node may be written, and no reply tells whether it was.
 pub enum Reach {
     Misses,
     Hits,

@@ -32,7 +32,7 @@ fn least(n: u8) -> u8
 }
 
 // What a command to a group is to a node, by its place, if that is known.
-// A reply is the leader's: its members may have missed what it heard.
+// A reply is the leader's: the group's other members may have missed the command.
 fn group_reach(g: Group, known: bool, place: Place) -> Reach
     ensures { λ r. ⌜ r ≡ groupReach g known place ⌝ }
 {

@@ -26,7 +26,7 @@ use Rattle.calls.specs.Calls.{callPerform, TypedCall}
 use Rattle.calls.proofs.Standing.{call-not-done}
 use Rattle.line.specs.History.{Sending, Sent, counted}
 use Rattle.line.specs.Call.{whatOf, resets}
-use Rattle.line.specs.Line.{Line, quiet, going, coming, lingering, Arrival, toNone, Arrives, Nothing, absent, Returns, quietly, mixed, takenBy, nodesAfter, saidAfter, reportedOf, answerIn}
+use Rattle.line.specs.Line.{Line, quiet, going, coming, lingering, Arrival, Arrives, Nothing, absent, Returns, quietly, mixed, takenBy, nodesAfter, saidAfter, reportedOf, answerIn}
 use Rattle.line.specs.Line as line
 use Rattle.line.specs.World.{World, hosting, callEnded, callMade, Comes, start, power, unpowered, call, deliver, report, hurry, delay, stray, bench}
 use Rattle.line.proofs.Refusing.{refused-power, refused-call, refused-report}
@@ -151,10 +151,10 @@ lingering-settles {h} {ns} {past} {p} l q a =
     rw (l .host, l .history) (settles-again (l .waiting) (nodesAfter q ns) (l .earlier) (l .what) none
     (arrives (l .waiting) ns (l .earlier) (l .what) p (l .sent) q none a (absent-of (saidAfter q ns))))
 
--- it has come to nobody so far
+-- where it comes to nobody the nodes are as they were
 never-comes : {h : Session} {ns : List Node} {past : List Sent} {p : List ℕ} → Lingering h ns past p → Settled h ns past
 never-comes {h} {ns} {past} {p} l =
-    subst (λ (ms : List Node). Settled h ms past) (parted-none ns (takenBy (frameAlone p) p ns)) (lingering-settles l (toNone p) line.Arrives.whole)
+    subst (λ (ms : List Node). Settled h ms past) (parted-none ns (takenBy (frameAlone p) p ns)) (lingering-settles l (record { bytes = p; gets = λ i. false }) line.Arrives.whole)
 
 pub when-idle : (h : Session) (ns : List Node) (past : List Sent) (l : Line) → LineHolds h ns past l → h .exchange ≡ Idle → Settled h ns past
 when-idle h ns past quiet s e = s

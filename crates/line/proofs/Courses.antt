@@ -13,16 +13,17 @@ use Rattle.command.specs.Command.{listedOf, commandRead}
 use Rattle.command.specs.Build.{buildFor, commandBuild}
 use Rattle.status.specs.Status.{judgeOf}
 use Rattle.node.specs.declared.state.Node.{Node}
+use Rattle.node.specs.Setting.{Setting, get}
 use Rattle.reply.specs.Items.{replyItems}
 use Rattle.reply.specs.Reply.{replyOf}
 use Rattle.survey.specs.One.{doesAct, doesReply, turned}
 use Rattle.survey.specs.Chain.{blankNode, after}
 use Rattle.survey.specs.Delivery.{frameAlone}
 use Rattle.entry.specs.declared.Entry.{Entry}
-use Rattle.entry.specs.Entry.{entryPowerUp}
+use Rattle.entry.specs.Entry.{knows, shows, entryPowerUp}
 use Rattle.ledger.specs.Ledger.{ledgerPowerUp, ledgerLeast, eachFrom, settleOf}
 use Rattle.session.specs.declared.Exchange.the-variants.{Idle, Waiting}
-use Rattle.session.specs.Session.{isValid, isClosed, isAskDue, nodeAt, givenPlace}
+use Rattle.session.specs.Session.{isValid, isClosed, isAskDue, entryOf, nodeAt, givenPlace}
 use Rattle.start.specs.Start.{startPowerUp}
 use Rattle.sending.specs.Sending.{isWaiting, freeCheck, openExchange, transmitOf}
 use Rattle.walk.specs.Walk.{askCheck, askOf}
@@ -32,8 +33,9 @@ use Rattle.calls.specs.declared.Call.the-variants.{Next, Ask, Order}
 use Rattle.examples.specs.Example.{buffer, knownBut, entryWith, placeInDoubt, addressed, pair}
 use Rattle.line.specs.History.{gives, asks, sends}
 use Rattle.line.specs.Line.{quiet, going}
-use Rattle.line.specs.World.{Comes, call}
-use Rattle.line.specs.Courses.{Courses, unasked, asked, lost, again}
+use Rattle.line.specs.World.{World, Comes, call}
+use Rattle.line.specs.Demand3.{nodeOf}
+use Rattle.line.specs.Courses.{Stands, Courses, unasked, asked, lost, again}
 use Rattle.line.specs.Late.{Late}
 use Rattle.line.proofs.Rounds.{rest, zeros, up, worldAt, Round, round, replied, unheard, powers, placed, given, opened1, next-1, walks}
 use Rattle.line.proofs.Passes.{group-passed, by-itself, leader-unknown}
@@ -94,15 +96,17 @@ late = record {
   differs = λ e. true≢false (cc (ap (λ (p : Place). p .address .0) (e ∙ ap (λ (ns : List Node). getD ns 0 blankNode .settings .place) (next-1 .nodes))));
 }
 
+stands : {k : ℕ} {s : Setting} {w : World} → Stands k s (knows (entryOf (w .host) k) s) (shows (entryOf (w .host) k) s) (get (nodeOf (w .nodes) k .settings) s) w
+stands = record { knowing = refl; showing = refl; holding = refl }
+
 pub courses : Courses
 courses = record {
-  addressing = record { world = _; comes = unanswered; up = refl; free = refl; history = refl; two = refl; knowing = refl; showing = refl; holding = refl };
-  addressed = record { world = _; comes = answered; up = refl; free = refl; history = refl; two = refl; knowing = refl; showing = refl; holding = refl };
-  doubt = record { world = _; comes = unsure; up = refl; free = refl; history = refl; two = refl; knowing = refl; showing = refl; holding = refl };
-  known = record { world = _; comes = sure; up = refl; free = refl; history = refl; two = refl; knowing = refl; showing = refl; holding = refl };
-  leading = record { world = _; comes = group-passed false; up = refl; free = refl; history = refl; two = refl; knowing = refl; showing = refl; holding = refl };
-  missing = record { world = _; comes = group-passed false; up = refl; free = refl; history = refl; two = refl; knowing = refl; showing = refl; holding = refl };
-  following = record { world = _; comes = group-passed true; up = refl; free = refl; history = refl; two = refl; knowing = refl; showing = refl; holding = refl };
-  alone = record { world = _; comes = by-itself; up = refl; free = refl; history = refl; two = refl; knowing = refl; showing = refl; holding = refl };
-  unknown = record { world = _; comes = leader-unknown; up = refl; free = refl; history = refl; two = refl; knowing = refl; showing = refl; holding = refl };
+  addressing = record { world = _; comes = unanswered; up = refl; free = refl; history = refl; two = refl; ends = stands };
+  addressed = record { world = _; comes = answered; up = refl; free = refl; history = refl; two = refl; ends = stands };
+  doubt = record { world = _; comes = unsure; up = refl; free = refl; history = refl; two = refl; ends = stands };
+  known = record { world = _; comes = sure; up = refl; free = refl; history = refl; two = refl; ends = stands };
+  missing = record { world = _; comes = group-passed false; up = refl; free = refl; history = refl; two = refl; ends = (stands, stands) };
+  following = record { world = _; comes = group-passed true; up = refl; free = refl; history = refl; two = refl; ends = (stands, stands) };
+  alone = record { world = _; comes = by-itself; up = refl; free = refl; history = refl; two = refl; ends = stands };
+  unknown = record { world = _; comes = leader-unknown; up = refl; free = refl; history = refl; two = refl; ends = stands };
 }

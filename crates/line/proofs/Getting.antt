@@ -6,14 +6,13 @@ use mathlib.Core.Path.{_≡_, refl, ap}
 use native.Mathlib.Omega.{arith}
 use lib.ListN.{length}
 use Rattle.wire.specs.declared.address.Address.{Address}
-use Rattle.wire.proofs.Choice.{same}
+use Rattle.wire.proofs.Choice.{same, chose-first}
+use Rattle.wire.proofs.Impossible.{impossible}
 use Rattle.node.specs.declared.state.Node.{Node}
 use Rattle.message.specs.declared.Message.{Message}
 use Rattle.message.specs.Message.{isAnswered}
 use Rattle.survey.specs.Chain.{repliersFrom, replierIn, reply, collided, said}
 use Rattle.survey.proofs.Repliers.{Rising, lower, Replies, repliers-rise, Speaks, one-speaks, Two, two-speak}
-use Rattle.survey.proofs.Meaning.{answered-by}
-use Rattle.survey.proofs.Collisions.{collided-by}
 use Rattle.line.specs.Line.{parted, getting, saidAmong}
 use Rattle.line.proofs.Invariant.{at}
 
@@ -75,8 +74,8 @@ module _ (gets : ℕ → Bool) (to : Address) (m : Message) (ns : List Node) whe
 
   -- the one reply is that of a node that gets the packet, hears and answers
   pub among-says : (r : List ℕ) → saidAmong gets to m ns ≡ reply r → Speaks (Calling gets to ns) m ns r
-  among-says r e = one-speaks (Calling gets to ns) m ns (getting gets (repliersFrom to 0 true ns)) r rises (answered-by (isAnswered m) _ r e .1)
+  among-says r e = one-speaks (Calling gets to ns) m ns (getting gets (repliersFrom to 0 true ns)) r rises (chose-first (isAnswered m) e (λ z. impossible cc) .1)
 
-  -- several are those of two that would reply if all got it
+  -- several are those of two such nodes
   pub among-two : saidAmong gets to m ns ≡ collided → Two (Calling gets to ns)
-  among-two e = two-speak (Calling gets to ns) m ns (getting gets (repliersFrom to 0 true ns)) rises (collided-by (isAnswered m) _ e)
+  among-two e = two-speak (Calling gets to ns) m ns (getting gets (repliersFrom to 0 true ns)) rises (chose-first (isAnswered m) e (λ z. impossible cc) .1)

@@ -35,7 +35,7 @@ use Rattle.examples.specs.Example.{addressed, pair}
 use Rattle.line.specs.History.{sends}
 use Rattle.line.specs.Line.{quiet}
 use Rattle.line.specs.World.{Comes}
-use Rattle.line.specs.Courses.{walked, group80, inGroup, opened, held, passed, handed, unled}
+use Rattle.line.specs.Courses.{walked, group80, inGroup, opened, armed, passed, handed, leaderInDoubt}
 use Rattle.line.proofs.Rounds.{rest, worldAt, Round, round, replied, unheard, placed, walks}
 
 -- both nodes have their addresses; what waits, and the two entries
@@ -97,7 +97,7 @@ unfolding orderOf orderCheck freeCheck isClosed isValid isWaiting transmitOf ope
 hold-2 = record { typed = tt; sends = λ past. refl; nodes = refl; says = refl }
 
 -- the group is made, and both hold their set
-ready : Comes (worldAt (session Idle (holdingEntry 1 true) (holdingEntry 2 false)) (holding 1 true ∷ holding 2 false ∷ []) quiet held)
+ready : Comes (worldAt (session Idle (holdingEntry 1 true) (holdingEntry 2 false)) (holding 1 true ∷ holding 2 false ∷ []) quiet armed)
 unfolding reportOf finishOf isClosed isValid concludeOf isGiving isAsking settleOf eachFrom ledgerLeast judgeOf endsInSum total
 ready = round (round (round (round walks leads (replied refl)) follows (replied refl)) hold-1 (replied refl)) hold-2 (replied refl)
 
@@ -148,6 +148,6 @@ unfolding orderOf orderCheck freeCheck isClosed isValid isWaiting transmitOf ope
 command = record { typed = omega arith; sends = λ past. refl; nodes = refl; says = refl }
 
 pub leader-unknown : Comes (worldAt (session Idle (doubtOf (SetOutputs 5) (doubtOf (SetAddress (inGroup 1 true)) (addressed 1))) (addressed 2))
-    (actOf (SetOutputs 5) (grouped 1 true) ∷ placed 2 0 ∷ []) quiet unled)
+    (actOf (SetOutputs 5) (grouped 1 true) ∷ placed 2 0 ∷ []) quiet leaderInDoubt)
 unfolding reportOf finishOf isClosed isValid concludeOf isGiving isAsking settleOf eachFrom ledgerLeast judgeOf endsInSum total
 leader-unknown = round leader-in-doubt command (replied refl)

@@ -39,19 +39,17 @@ told Clear May did m c = tt
 told Marked r did m c = m refl
 told Silent r did m c = tt
 
--- where a test says whom the command reaches: whoever acts must pass it, and whoever is reached has passed it
-pub fits-test : (b did : Bool) → (did ≡ true → b ≡ true) → Fits (cond b Hits Misses) did
-fits-test true did f = tt
-fits-test false true f = sym (f refl)
-fits-test false false f = refl
-
--- the same of a group's members, of whom the leader alone is sure to have what was answered
+-- whoever acts must pass the test that says whom the command reaches; of a group's members, who pass it, the leader alone counts as hit
 pub fits-member : (b leads did : Bool) → (did ≡ true → b ≡ true) → Fits (cond b (cond leads Hits May) Misses) did
 fits-member true true did f = tt
 fits-member true false did f = tt
 fits-member false leads true f = sym (f refl)
 fits-member false leads false f = refl
 
+pub fits-test : (b did : Bool) → (did ≡ true → b ≡ true) → Fits (cond b Hits Misses) did
+fits-test b did f = fits-member b true did f
+
+-- and whoever is hit has passed it
 pub hits-test : (b : Bool) → cond b Hits Misses ≡ Hits → b ≡ true
 hits-test true e = refl
 hits-test false e = absurd (true≢false (cc e))

@@ -19,17 +19,21 @@ use Rattle.line.specs.History.{Sent, gives, asks, sends}
 use Rattle.line.specs.World.{World, Comes}
 use Rattle.line.specs.Demand3.{nodeOf}
 
--- a course of two nodes that ends with no exchange open, and what it comes to: whether the host calls a setting of node k known, what it shows, what the node holds
-pub record Course (past : List Sent) (k : ℕ) (s : Setting) (known : Bool) (shown held : Value s) : Type 0 where
+-- of setting s of node k: whether the host calls it known, what it shows, what the node holds
+pub record Stands (k : ℕ) (s : Setting) (known : Bool) (shown holds : Value s) (w : World) : Type 0 where
+  pub knowing : knows (entryOf (w .host) k) s ≡ known
+  pub showing : shows (entryOf (w .host) k) s ≡ shown
+  pub holding : get (nodeOf (w .nodes) k .settings) s ≡ holds
+
+-- a course of two nodes that ends with no exchange open, and what it comes to
+pub record Course (past : List Sent) (comesTo : World → Type 0) : Type 0 where
   pub world : World
   pub comes : Comes world
   pub up : world .up ≡ true
   pub free : world .host .exchange ≡ Idle
   pub history : world .past ≡ past
   pub two : world .host .n ≡ 2
-  pub knowing : knows (entryOf (world .host) k) s ≡ known
-  pub showing : shows (entryOf (world .host) k) s ≡ shown
-  pub holding : get (nodeOf (world .nodes) k .settings) s ≡ held
+  pub ends : comesTo world
 
 -- the first "next", whose reply is lost; and then the "ask", replied to
 abbrev pub unasked : List Sent
@@ -59,32 +63,31 @@ abbrev pub opened : Held
 opened = record { outputs = 5; pwm = record { first = 0; second = 0 } }
 
 -- the walk; then each node, by itself, is given its place in the group and a set to hold, all of it replied to
-abbrev pub held : List Sent
-held =
+abbrev pub armed : List Sent
+armed =
     record { what = sends (nodeAt 2) (SetSynchOutput opened); answer = Clear } ∷ record { what = sends (nodeAt 1) (SetSynchOutput opened); answer = Clear }
     ∷ record { what = sends (nodeAt 2) (SetAddress (inGroup 2 false)); answer = Clear } ∷ record { what = sends (nodeAt 1) (SetAddress (inGroup 1 true)); answer = Clear } ∷ walked
 
 -- then Synch Output to the group, replied to; and the same to node 2 by itself, replied to
 abbrev pub passed : List Sent
-passed = record { what = sends group80 SynchOutput; answer = Clear } ∷ held
+passed = record { what = sends group80 SynchOutput; answer = Clear } ∷ armed
 
 abbrev pub handed : List Sent
 handed = record { what = sends (nodeAt 2) SynchOutput; answer = Clear } ∷ passed
 
 -- the walk; node 1 is to lead the group, and the reply is lost; then Set Outputs 5 to the group, replied to
-abbrev pub unled : List Sent
-unled = record { what = sends group80 (SetOutputs 5); answer = Clear } ∷ record { what = sends (nodeAt 1) (SetAddress (inGroup 1 true)); answer = Silent } ∷ walked
+abbrev pub leaderInDoubt : List Sent
+leaderInDoubt = record { what = sends group80 (SetOutputs 5); answer = Clear } ∷ record { what = sends (nodeAt 1) (SetAddress (inGroup 1 true)); answer = Silent } ∷ walked
 
--- where a reply is lost, the node has done what it was told, and the host is in doubt and shows the last known value; afterwards it knows.
--- Of a group's command the leader is known; a member that missed it is in doubt and holds the old outputs, as is one that did not, which holds the new ones; by itself it is known.
--- A reply from a leader that isn't known makes nothing known
+-- Where a reply is lost, the node has done what it was told, and the host is in doubt and shows the last known value; afterwards it knows.
+-- Of a group's command the leader is known. A member is in doubt, whether it missed the command and holds the old outputs, or got it and holds the new ones;
+-- a command to it alone makes it known. Where no leader is known, a reply makes nothing known
 pub record Courses : Type 0 where
-  pub addressing : Course unasked 1 place false (settingsPowerUp .place) (givenPlace 1)
-  pub addressed : Course asked 1 place true (givenPlace 1) (givenPlace 1)
-  pub doubt : Course lost 2 (gate outputs) false 0 5
-  pub known : Course again 2 (gate outputs) true 5 5
-  pub leading : Course passed 1 (gate outputs) true 5 5
-  pub missing : Course passed 2 (gate outputs) false 0 0
-  pub following : Course passed 2 (gate outputs) false 0 5
-  pub alone : Course handed 2 (gate outputs) true 5 5
-  pub unknown : Course unled 1 (gate outputs) false 0 5
+  pub addressing : Course unasked (Stands 1 place false (settingsPowerUp .place) (givenPlace 1))
+  pub addressed : Course asked (Stands 1 place true (givenPlace 1) (givenPlace 1))
+  pub doubt : Course lost (Stands 2 (gate outputs) false 0 5)
+  pub known : Course again (Stands 2 (gate outputs) true 5 5)
+  pub missing : Course passed (λ w. Stands 1 (gate outputs) true 5 5 w × Stands 2 (gate outputs) false 0 0 w)
+  pub following : Course passed (λ w. Stands 1 (gate outputs) true 5 5 w × Stands 2 (gate outputs) false 0 5 w)
+  pub alone : Course handed (Stands 2 (gate outputs) true 5 5)
+  pub unknown : Course leaderInDoubt (Stands 1 (gate outputs) false 0 5)

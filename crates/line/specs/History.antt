@@ -82,12 +82,12 @@ abbrev pub goes : Address → ℕ → Bool → Place → Bool
 goes (address.Individual i) k lost p = eqb (i .0) k
 goes (address.Group g) k lost p = lost || eqb (p .group .0) (g .0)
 
--- "A good clear reply to a group command confirms only the leader, if known": the reply to a command that goes to node k is known to be its own
+-- "A good clear reply to a group command confirms only the leader, if known": the reply to a command that goes to node k is known to be its own; p and `lost` as before
 abbrev pub answers : Address → Bool → Place → Bool
 answers (address.Individual i) lost p = true
 answers (address.Group g) lost p = not lost && p .leader && eqb (p .group .0) (g .0)
 
--- command x is confirmed at node k
+-- command x, if it could have written node k, is confirmed there
 abbrev pub confirmedAt : Counted → Bool → Place → Bool
 confirmedAt x lost p = x .clear && answers (x .to) lost p
 

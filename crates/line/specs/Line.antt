@@ -1,6 +1,6 @@
 -- Demand 3's line, with document 02, request 4: what comes to the nodes, what they make of it, what comes back. Nobody else sends on it.
 use Prim.Native.Nat.{ℕ, zero, suc}
-use mathlib.Core.Bool.{Bool, true, false, cond}
+use mathlib.Core.Bool.{Bool, true, cond}
 use mathlib.Core.List.{List, [], _∷_}
 use mathlib.Core.Option.{Option, none, some}
 use Rattle.wire.specs.declared.address.Address.{Address}
@@ -38,15 +38,12 @@ pub record Arrival : Type 0 where
   pub bytes : List ℕ
   pub gets : ℕ → Bool
 
--- they come to all nodes, as on the bench; they come to none
+-- they come to all nodes, as on the bench
 abbrev pub toAll : List ℕ → Arrival
 toAll q = record { bytes = q; gets = λ i. true }
 
-abbrev pub toNone : List ℕ → Arrival
-toNone q = record { bytes = q; gets = λ i. false }
-
 -- "each separately hears a whole command or misses it; a changed command is still changed alike for those that hear it":
--- one byte other than header and command byte is changed; "not at all": to none
+-- one byte other than header and command byte is changed; "not at all": nobody gets it
 pub data Arrives (p : List ℕ) : Arrival → Type 0 where
   whole : {gets : ℕ → Bool} → Arrives p (record { bytes = p; gets = gets })
   damaged : {q : List ℕ} {gets : ℕ → Bool} → Damaged p q → Arrives p (record { bytes = q; gets = gets })

@@ -93,7 +93,7 @@ pub data Comes : World → Type 0 where
   unpowered : {w : World} → Comes w → (n : ℕ) (why : Refusal) → startPowerUp (w .host) n .end ≡ Refused why → Comes (hosting (startPowerUp (w .host) n .session) w)
   -- a call, accepted or refused, with any buffer, at any time
   call : {w : World} → Comes w → (c : Call) → TypedCall c → (out : List ℕ) → Comes (callMade c out w)
-  -- its packet comes to each node that gets it, and what they say comes back
+  -- its packet comes to all nodes, to some or to none, and what those say comes back
   deliver : {w : World} → Comes w → (what : Sending) (p : List ℕ) → w .line ≡ going what p
       → (q : Arrival) (r : Option (List ℕ)) → Arrives p q → Returns (saidAfter q (w .nodes)) r → Comes (delivered q what r w)
   -- what came is reported as it came

@@ -1,20 +1,17 @@
 -- Several replies at once come from two nodes.
-use mathlib.Core.Bool.{Bool, true, false, cond}
+use mathlib.Core.Bool.{true}
 use mathlib.Core.List.{List}
 use mathlib.Core.Path.{_≡_}
 use Rattle.wire.specs.declared.address.Address.{Address}
+use Rattle.wire.proofs.Choice.{chose-first}
 use Rattle.wire.proofs.Impossible.{impossible}
 use Rattle.node.specs.declared.state.Node.{Node}
 use Rattle.message.specs.declared.Message.{Message}
 use Rattle.message.specs.Message.{isAnswered}
-use Rattle.survey.specs.Chain.{repliersFrom, replierIn, Said, silence, collided, said, saidBy}
+use Rattle.survey.specs.Chain.{repliersFrom, replierIn, collided, said}
 use Rattle.survey.proofs.Repliers.{Replies, repliers-rise, Two, two-speak}
-
-pub collided-by : (t : Bool) (s : Said) → cond t s silence ≡ collided → s ≡ collided
-collided-by true s e = e
-collided-by false s e = impossible cc
 
 pub collision-two : (to : Address) (h : Message) (l : List Node) → said to h l ≡ collided → Two (Replies to l)
 unfolding said replierIn
 collision-two to h l e =
-    two-speak (Replies to l) h l (repliersFrom to 0 true l) (repliers-rise to l) (collided-by (isAnswered h) (saidBy h l (replierIn to l)) e)
+    two-speak (Replies to l) h l (repliersFrom to 0 true l) (repliers-rise to l) (chose-first (isAnswered h) e (λ z. impossible cc) .1)

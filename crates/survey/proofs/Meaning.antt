@@ -7,7 +7,7 @@ use native.Mathlib.Omega.{arith}
 use native.Mathlib.Nat.{not-suc-le-zero, le-of-suc-le-suc, add-suc, suc-add, add-zero, zero-add}
 use lib.ListN.{length, getD}
 use Rattle.wire.specs.declared.address.Address.{Address}
-use Rattle.wire.proofs.Choice.{same}
+use Rattle.wire.proofs.Choice.{same, chose-first}
 use Rattle.wire.proofs.Impossible.{impossible}
 use Rattle.node.specs.declared.state.Node.{Node}
 use Rattle.message.specs.declared.Message.{Message}
@@ -17,8 +17,8 @@ use Rattle.node.specs.Node.{takeOf}
 use Rattle.reply.specs.Reply.{replyOf}
 use Rattle.survey.specs.declared.sets.Replier.the-variants.{None, One}
 use Rattle.survey.specs.One.{doesHear, isMeant, doesAct, doesReply, turned}
-use Rattle.survey.specs.Chain.{turnedFrom, after, repliersFrom, replierIn, Said, silence, reply, said, saidBy, blankNode, nearAt, hearsAt, repliesAt}
-use Rattle.survey.proofs.Repliers.{behind, Replies, repliers-rise, found-is, one-speaks}
+use Rattle.survey.specs.Chain.{turnedFrom, after, repliersFrom, replierIn, silence, reply, said, blankNode, nearAt, hearsAt, repliesAt}
+use Rattle.survey.proofs.Repliers.{behind, Replies, repliers-rise, found-is, Speaks, one-speaks}
 
 -- ---- the nodes afterwards
 
@@ -110,20 +110,7 @@ unfolding replierIn
 replier-below to l i e = found-is (Replies to l) (repliersFrom to 0 true l) i (repliers-rise to l) e .0
 
 -- the one reply is that of a node of the chain that hears and answers
-pub record Replying (to : Address) (h : Message) (l : List Node) (r : List ℕ) : Type 0 where
-  pub at : ℕ
-  pub inside : at < length l
-  pub calling : repliesAt to l at ≡ true
-  pub answered : isAnswered h ≡ true
-  pub bytes : r ≡ replyOf h (getD l at blankNode)
-
-pub answered-by : (t : Bool) (s : Said) (r : List ℕ) → cond t s silence ≡ reply r → (t ≡ true) × (s ≡ reply r)
-answered-by true s r e = (refl, e)
-answered-by false s r e = impossible cc
-
-pub said-says : (to : Address) (h : Message) (l : List Node) (r : List ℕ) → said to h l ≡ reply r → Replying to h l r
+pub said-says : (to : Address) (h : Message) (l : List Node) (r : List ℕ) → said to h l ≡ reply r → Speaks (Replies to l) h l r
 unfolding said replierIn
 said-says to h l r e =
-    let p = answered-by (isAnswered h) (saidBy h l (replierIn to l)) r e in
-    let s = one-speaks (Replies to l) h l (repliersFrom to 0 true l) r (repliers-rise to l) (p .1) in
-    record { at = s .at; inside = s .is .0; calling = s .is .1; answered = p .0; bytes = s .bytes }
+    one-speaks (Replies to l) h l (repliersFrom to 0 true l) r (repliers-rise to l) (chose-first (isAnswered h) e (λ z. impossible cc) .1)

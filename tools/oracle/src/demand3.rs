@@ -361,7 +361,7 @@ impl World {
             host: &self.host,
             chain: &self.chain,
             missed: &self.missed,
-            clear: self.host.judge(reply) == Outcome::Confirmed,
+            clear: self.host.judge(reply) == Outcome::Clear,
         };
         for met in closing.met() {
             self.counts.met[met as usize] += 1;

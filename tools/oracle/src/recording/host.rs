@@ -117,7 +117,7 @@ impl Host {
         match self.session.judge(bytes) {
             Outcome::Marked => self.rules.slips(Mistake::MarkedPassedOver),
             Outcome::Unconfirmed => self.rules.slips(Mistake::BadReplyPassedOver),
-            Outcome::Confirmed => false,
+            Outcome::Clear => false,
         }
     }
 

@@ -76,7 +76,7 @@ fn target(rules: Rules, address: u8) -> String {
 /// What a reply says, by itself.
 pub fn reply(rules: Rules, outcome: Outcome) -> &'static str {
     match outcome {
-        Outcome::Confirmed => "clear",
+        Outcome::Clear => "clear",
         Outcome::Marked if rules.slips(Mistake::NotClearIsNotGood) => "not good",
         Outcome::Marked => "not clear",
         Outcome::Unconfirmed => "not good",

@@ -13,7 +13,7 @@ use crate::target::Target;
 #[derive(Clone, Copy, Debug, PartialEq, Eq)]
 pub enum Outcome {
     /// A good and clear reply.
-    Confirmed,
+    Clear,
     /// A good reply with bit 1 set: "the record stays as before".
     Marked,
     /// "All else counts as silence: unconfirmed."
@@ -46,7 +46,7 @@ impl Session {
             MARK
         };
         match bytes.first() {
-            Some(status) if whole && right && status & mark == 0 => Outcome::Confirmed,
+            Some(status) if whole && right && status & mark == 0 => Outcome::Clear,
             Some(_) if whole && right => Outcome::Marked,
             _ => Outcome::Unconfirmed,
         }
@@ -61,7 +61,7 @@ impl Session {
         };
         self.exchange = Exchange::Idle;
         match self.slipped_outcome(outcome, target) {
-            Outcome::Confirmed => self.confirm(target, command),
+            Outcome::Clear => self.confirm(target, command),
             // "The record stays as before."
             Outcome::Marked => self.mistake_marked(target, command),
             Outcome::Unconfirmed => self.doubt(target, command),
@@ -172,13 +172,13 @@ impl Session {
     fn slipped_outcome(&self, outcome: Outcome, target: Target) -> Outcome {
         match outcome {
             Outcome::Unconfirmed if self.rules.slips(Mistake::SilenceIsNotDone) => Outcome::Marked,
-            Outcome::Unconfirmed if self.rules.slips(Mistake::SilenceIsDone) => Outcome::Confirmed,
+            Outcome::Unconfirmed if self.rules.slips(Mistake::SilenceIsDone) => Outcome::Clear,
             Outcome::Unconfirmed
                 if self.rules.slips(Mistake::LeaderlessConfirms) && self.is_leaderless(target) =>
             {
-                Outcome::Confirmed
+                Outcome::Clear
             }
-            Outcome::Marked if self.rules.slips(Mistake::MarkedConfirms) => Outcome::Confirmed,
+            Outcome::Marked if self.rules.slips(Mistake::MarkedConfirms) => Outcome::Clear,
             Outcome::Marked if self.rules.slips(Mistake::MarkedDoubts) => Outcome::Unconfirmed,
             _ => outcome,
         }

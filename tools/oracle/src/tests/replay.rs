@@ -128,7 +128,9 @@ fn replay_tells() {
     for (name, input) in further() {
         let ended = |says: &str, at: &str| format!("{says} | {ENDS}; 2 nodes, {at}");
         let expected = match name {
-            "lost-reply" | "unended" => "end of the recording; 2 nodes, ready".to_string(),
+            "lost-reply" | "missed-pass" | "unended" => {
+                "end of the recording; 2 nodes, ready".to_string()
+            }
             "document" | "equal-times" => "end of the recording; 2 nodes, walk at 1".to_string(),
             "count-alone" | "replies-alone" => {
                 "end of the recording; 2 nodes, walk at 0".to_string()

@@ -88,6 +88,8 @@ fn made_inputs_cover_and_fit() {
         foreign += coverage.foreign;
         assert!(make_bench::make(seed, 9000).len() <= MOST_INPUT);
     }
+    // The rarest number, 13, comes 39 times, since leaders are mostly made one a
+    // group.
     for number in answerable() {
         let count = numbers[usize::from(number)];
         assert!(count >= 30, "number {number}: {count}");

@@ -1,4 +1,4 @@
--- A packet laid out by stores, and what writing it leaves in the buffer: `packet::build`, `status::build`.
+-- A packet laid out by stores, and what writing it leaves in the buffer: `packet::build`, `reply::reply`.
 use Prim.Native.Nat.{ℕ, suc, _+_, _≤_, _<_}
 use mathlib.Core.Bool.{Bool, true, false, cond}
 use mathlib.Core.Path.{_≡_, refl, sym, ap, _∙_}

@@ -2,7 +2,7 @@
 use Prim.Native.Nat.{ℕ, suc, _≤_}
 use mathlib.Core.Bool.{Bool, true, false}
 use mathlib.Core.List.{List, [], _∷_}
-use mathlib.Core.Path.{_≡_, refl, ap, _∙_}
+use mathlib.Core.Path.{_≡_, refl, _∙_}
 use native.Mathlib.Omega.{arith}
 use lib.ListN.{length, length-append}
 use Rattle.status.specs.Status.{counts, T}
@@ -30,11 +30,3 @@ items-length m n = asked-count 0 m counts (valuesOf n) refl
 
 pub items-fit : (m : ℕ) (n : Node) → length (replyItems m n) ≤ T
 items-fit m n = omega (arith, items-length m n, count-fits m)
-
--- values that are a node's: eight, of at most T bytes
-pub values-long : (n : Node) (ws : List ℕ) → ws ≡ valuesOf n → length ws ≡ 8
-values-long n ws e = ap length e
-
-pub values-fit : (m : ℕ) (n : Node) (ws : List ℕ) → ws ≡ valuesOf n → length (askedFrom 0 m counts ws) ≤ T
-unfolding replyItems
-values-fit m n ws e = rw e (items-fit m n)

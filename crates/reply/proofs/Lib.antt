@@ -1,5 +1,5 @@
 pub mod Bytes
+pub mod Growing
 pub mod Counts
-mod Writes
 pub mod Replies
 pub mod Unique

@@ -1,13 +1,15 @@
--- What a reply is: its length, how the host judges it, and that it reads back under its mask as its items.
-use Prim.Native.Nat.{ℕ, _+_}
+-- What a reply is: its length, how the host judges it, that it reads back under its mask as its items, and what the builder writes.
+use Prim.Native.Nat.{ℕ, _+_, _≤_}
 use mathlib.Core.List.{List}
-use mathlib.Core.Path.{_≡_, refl, ap, _∙_}
-use lib.ListN.{length}
+use mathlib.Core.Path.{_≡_, refl, sym, ap, _∙_}
+use lib.ListN.{length, take}
+use Rattle.buffer.specs.Buffer.{atStart, written}
 use Rattle.buffer.specs.Change.{Altered}
-use Rattle.status.specs.Status.{itemsPart, cleared, judgeOf}
+use Rattle.buffer.proofs.Writing.{wrote, written-wrote, written-fits}
+use Rattle.status.specs.Status.{statusRead, itemsPart, cleared, judgeOf}
 use Rattle.status.specs.declared.Status.the-variants.{Whole}
 use Rattle.status.specs.declared.Answer.the-variants.{Clear, Marked, Silent}
-use Rattle.status.proofs.Replies.{status-length, built-reads, built-items, judged-built, judged-altered}
+use Rattle.status.proofs.Replies.{status-length, built-reads, built-items, accepted-built, judged-built, judged-altered}
 use Rattle.command.specs.declared.Command.{Command}
 use Rattle.command.specs.declared.Command.the-variants.{DefineStatus, ReadStatus, Nop}
 use Rattle.node.specs.declared.state.Node.{Node}
@@ -61,6 +63,27 @@ reply-reads h n =
 pub reply-items : (h : Message) (n : Node) → itemsPart (replyOf h n) ≡ replyItems (maskFor h n) (takeOf h n)
 unfolding replyOf
 reply-items h n = built-items (statusByte h) (replyItems (maskFor h n) (takeOf h n))
+
+-- ---- what the builder writes
+
+-- it answered k bytes: they read back under the mask as a whole status packet, with the status byte and the items of the node
+module _ (h : Message) (n : Node) (out left : List ℕ) (k : ℕ) (e : written (replyOf h n) out ≡ wrote k left) where
+  placed : take k left ≡ replyOf h n
+  placed = written-wrote (replyOf h n) out left k e
+
+  pub written-reads : maskRead (maskFor h n) (take k left) ≡ Whole (statusByte h)
+  written-reads = rw placed (reply-reads h n)
+
+  pub written-items : itemsPart (take k left) ≡ replyItems (maskFor h n) (takeOf h n)
+  written-items = rw placed (reply-items h n)
+
+-- and an accepted status packet is the one that it writes, where it has room, for a node and a packet with these parts
+pub accepted-written : (h : Message) (n : Node) (s out : List ℕ) (k : ℕ) → statusRead s k ≡ Whole (statusByte h) → itemsPart s ≡ replyItems (maskFor h n) (takeOf h n)
+    → length s ≤ length out → written (replyOf h n) out ≡ atStart s out
+unfolding replyOf
+accepted-written h n s out k e f l =
+    let q : replyOf h n ≡ s = rw (← f) (sym (accepted-built s k (statusByte h) e)) in
+    rw q (written-fits s out l)
 
 -- ---- others
 

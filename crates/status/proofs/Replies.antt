@@ -1,4 +1,4 @@
--- Status packets: what the builder writes reads back, an accepted one is what it writes from its parts, and a changed one is never good.
+-- Status packets: one reads back as its parts, an accepted one is the one of its parts, and a changed one is never good.
 use Prim.Native.Nat.{ℕ, suc, _+_, _-_, _≤_}
 use mathlib.Core.Path.{_≡_, refl, ap, _∙_}
 use mathlib.Core.Bool.{Bool, true, false, cond}
@@ -9,8 +9,7 @@ use lib.ListN.{length, getD, take, drop}
 use lib.Seq.{take-append-seam}
 use borrow.Author.Tests.{le-ltb, ltb-false}
 use Rattle.buffer.specs.Sum.{sumOf, withSum, endsInSum}
-use Rattle.status.specs.Status.{statusPacket, statusBuild, statusRead, itemsPart, T, mostReply, cleared, judgeOf}
-use Rattle.buffer.specs.Buffer.{atStart}
+use Rattle.status.specs.Status.{statusPacket, statusRead, itemsPart, T, mostReply, cleared, judgeOf}
 use Rattle.buffer.specs.Change.{Altered}
 use Rattle.wire.specs.declared.refusal.Refusal.{Refusal}
 use Rattle.wire.specs.declared.refusal.Refusal.the-variants.{Short, Long, Sum}
@@ -18,7 +17,6 @@ use Rattle.status.specs.declared.Status.the-variants.{Whole, Refused}
 use Rattle.status.specs.declared.Answer.the-variants.{Silent}
 use Rattle.wire.proofs.Choice.{chose-first, chose-second}
 use Rattle.wire.proofs.Impossible.{impossible}
-use Rattle.buffer.proofs.Writing.{written-fits, wrote, written-wrote}
 use Rattle.buffer.proofs.Sums.{length-with-sum, with-sum-ends, ends-shape, changed-length, changed-breaks}
 
 pub status-length : (b : ℕ) (d : List ℕ) → length (statusPacket b d) ≡ 2 + length d
@@ -31,7 +29,7 @@ pub whole : (s : List ℕ) (k : ℕ) (t : Bool) → length s ≡ 2 + k → endsI
 unfolding statusRead
 whole s k t n e = simp (le-ltb (length s) (2 + k) (omega arith), le-ltb (2 + k) (length s) (omega arith), e)
 
--- a built status packet reads back as its status byte
+-- a status packet reads back as its status byte
 pub built-reads : (b : ℕ) (d : List ℕ) → statusRead (statusPacket b d) (length d) ≡ Whole b
 built-reads b d = whole (statusPacket b d) (length d) true (status-length b d) (with-sum-ends (b ∷ d))
 
@@ -41,18 +39,6 @@ unfolding itemsPart
 built-items b d =
     let k : length (statusPacket b d) - 2 ≡ length d = omega (arith, status-length b d) in
     rw k (take-append-seam d (sumOf (b ∷ d) ∷ []))
-
--- the builder answered n bytes: they read back as the status byte and the items that it was given
-module _ (b : ℕ) (d out left : List ℕ) (n : ℕ) (e : statusBuild b d out ≡ wrote n left) where
-  placed : take n left ≡ statusPacket b d
-  unfolding statusBuild
-  placed = written-wrote (statusPacket b d) out left n e
-
-  pub written-reads : statusRead (take n left) (length d) ≡ Whole b
-  written-reads = rw placed (built-reads b d)
-
-  pub written-items : itemsPart (take n left) ≡ d
-  written-items = rw placed (built-items b d)
 
 refused-not : (why : Refusal) (b : ℕ) → Refused why ≡ Whole b → ⊥
 refused-not why b e = impossible cc
@@ -74,7 +60,7 @@ first-then : (s : List ℕ) (k : ℕ) → length s ≡ 2 + k → take (suc k) s 
 first-then [] k e = absurd (omega arith)
 first-then (x ∷ s) k e = refl
 
--- an accepted status packet is the one built from its parts
+-- an accepted status packet is the one of its parts
 pub accepted-built : (s : List ℕ) (k b : ℕ) → statusRead s k ≡ Whole b → s ≡ statusPacket b (itemsPart s)
 unfolding itemsPart
 accepted-built s k b e =
@@ -83,11 +69,6 @@ accepted-built s k b e =
     let m : length s - 1 ≡ suc k = omega (arith, a .size) in
     let q : take (length s - 1) s ≡ b ∷ take (length s - 2) (drop 1 s) = rw (m, n) (first-then s k (a .size) ∙ cc (a .first)) in
     ends-shape s (a .ends) ∙ ap (λ (l : List ℕ). withSum l) q
-
--- and, where it has room, the one that the builder writes from them
-pub accepted-written : (s : List ℕ) (k b : ℕ) (out : List ℕ) → statusRead s k ≡ Whole b → length s ≤ length out → statusBuild b (itemsPart s) out ≡ atStart s out
-unfolding statusBuild
-accepted-written s k b out e h = rw (← (accepted-built s k b e)) (written-fits s out h)
 
 -- one byte changed: wrong sum
 pub altered-reads : (s t : List ℕ) (k b : ℕ) → statusRead s k ≡ Whole b → Altered s t → statusRead t k ≡ Refused Sum

@@ -4,12 +4,9 @@ use mathlib.Core.Bool.{cond}
 use mathlib.Core.List.{List, [], _∷_}
 use lib.ListN.{length, getD, take, drop}
 use lib.Dec.{ltb, eqb}
-use Rattle.wire.specs.Promise.{Outcome}
 use Rattle.wire.specs.Numbers.{done, numberOf}
 use Rattle.buffer.specs.Sum.{withSum, endsInSum}
-use Rattle.buffer.specs.Buffer.{written}
 use Rattle.wire.specs.declared.refusal.Refusal.the-variants.{Short, Long, Sum}
-use Rattle.buffer.specs.declared.Built.{Built}
 use Rattle.status.specs.declared.Status.{Status}
 use Rattle.status.specs.declared.Status.the-variants.{Whole, Refused}
 use Rattle.status.specs.declared.Answer.{Answer}
@@ -18,10 +15,6 @@ use Rattle.status.specs.declared.Answer.the-variants.{Clear, Marked, Sil
 -- "status byte; the items asked for; 8-bit sum of all bytes before it"
 abbrev pub statusPacket : ℕ → List ℕ → List ℕ
 statusPacket b d = withSum (b ∷ d)
-
--- built at the start of the lent buffer, the rest stays; 5 where there is no room
-unfoldable pub statusBuild : ℕ → List ℕ → List ℕ → Outcome Built (List ℕ)
-statusBuild b d out = written (statusPacket b d) out
 
 -- "Reading a status packet under a mask: too short, 1; too long, 3; wrong sum, 4"; k is how many item bytes the mask asks for
 unfoldable pub statusRead : List ℕ → ℕ → Status

@@ -1,13 +1,11 @@
 // Status packets: status byte; the items asked for; sum. How many bytes each item has. And how the host takes what it received for a command.
-// Promised: a built packet reads back, an accepted one is the one built from its parts, a reply with one byte changed is never good.
-// Left to others: which items a mask asks for (mask, reply), and what an answer makes of the record (entry).
-use buffer::Built;
+// Promised: a status packet reads back as its parts, an accepted one is the one of its parts, a reply with one byte changed is never good.
+// Left to others: which items a mask asks for (mask), writing them (reply), and what an answer makes of the record (entry).
 use wire::Refusal;
 ghost use mathlib.Core.Path.{_≡_};
-ghost use Rattle.wire.specs.Promise.{Promise, Lending};
+ghost use Rattle.wire.specs.Promise.{Promise};
 ghost use Rattle.wire.specs.Part.{Part};
-ghost use Rattle.buffer.specs.Buffer.{builtNumber};
-ghost use Rattle.status.specs.Status.{statusRead, statusNumber, itemsFrom, itemsPart, statusBuild, judgeOf};
+ghost use Rattle.status.specs.Status.{statusRead, statusNumber, itemsFrom, itemsPart, judgeOf};
 
 // How many bytes each item has, from bit 0 of the mask on.
 pub const COUNTS: [usize; 8] = [2, 1, 1, 1, 4, 2, 2, 4];
@@ -73,24 +71,6 @@ pub fn items_part(s: &[u8]) -> &[u8]
     }
     let end = s.len() - 1;
     &s[1..end]
-}
-
-// Builds a status packet at the start of `out`, whose rest stays.
-pub fn build(status: u8, items: &[u8], out: &mut [u8]) -> Built
-    ensures { λ r. ⌜ Lending builtNumber r (now (out .exit)) (statusBuild status (now (items .entry)) (now (out .entry))) ⌝ }
-{
-    let n = items.len();
-    if out.len() < 2 {
-        return Built::Refused(Refusal::Room);
-    }
-    if out.len() - 2 < n {
-        return Built::Refused(Refusal::Room);
-    }
-    let total = std::num::wrapping_add_u8(status, buffer::sum(items));
-    out[0] = status;
-    buffer::put(out, 1, items);
-    out[1 + n] = total;
-    Built::Bytes(2 + n)
 }
 
 // How the host takes what it received for a command.

@@ -1,53 +1,89 @@
--- The items stand at the start of the scratch space, and the status packet is built of them.
+-- The mask tells how long the packet is; then it is begun, and grows by all its items.
 use borrow.Author.Needs.{needs}
+use borrow.Author.Tests.{not-true, not-false, leb-true, leb-false}
 use native.Mathlib.Omega.{arith}
-use Prim.Native.Nat.{ℕ, _≤_}
-use mathlib.Core.List.{List}
-use mathlib.Core.Path.{_≡_, refl, sym}
-use lib.ListN.{length, take}
-use lib.Seq.{length-take-le}
+use Prim.Native.Nat.{ℕ, _+_, _^_, _≤_, _<_}
+use mathlib.Core.Bool.{Bool, true, false}
+use mathlib.Core.List.{List, [], _∷_}
+use mathlib.Core.Path.{_≡_, sym, ap, _∙_}
+use lib.Dec.{leb}
+use lib.ListN.{length}
+use lib.Seq.{length-sets}
 use Rattle.wire.specs.Promise.{Lending}
+use Rattle.wire.specs.declared.refusal.Refusal.the-variants.{Room}
 use Rattle.buffer.specs.Buffer.{builtNumber, written}
-use Rattle.buffer.specs.declared.Built.{Built}
-use Rattle.status.specs.Status.{statusBuild, T}
+use Rattle.buffer.specs.declared.Built.the-variants.{Bytes, Refused}
+use Rattle.buffer.proofs.Writing.{no-room}
+use Rattle.status.proofs.Replies.{status-length}
 use Rattle.node.specs.declared.state.Node.{Node}
 use Rattle.message.specs.declared.Message.{Message}
+use Rattle.message.specs.declared.Message.the-variants.{Intact, Other, Spoilt}
 use Rattle.node.specs.Node.{takeOf}
-use Rattle.buffer.specs.Wrote.{Wrote}
+use Rattle.mask.specs.Mask.{sizeOf}
 use Rattle.reply.specs.Items.{replyItems}
+use Rattle.reply.specs.Grown.{Begun, Grown}
 use Rattle.reply.specs.Reply.{maskOf, statusByte, replyOf}
-use Rattle.reply.proofs.Counts.{items-fit}
-use Rattle.reply.proofs.Writes.{wrote-start}
+use Rattle.reply.proofs.Counts.{items-length, items-fit}
+use Rattle.reply.proofs.Growing.{grown-whole}
+use Rattle.reply.proofs.Replies.{reply-length}
 use Rattle.reply.proofs.reply.Statement.{statement}
 use Rattle.reply.proofs.reply.Tie as tie
 
--- the items fit the scratch space
-within : (m : ℕ) (n : Node) (o s : List ℕ) (k : ℕ) → length s ≡ T → Wrote (replyItems m n) 0 o k s → k ≤ length s
-within m n o s k e w = omega (arith, items-fit m n, w .behind)
+-- status byte, items, sum
+items-size : (m : ℕ) (n : Node) → 2 + length (replyItems m n) ≡ sizeOf m
+unfolding sizeOf
+items-size m n = omega (arith, items-length m n)
 
-module _ (h : Message) (n after : Node) (m b : ℕ) (ta : after ≡ takeOf h n) (tm : m ≡ maskOf h (after .settings .mask)) (tb : b ≡ statusByte h) where
-  sent : (o s out left : List ℕ) (k : ℕ) (r : Built) → length o ≡ T → Wrote (replyItems m after) 0 o k s
-      → Lending builtNumber r left (statusBuild b (take k s) out) → Lending builtNumber r left (written (replyOf h n) out)
-  unfolding statusBuild replyOf
-  sent o s out left k r e w p =
-      let d : take k s ≡ replyItems m after = wrote-start (replyItems m after) o s k w (omega (arith, items-fit m after, w .behind)) in
-      rw (d, tb, tm, ta) at p
+roomy : (m k : ℕ) (n : Node) (t : Bool) → t ≡ leb (sizeOf m) k → t ≡ true → 2 + length (replyItems m n) ≤ k
+roomy m k n t e h = omega (arith, items-size m n, leb-true (sizeOf m) k (sym e ∙ h))
 
-array-share-prefix-scratch : tie.Need-array-share-prefix-scratch
-array-share-prefix-scratch c = let p = c .before .before .put-items in within _ _ _ _ _ (p .kept .1 .1 .0) (p .ensures)
+-- a packet that was begun keeps the room for its items
+items-room : (b at : ℕ) (d out o : List ℕ) → 2 + length d ≤ length out → Begun b out at o → at + length d < length o
+items-room b at d out o h s = omega (arith, s .behind, ap (λ (l : List ℕ). length l) (s .bytes), length-sets out 0 (b ∷ b ∷ []))
 
-slice-aggregate-build : tie.Need-slice-aggregate-build
-slice-aggregate-build c =
-    let p = c .before .before .before .put-items in
-    sym (length-take-le _ _ (within _ _ _ _ _ (p .kept .1 .1 .0) (p .ensures)))
+-- and no packet is long
+short : (m : ℕ) (n : Node) (b at r : ℕ) (out o left : List ℕ) → Begun b out at o → Grown (replyItems m n) at o r left → r + 1 < 2 ^ 64
+short m n b at r out o left s g = omega (arith, s .behind, g .behind, items-fit m n)
+
+byte : (h : Message) → statusByte h < 256
+byte (Intact c) = omega arith
+byte Other = omega arith
+byte Spoilt = omega arith
+
+module _ (h : Message) (n after : Node) (m : ℕ) (out : List ℕ) (t : Bool) (ta : after ≡ takeOf h n) (tm : m ≡ maskOf h (after .settings .mask)) (tr : t ≡ leb (sizeOf m) (length out)) where
+  refuses : t ≡ false → Lending builtNumber (Refused Room) out (written (replyOf h n) out)
+  refuses e =
+      let k : length out < sizeOf m = leb-false (sizeOf m) (length out) (sym tr ∙ e) in
+      no-room (replyOf h n) out (rw (reply-length h n, ← ta, ← tm) k)
+
+  sent : (b at r : ℕ) (o left : List ℕ) → t ≡ true → b ≡ statusByte h → Begun b out at o → Grown (replyItems m after) at o r left
+      → Lending builtNumber (Bytes (r + 1)) left (written (replyOf h n) out)
+  unfolding replyOf
+  sent b at r o left e tb s g =
+      rw (tb, tm, ta) at (grown-whole b (replyItems m after) out o left at r (rw tb (byte h)) (roomy m (length out) after t tr e) s g)
 
 returns : tie.Need-returns
-returns c =
-    let q = c .before .before in
-    let p = q .before .before .before .before .before in
-    let m = p .before .before in
-    let t = m .before in
-    sent _ _ _ _ _ (t .take .ensures) (m .mask-of .ensures) (q .before .before .before .status-byte .ensures) _ _ _ _ _ _ refl (p .put-items .ensures) (q .build .ensures)
+returns c = search (refuses, not-true)
+
+begin-requires : tie.Need-begin-requires
+begin-requires c κs =
+    let r = c .before .before .before in
+    omega (arith, roomy _ _ (r .before .before .take .result) _ (r .has-room .ensures) (not-false _ (c .before .before .if1 .left)))
+
+put-items-requires : tie.Need-put-items-requires
+put-items-requires c κs =
+    let b = c .before .before .before in
+    let r = b .before .before .before .before in
+    items-room _ _ (replyItems (r .before .mask-of .result) (r .before .before .take .result)) _ _ (roomy _ _ _ _ (r .has-room .ensures) (not-false _ (b .before .before .before .if1 .left))) (b .begin .ensures)
+
+add-t9 : tie.Need-add-t9
+add-t9 c =
+    let p = c .before .before in
+    let b = p .before .before .before .before in
+    record { fits = short _ _ _ _ _ _ _ _ (b .begin .ensures) (p .put-items .ensures) }
+
+returns-2 : tie.Need-returns-2
+returns-2 c = search (sent, not-false)
 
 pub reply-spec : {M : Type 1} → statement M
 reply-spec =
@@ -55,11 +91,11 @@ reply-spec =
     (tie.spec
     (λ c κs. search needs)
     (λ c κs. search needs)
+    (λ c κs. search needs)
+    returns
+    (λ c κs. search needs)
+    begin-requires
+    put-items-requires
+    add-t9
     (λ c. search needs)
-    (λ c κs. search needs)
-    (λ c κs. search needs)
-    array-share-prefix-scratch
-    slice-aggregate-build
-    (λ c κs. search needs)
-    (λ c. search needs)
-    returns)
+    returns-2)

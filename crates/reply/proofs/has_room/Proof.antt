@@ -1,0 +1,22 @@
+-- The longest status packet has room, or the one under the mask is counted.
+use borrow.Author.Needs.{needs}
+use native.Mathlib.Omega.{arith}
+use borrow.Author.Tests.{le-leb}
+use Prim.Native.Nat.{ℕ, _≤_}
+use mathlib.Core.Bool.{Bool, true}
+use mathlib.Core.Path.{_≡_, sym, ap, _∙_}
+use lib.Dec.{leb}
+use Rattle.status.specs.Status.{mostReply}
+use Rattle.mask.specs.Mask.{sizeOf}
+use Rattle.mask.proofs.Counts.{size-range}
+use Rattle.reply.proofs.has_room.Statement.{statement}
+use Rattle.reply.proofs.has_room.Tie as tie
+
+longest : (m room : ℕ) → mostReply ≤ room → true ≡ leb (sizeOf m) room
+longest m room h = sym (le-leb (sizeOf m) room (omega (arith, size-range m .1)))
+
+counted : (m room k : ℕ) → k ≡ sizeOf m → leb k room ≡ leb (sizeOf m) room
+counted m room k e = ap (λ (j : ℕ). leb j room) e
+
+pub has-room-spec : {M : Type 1} → statement M
+has-room-spec = tie.close (tie.spec (λ c. search longest) (λ c κs. search needs) (λ c. search counted))

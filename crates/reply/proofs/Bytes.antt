@@ -1,14 +1,11 @@
 -- The bytes of an item, least significant first: how many they are, and the value that they give.
-use Prim.Native.Nat.{ℕ, zero, suc, _+_, _-_, _*_, _^_, _/_, _%_, _≤_, _<_}
-use mathlib.Core.Bool.{Bool, true, false}
+use Prim.Native.Nat.{ℕ, zero, suc, _+_, _-_, _*_, _^_, _/_, _<_}
 use mathlib.Core.List.{List, [], _∷_}
-use mathlib.Core.Path.{_≡_, refl, sym, ap}
+use mathlib.Core.Path.{_≡_, refl, ap}
 use native.Mathlib.Omega.{arith}
-use native.Mathlib.Nat.{add-zero, pow-suc, div-lt-iff-lt-mul}
-use lib.ListN.{length, set}
-use lib.Seq.{sets}
-use Rattle.buffer.specs.Wrote.{Wrote}
-use Rattle.reply.specs.Items.{bytesOf, itemOf}
+use native.Mathlib.Nat.{pow-suc, div-lt-iff-lt-mul}
+use lib.ListN.{length}
+use Rattle.reply.specs.Items.{bytesOf}
 
 pub bytes-length : (n w : ℕ) → length (bytesOf n w) ≡ n
 bytes-length zero w = refl

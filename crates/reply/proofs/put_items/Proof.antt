@@ -2,8 +2,6 @@
 use borrow.Author.Needs.{needs}
 use native.Mathlib.Omega.{arith}
 use Prim.Native.Nat.{_≤_, _-_}
-use mathlib.Core.Path.{_≡_}
-use lib.ListN.{length}
 use Rattle.reply.proofs.Growing.{Passed, passed-none, passed-room, passed-one, passed-all}
 use Rattle.reply.proofs.put_items.Statement.{statement}
 use Rattle.reply.proofs.put_items.Tie as tie

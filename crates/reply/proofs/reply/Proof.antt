@@ -14,12 +14,12 @@ use Rattle.wire.specs.declared.refusal.Refusal.the-variants.{Room}
 use Rattle.buffer.specs.Buffer.{builtNumber, written}
 use Rattle.buffer.specs.declared.Built.the-variants.{Bytes, Refused}
 use Rattle.buffer.proofs.Writing.{no-room}
-use Rattle.status.proofs.Replies.{status-length}
 use Rattle.node.specs.declared.state.Node.{Node}
 use Rattle.message.specs.declared.Message.{Message}
 use Rattle.message.specs.declared.Message.the-variants.{Intact, Other, Spoilt}
 use Rattle.node.specs.Node.{takeOf}
 use Rattle.mask.specs.Mask.{sizeOf}
+use Rattle.mask.proofs.Counts.{size-range}
 use Rattle.reply.specs.Items.{replyItems}
 use Rattle.reply.specs.Grown.{Begun, Grown}
 use Rattle.reply.specs.Reply.{maskOf, statusByte, replyOf}
@@ -34,12 +34,17 @@ items-size : (m : ℕ) (n : Node) → 2 + length (replyItems m n) ≡ sizeOf m
 unfolding sizeOf
 items-size m n = omega (arith, items-length m n)
 
-roomy : (m k : ℕ) (n : Node) (t : Bool) → t ≡ leb (sizeOf m) k → t ≡ true → 2 + length (replyItems m n) ≤ k
-roomy m k n t e h = omega (arith, items-size m n, leb-true (sizeOf m) k (sym e ∙ h))
+-- where the packet under a mask has room, so have its status byte and sum, and, once it is begun, the items of any node
+module _ (m k : ℕ) (t : Bool) (e : t ≡ leb (sizeOf m) k) (h : t ≡ true) where
+  roomy : (n : Node) → 2 + length (replyItems m n) ≤ k
+  roomy n = omega (arith, items-size m n, leb-true (sizeOf m) k (sym e ∙ h))
 
--- a packet that was begun keeps the room for its items
-items-room : (b at : ℕ) (d out o : List ℕ) → 2 + length d ≤ length out → Begun b out at o → at + length d < length o
-items-room b at d out o h s = omega (arith, s .behind, ap (λ (l : List ℕ). length l) (s .bytes), length-sets out 0 (b ∷ b ∷ []))
+  begin-room : 2 ≤ k
+  begin-room = omega (arith, size-range m .0, leb-true (sizeOf m) k (sym e ∙ h))
+
+items-room : (m b at : ℕ) (n : Node) (out o : List ℕ) (t : Bool) → t ≡ leb (sizeOf m) (length out) → t ≡ true → Begun b out at o → at + length (replyItems m n) < length o
+items-room m b at n out o t e h s =
+    omega (arith, roomy m (length out) t e h n, s .behind, ap (λ (l : List ℕ). length l) (s .bytes), length-sets out 0 (b ∷ b ∷ []))
 
 -- and no packet is long
 short : (m : ℕ) (n : Node) (b at r : ℕ) (out o left : List ℕ) → Begun b out at o → Grown (replyItems m n) at o r left → r + 1 < 2 ^ 64
@@ -60,30 +65,13 @@ module _ (h : Message) (n after : Node) (m : ℕ) (out : List ℕ) (t : Bool) (t
       → Lending builtNumber (Bytes (r + 1)) left (written (replyOf h n) out)
   unfolding replyOf
   sent b at r o left e tb s g =
-      rw (tb, tm, ta) at (grown-whole b (replyItems m after) out o left at r (rw tb (byte h)) (roomy m (length out) after t tr e) s g)
-
-returns : tie.Need-returns
-returns c = search (refuses, not-true)
-
-begin-requires : tie.Need-begin-requires
-begin-requires c κs =
-    let r = c .before .before .before in
-    omega (arith, roomy _ _ (r .before .before .take .result) _ (r .has-room .ensures) (not-false _ (c .before .before .if1 .left)))
-
-put-items-requires : tie.Need-put-items-requires
-put-items-requires c κs =
-    let b = c .before .before .before in
-    let r = b .before .before .before .before in
-    items-room _ _ (replyItems (r .before .mask-of .result) (r .before .before .take .result)) _ _ (roomy _ _ _ _ (r .has-room .ensures) (not-false _ (b .before .before .before .if1 .left))) (b .begin .ensures)
+      rw (tb, tm, ta) at (grown-whole b (replyItems m after) out o left at r (rw tb (byte h)) (roomy m (length out) t tr e after) s g)
 
 add-t9 : tie.Need-add-t9
 add-t9 c =
     let p = c .before .before in
     let b = p .before .before .before .before in
     record { fits = short _ _ _ _ _ _ _ _ (b .begin .ensures) (p .put-items .ensures) }
-
-returns-2 : tie.Need-returns-2
-returns-2 c = search (sent, not-false)
 
 pub reply-spec : {M : Type 1} → statement M
 reply-spec =
@@ -92,10 +80,10 @@ reply-spec =
     (λ c κs. search needs)
     (λ c κs. search needs)
     (λ c κs. search needs)
-    returns
+    (λ c. search (refuses, not-true))
     (λ c κs. search needs)
-    begin-requires
-    put-items-requires
+    (λ c κs. search (begin-room, not-false))
+    (λ c κs. search (items-room, not-false))
     add-t9
     (λ c. search needs)
-    returns-2)
+    (λ c. search (sent, not-false)))

@@ -5,6 +5,7 @@ use crate::node::Node;
 use crate::packet::{frame, Packet, HEADER, OVERHEAD};
 use crate::refusal::{require, Refusal};
 use crate::rules::{Mistake, Rules};
+use crate::status::T;
 
 /// The longest chain.
 pub const MOST_NODES: usize = 31;
@@ -43,7 +44,10 @@ pub fn deliver(
         require(packet.intact, Refusal::WrongSum)?;
     }
     let (answer, reply) = answer(rules, nodes, &packet);
-    let room = buffer.len() >= reply.len() && !lacks_room_for_any(rules, buffer);
+    let room = buffer.len() >= room_asked_for(rules, &reply);
+    if !room {
+        mistakes_without_room(rules, &reply, buffer);
+    }
     if rules.slips(Mistake::ActsThenRefuses) {
         act(rules, nodes, &packet);
         require(room, Refusal::NoRoom)?;
@@ -51,7 +55,7 @@ pub fn deliver(
         require(room, Refusal::NoRoom)?;
         act_unless_mistaken(rules, nodes, &packet, answer);
     }
-    buffer[..reply.len()].copy_from_slice(&reply);
+    put(rules, &reply, buffer);
     Ok(answer)
 }
 
@@ -175,7 +179,45 @@ fn act_unless_mistaken(rules: Rules, nodes: &mut [Node], packet: &Packet, answer
     }
 }
 
+/// The room that is asked for: that of the actual reply, but for a mistaken
+/// chain.
+fn room_asked_for(rules: Rules, reply: &[u8]) -> usize {
+    if rules.slips(Mistake::RoomForAny) {
+        return T + 2;
+    }
+    let last = usize::from(rules.slips(Mistake::NoRoomForSum));
+    reply.len().saturating_sub(last)
+}
+
+/// The reply goes to the start of the lent buffer, the rest stays. Only a
+/// mistaken chain has less room by now, and cuts the reply.
+fn put(rules: Rules, reply: &[u8], buffer: &mut [u8]) {
+    fill(reply, buffer);
+    if rules.slips(Mistake::SumWrittenTwice) {
+        if let (Some(sum), Some(behind)) = (reply.last(), buffer.get_mut(reply.len())) {
+            *behind = *sum;
+        }
+    }
+}
+
+/// Writes bytes as far as there is room.
+fn fill(bytes: &[u8], buffer: &mut [u8]) {
+    for (place, byte) in buffer.iter_mut().zip(bytes) {
+        *place = *byte;
+    }
+}
+
 // ---- Mistakes alone ----------------------------------------------------
+
+/// What a mistaken chain leaves of a reply that has no room.
+fn mistakes_without_room(rules: Rules, reply: &[u8], buffer: &mut [u8]) {
+    if rules.slips(Mistake::RefusedFills) {
+        fill(reply, buffer);
+    }
+    if rules.slips(Mistake::RefusedBegins) {
+        fill(&reply[..1], buffer);
+    }
+}
 
 /// What a mistaken chain looks at before its table.
 fn mistakes_before_table(rules: Rules, bytes: &[u8]) -> Result<(), Refusal> {
@@ -219,8 +261,4 @@ fn mistakes_before_frame(rules: Rules, bytes: &[u8]) -> Result<(), Refusal> {
         require(bytes[0] != HEADER || bytes.len() >= whole, Refusal::TooLong)?;
     }
     Ok(())
-}
-
-fn lacks_room_for_any(rules: Rules, buffer: &[u8]) -> bool {
-    rules.slips(Mistake::RoomForAny) && buffer.len() < crate::status::T + 2
 }

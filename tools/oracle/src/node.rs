@@ -1,9 +1,9 @@
 //! "The node": what one LS-773 holds, does and sends back.
 
 use crate::command::{Command, Held, Place, Settings};
-use crate::packet::Packet;
+use crate::packet::{sum, Packet};
 use crate::rules::{Mistake, Rules};
-use crate::status::{item_bytes, seal, MARK};
+use crate::status::{seal, MARK};
 
 /// Values that only the bench sets; a Hard Reset leaves them.
 #[derive(Clone, Copy, Debug, PartialEq, Eq)]
@@ -147,11 +147,16 @@ impl Node {
 
     /// The status packet under a mask. "The model sends the other bits as 0."
     fn status(&self, rules: Rules, mask: u8, marked: bool) -> Vec<u8> {
-        let mut items = Vec::with_capacity(item_bytes(mask));
-        for bit in (0..8).filter(|bit| mask >> bit & 1 == 1) {
-            items.extend(self.item(rules, bit));
+        let status = if marked { MARK } else { 0 };
+        let items: Vec<Vec<u8>> = (0..8)
+            .filter(|bit| mask >> bit & 1 == 1)
+            .map(|bit| self.item(rules, bit))
+            .collect();
+        let mut reply = seal(status, &items.concat());
+        if let (Some(last), Some(wrong)) = (reply.last_mut(), wrong_sum(rules, status, &items)) {
+            *last = wrong;
         }
-        seal(if marked { MARK } else { 0 }, &items)
+        reply
     }
 
     /// One item of Define Status, document 001.
@@ -178,6 +183,20 @@ fn wide(rules: Rules, least_first: &[u8]) -> Vec<u8> {
         bytes.reverse();
     }
     bytes
+}
+
+/// The sum that a mistaken node carries along as it writes its reply.
+fn wrong_sum(rules: Rules, status: u8, items: &[Vec<u8>]) -> Option<u8> {
+    if rules.slips(Mistake::ItemsSummedAnew) {
+        return items.last().map(|item| sum(item));
+    }
+    if rules.slips(Mistake::StatusNotSummed) {
+        return Some(sum(&items.concat()));
+    }
+    let firsts = items.iter().map(|item| item[0]);
+    rules
+        .slips(Mistake::FirstBytesSummed)
+        .then(|| firsts.fold(status, u8::wrapping_add))
 }
 
 /// The kind that a node takes a packet for.

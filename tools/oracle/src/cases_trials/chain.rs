@@ -212,7 +212,8 @@ fn every_item() -> Vec<String> {
         deliver(0x14, &table, &packet("01 12 FF")),
         deliver(0x14, &table, &packet("01 12 09")),
         deliver(0x14, &[showing(0xFF, addressed(1))], &packet("01 0C")),
-        deliver(0x14, &[showing(0xFF, addressed(1))], &damaged("01 0C")),
+        // The longest reply, bit 1 set, in a buffer that it fills.
+        deliver(0x13, &[showing(0xFF, addressed(1))], &damaged("01 0C")),
         deliver(0x14, &[showing(0xC0, addressed(1))], &packet("01 12 00")),
         deliver(0x14, &[showing(0xC0, addressed(1))], &packet("01 13 01")),
         deliver(0x14, &[showing(0xC0, addressed(1))], &damaged("01 13 01")),

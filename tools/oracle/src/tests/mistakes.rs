@@ -73,6 +73,21 @@ fn trials_input() -> Tried {
     Tried::new(cases::trials(), names, trials::run)
 }
 
+/// Made inputs of `trials`, whose lines have no names.
+fn made_trials() -> Vec<Tried> {
+    (0..20)
+        .map(|seed| Tried::new(make_trials::make(seed, 1500), Vec::new(), trials::run))
+        .collect()
+}
+
+/// How many of some inputs notice.
+fn noticing(inputs: &[Tried], rules: Rules) -> usize {
+    inputs
+        .iter()
+        .filter(|tried| tried.differences(rules).is_some())
+        .count()
+}
+
 /// The calls of `edges`, which takes no input, named by their arguments.
 fn edges_calls() -> Tried {
     let output = edges::run(Rules::RIGHT);
@@ -221,6 +236,32 @@ fn ends_are_noticed_in_their_own_lines() {
     }
 }
 
+/// What is wrong about how a reply is written into its buffer: the room that it
+/// asks for, the sum that it carries along, where it ends (request 5).
+const ABOUT_REPLIES: [Mistake; 7] = [
+    Mistake::ItemsSummedAnew,
+    Mistake::StatusNotSummed,
+    Mistake::FirstBytesSummed,
+    Mistake::NoRoomForSum,
+    Mistake::RefusedFills,
+    Mistake::RefusedBegins,
+    Mistake::SumWrittenTwice,
+];
+
+/// Each is noticed by stored deliveries, and in no other line of `trials`; by
+/// made ones too, which no hand has chosen.
+#[test]
+fn replies_are_noticed_in_deliveries() {
+    let stored = trials_input();
+    let made = made_trials();
+    for mistake in ABOUT_REPLIES {
+        let rules = Rules::with(mistake);
+        let kinds = stored.kinds_differing(rules);
+        assert_eq!(kinds, BTreeSet::from(["20".to_string()]), "{mistake:?}");
+        assert!(noticing(&made, rules) >= 2, "{mistake:?}, made");
+    }
+}
+
 /// What is wrong about recordings alone changes no other line of `trials`, but
 /// for what a session that is kept changes.
 #[test]
@@ -260,16 +301,11 @@ const ABOUT_LEADERS: [Mistake; 12] = [
 #[test]
 fn leaders_are_noticed_everywhere() {
     let stored = trials_input();
-    let made: Vec<Tried> = (0..20)
-        .map(|seed| Tried::new(make_trials::make(seed, 1500), Vec::new(), trials::run))
-        .collect();
+    let made = made_trials();
     for mistake in ABOUT_LEADERS {
         let rules = Rules::with(mistake);
         assert!(stored.differences(rules).is_some(), "{mistake:?}, stored");
-        let by_made = made
-            .iter()
-            .filter(|tried| tried.differences(rules).is_some());
-        assert!(by_made.count() >= 2, "{mistake:?}, made");
+        assert!(noticing(&made, rules) >= 2, "{mistake:?}, made");
         assert!(in_demand3(rules), "{mistake:?}, demand 3");
     }
     let old_rule = stored.kinds_differing(Rules::with(Mistake::MembersConfirmed));

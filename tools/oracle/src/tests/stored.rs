@@ -143,7 +143,7 @@ fn made_inputs_are_stable() {
         0xB202_D76B_1410_CCCC,
         0xCF4A_9BC6_AD9F_7956,
         0x5EF9_F4DE_D119_2409,
-        0xA4A1_03BE_AEA8_0109,
+        0x30BF_2A5B_8357_F342,
         0xE8E1_26BD_0890_90B0,
         0x96CB_430D_A3BA_0619,
         0xC638_55EC_D4C2_B67A,

@@ -9,7 +9,7 @@ use native.Mathlib.Numerals.{add-one}
 use lib.Dec.{eqb}
 use lib.ListN.{length, length-append, length-set, getD, set, drop}
 use lib.Seq.{sets, length-sets, set-getD, set-set, getD-set-same, drop-cons}
-use Rattle.wire.specs.Promise.{Lending}
+use Rattle.wire.specs.Promise.{Outcome, Lending}
 use Rattle.buffer.specs.Sum.{total}
 use Rattle.buffer.specs.Buffer.{builtNumber, written}
 use Rattle.buffer.specs.declared.Built.the-variants.{Bytes}
@@ -18,8 +18,8 @@ use Rattle.status.specs.Status.{counts, statusPacket}
 use Rattle.status.proofs.Replies.{status-length}
 use Rattle.node.specs.declared.state.Node.{Node}
 use Rattle.mask.proofs.Sizes.{bits-first, bits-next}
-use Rattle.reply.specs.Items.{bytesOf, valuesOf, valueOf, itemOf, askedFrom, replyItems}
-use Rattle.reply.specs.Grown.{carriedOn, Begun, Grown}
+use Rattle.reply.specs.Items.{bytesOf, valuesOf, itemOf, askedFrom, replyItems}
+use Rattle.reply.specs.Grown.{itemValue, beginOf, carriedOn, Grown}
 use Rattle.reply.proofs.Bytes.{bytes-length}
 
 -- ---- one item, byte by byte
@@ -95,7 +95,7 @@ pub passed-none : (m : ℕ) (n : Node) (end : ℕ) (o : List ℕ) → end + leng
 unfolding replyItems
 passed-none m n end o h = record { left = bits-first m; ends = refl; room = h; long = refl; bytes = refl }
 
-module _ (m : ℕ) (n : Node) (end : ℕ) (o out : List ℕ) (bits at i v : ℕ) (h : i < 8) (e : v ≡ valueOf n i) (p : Passed m n end o out bits at i) where
+module _ (m : ℕ) (n : Node) (end : ℕ) (o out : List ℕ) (bits at i v : ℕ) (h : i < 8) (e : v ≡ itemValue n i) (p : Passed m n end o out bits at i) where
   abbrev x : List ℕ
   x = itemAt bits v i
 
@@ -147,17 +147,32 @@ carried-sum s (y ∷ d) h =
     let e : ((s + y) % 256 + total d) % 256 ≡ (s + (y + total d)) % 256 = omega arith in
     ap (λ (l : List ℕ). y ∷ l) (carried-sum ((s + y) % 256) d (omega arith) ∙ ap (λ (x : ℕ). d ++ (x ∷ [])) e)
 
--- a packet that was begun, and has grown by all its items, is the status packet of these
-pub grown-whole : (b : ℕ) (d out o left : List ℕ) (at r : ℕ) → b < 256 → 2 + length d ≤ length out → Begun b out at o → Grown d at o r left
-    → Lending builtNumber (Bytes (r + 1)) left (written (statusPacket b d) out)
-grown-whole b d out o left at r h k s g =
-    let n = status-length b d in
-    let e : (0 + b) % 256 ≡ b = omega arith in
-    let begun : o ≡ sets out 0 (carriedOn 0 (b ∷ [])) = rw e (s .bytes) in
-    let whole : left ≡ sets out 0 (carriedOn 0 (b ∷ d)) =
-    g .bytes ∙ rw begun (carried-then (b ∷ []) d out 0 0 at (s .behind) (omega (arith, s .behind))) in
-    let t : (0 + total (b ∷ d)) % 256 ≡ total (b ∷ d) % 256 = omega arith in
-    let packet : carriedOn 0 (b ∷ d) ≡ statusPacket b d = carried-sum 0 (b ∷ d) (omega arith) ∙ ap (λ (x : ℕ). (b ∷ d) ++ (x ∷ [])) t in
-    let size : length (statusPacket b d) ≡ r + 1 = omega (arith, g .behind, s .behind) in
-    has-room (statusPacket b d) out (r + 1) left size (omega arith)
-    (whole ∙ ap (sets out 0) packet ∙ sets-start out (statusPacket b d) (omega arith) ∙ ap (λ (i : ℕ). statusPacket b d ++ drop i out) size)
+-- a packet that was begun, with its sum at `at`, and has grown by all its items
+module _ (b : ℕ) (out o : List ℕ) (at : ℕ) (s : record { answer = at; left = o } ≡ beginOf b out) where
+  begun-at : at ≡ 1
+  begun-at = ap (λ (x : Outcome ℕ (List ℕ)). x .answer) s
+
+  begun-bytes : o ≡ sets out 0 (b ∷ b ∷ [])
+  begun-bytes = ap (λ (x : Outcome ℕ (List ℕ)). x .left) s
+
+  -- has room for them where the whole packet has
+  pub begun-room : (d : List ℕ) → 2 + length d ≤ length out → at + length d < length o
+  begun-room d h = omega (arith, begun-at, ap (λ (l : List ℕ). length l) begun-bytes, length-sets out 0 (b ∷ b ∷ []))
+
+  module _ (d left : List ℕ) (r : ℕ) (g : Grown d at o r left) where
+    -- has the length of the whole packet
+    pub grown-size : r + 1 ≡ length (statusPacket b d)
+    grown-size = omega (arith, begun-at, g .behind, status-length b d)
+
+    -- and is it
+    pub grown-whole : b < 256 → 2 + length d ≤ length out → Lending builtNumber (Bytes (r + 1)) left (written (statusPacket b d) out)
+    grown-whole h k =
+        let n = status-length b d in
+        let e : (0 + b) % 256 ≡ b = omega arith in
+        let begun : o ≡ sets out 0 (carriedOn 0 (b ∷ [])) = rw e begun-bytes in
+        let t : (0 + total (b ∷ d)) % 256 ≡ total (b ∷ d) % 256 = omega arith in
+        let packet : carriedOn 0 (b ∷ d) ≡ statusPacket b d = carried-sum 0 (b ∷ d) (omega arith) ∙ ap (λ (x : ℕ). (b ∷ d) ++ (x ∷ [])) t in
+        let whole : left ≡ sets out 0 (statusPacket b d) =
+        g .bytes ∙ rw begun (carried-then (b ∷ []) d out 0 0 at begun-at (omega (arith, begun-at))) ∙ ap (sets out 0) packet in
+        has-room (statusPacket b d) out (r + 1) left (sym grown-size) (omega (arith, grown-size))
+        (whole ∙ sets-start out (statusPacket b d) (omega arith) ∙ ap (λ (i : ℕ). statusPacket b d ++ drop i out) (sym grown-size))

@@ -1,19 +1,32 @@
--- Serves inner calls: a status packet that grows in place. Its sum stands behind what is written, and moves on with each item.
+-- Serves inner calls: how a reply is written, which comes to what Reply says. A status packet grows in place: its sum stands behind what is written, and moves on with each item.
 use Prim.Native.Nat.{ℕ, _+_, _%_}
+use mathlib.Core.Bool.{Bool}
 use mathlib.Core.List.{List, [], _∷_}
 use mathlib.Core.Path.{_≡_}
+use lib.Dec.{leb}
 use lib.ListN.{length, getD}
 use lib.Seq.{sets}
+use Rattle.wire.specs.Promise.{Outcome}
+use Rattle.mask.specs.Mask.{sizeOf}
+use Rattle.node.specs.declared.state.Node.{Node}
+use Rattle.reply.specs.Items.{valuesOf}
+
+-- the value of the item of bit i; there are eight
+abbrev pub itemValue : Node → ℕ → ℕ
+itemValue n i = getD (valuesOf n) i 0
+
+-- the status packet under a mask fits a buffer of so many bytes
+abbrev pub hasRoom : ℕ → ℕ → Bool
+hasRoom m room = leb (sizeOf m) room
+
+-- the packet of no item, at the start of the buffer: its sum is the status byte itself, and stands at 1
+abbrev pub beginOf : ℕ → List ℕ → Outcome ℕ (List ℕ)
+beginOf b out = record { answer = 1; left = sets out 0 (b ∷ b ∷ []) }
 
 -- bytes, and behind them the 8-bit sum, carried on from s
 abbrev pub carriedOn : ℕ → List ℕ → List ℕ
 carriedOn s [] = s ∷ []
 carriedOn s (x ∷ d) = x ∷ carriedOn ((s + x) % 256) d
-
--- the packet of no item, at the start of the buffer: its sum stands at r
-pub record Begun (status : ℕ) (out : List ℕ) (r : ℕ) (left : List ℕ) : Type 0 where
-  pub behind : r ≡ 1
-  pub bytes : left ≡ sets out 0 (status ∷ status ∷ [])
 
 -- d where the sum stood, from `end` on, and the sum, carried on over d, behind it, at r
 pub record Grown (d : List ℕ) (end : ℕ) (out : List ℕ) (r : ℕ) (left : List ℕ) : Type 0 where

@@ -2,7 +2,6 @@
 use Prim.Native.Nat.{ℕ, zero, suc, _/_, _%_}
 use mathlib.Core.Bool.{Bool, cond}
 use mathlib.Core.List.{List, [], _∷_, _++_}
-use lib.ListN.{getD}
 use Rattle.command.specs.Command.{wordOf}
 use Rattle.status.specs.Status.{counts}
 use Rattle.mask.specs.Mask.{bit}
@@ -26,10 +25,6 @@ valuesOf n =
     ∷ n .captured .inputs
     ∷ n .captured .counter
     ∷ []
-
--- one of them; there are eight
-abbrev pub valueOf : Node → ℕ → ℕ
-valueOf n i = getD (valuesOf n) i 0
 
 -- an item's bytes, if it is asked for
 abbrev pub itemOf : Bool → List ℕ → List ℕ

@@ -9,13 +9,11 @@ use node::Node;
 use wire::Refusal;
 ghost use mathlib.Core.Path.{_≡_};
 ghost use Prim.Native.Nat.{_+_, _≤_, _<_};
-ghost use lib.Dec.{leb};
 ghost use lib.ListN.{length};
 ghost use Rattle.wire.specs.Promise.{Lending};
 ghost use Rattle.buffer.specs.Buffer.{builtNumber, written};
-ghost use Rattle.mask.specs.Mask.{sizeOf};
-ghost use Rattle.reply.specs.Items.{valueOf, bytesOf, itemOf, replyItems};
-ghost use Rattle.reply.specs.Grown.{Begun, Grown};
+ghost use Rattle.reply.specs.Items.{bytesOf, itemOf, replyItems};
+ghost use Rattle.reply.specs.Grown.{itemValue, hasRoom, beginOf, Grown};
 ghost use Rattle.reply.specs.Reply.{ownMask, maskOf, statusByte, replyOf};
 
 // The mask of a command's reply: Read Status has its own.
@@ -55,8 +53,8 @@ fn status_byte(message: Message) -> u8
 }
 
 // The value of a node's item, by its bit of the mask: `status::COUNTS` has its byte count.
-fn value(n: Node, i: usize) -> u32
-    ensures { λ r. ⌜ r ≡ valueOf n i ⌝ }
+fn item_value(n: Node, i: usize) -> u32
+    ensures { λ r. ⌜ r ≡ itemValue n i ⌝ }
 {
     let b = n.bench;
     let k = n.captured;
@@ -75,7 +73,7 @@ fn value(n: Node, i: usize) -> u32
 
 // Whether the status packet under a mask has room. Where the longest has, which is the usual case, there is nothing to count.
 fn has_room(mask: u8, room: usize) -> bool
-    ensures { λ r. ⌜ r ≡ leb (sizeOf mask) room ⌝ }
+    ensures { λ r. ⌜ r ≡ hasRoom mask room ⌝ }
 {
     if status::MOST_REPLY <= room {
         return true;
@@ -86,7 +84,7 @@ fn has_room(mask: u8, room: usize) -> bool
 // A status packet with no item yet: its sum is the status byte itself. Where the sum stands.
 fn begin(out: &mut [u8], status: u8) -> usize
     requires { ⌜ 2 ≤ length (now out) ⌝ }
-    ensures { λ r. ⌜ Begun status (now (out .entry)) r (now (out .exit)) ⌝ }
+    ensures { λ r. ⌜ record { answer = r; left = now (out .exit) } ≡ beginOf status (now (out .entry)) ⌝ }
 {
     out[0] = status;
     out[1] = status;
@@ -125,7 +123,7 @@ fn put_items(n: Node, mask: u8, out: &mut [u8], end: usize) -> usize
     let mut at = end;
     let mut i = 0;
     while i < 8 {
-        at = put_item(out, at, bits % 2 == 1, counts[i], value(n, i));
+        at = put_item(out, at, bits % 2 == 1, counts[i], item_value(n, i));
         bits /= 2;
         i += 1;
     }

@@ -9,13 +9,14 @@ use lib.Dec.{leb}
 use Rattle.status.specs.Status.{mostReply}
 use Rattle.mask.specs.Mask.{sizeOf}
 use Rattle.mask.proofs.Counts.{size-range}
+use Rattle.reply.specs.Grown.{hasRoom}
 use Rattle.reply.proofs.has_room.Statement.{statement}
 use Rattle.reply.proofs.has_room.Tie as tie
 
-longest : (m room : ℕ) → mostReply ≤ room → true ≡ leb (sizeOf m) room
+longest : (m room : ℕ) → mostReply ≤ room → true ≡ hasRoom m room
 longest m room h = sym (le-leb (sizeOf m) room (omega (arith, size-range m .1)))
 
-counted : (m room k : ℕ) → k ≡ sizeOf m → leb k room ≡ leb (sizeOf m) room
+counted : (m room k : ℕ) → k ≡ sizeOf m → leb k room ≡ hasRoom m room
 counted m room k e = ap (λ (j : ℕ). leb j room) e
 
 pub has-room-spec : {M : Type 1} → statement M

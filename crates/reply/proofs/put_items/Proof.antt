@@ -18,13 +18,13 @@ loop-holds c = (omega arith, passed-none _ _ _ _ (c .before .pre))
 put-item-requires : tie.Need-put-item-requires Inv-loop μ-loop
 put-item-requires c κs =
     let l = c .before .before .before .loop in
-    passed-room _ _ _ _ (l .out) _ _ (l .i) _ (omega arith) (c .value .ensures) (l .inv .1)
+    passed-room _ _ _ _ (l .out) _ _ (l .i) _ (omega arith) (c .item-value .ensures) (l .inv .1)
 
 loop-again : tie.Need-loop-again Inv-loop μ-loop
 loop-again c =
     let p = c .before .before in
     let l = p .before .before .before .before .loop in
-    (omega arith, passed-one _ _ _ _ (l .out) _ _ (l .i) _ (omega arith) (p .before .value .ensures) (l .inv .1) _ _ (p .put-item .ensures))
+    (omega arith, passed-one _ _ _ _ (l .out) _ _ (l .i) _ (omega arith) (p .before .item-value .ensures) (l .inv .1) _ _ (p .put-item .ensures))
 
 same-length : tie.Need-same-length Inv-loop μ-loop
 same-length c = c .before .loop .inv .1 .long

@@ -4,16 +4,15 @@ use borrow.Author.Tests.{not-true, not-false, leb-true, leb-false}
 use native.Mathlib.Omega.{arith}
 use Prim.Native.Nat.{ℕ, _+_, _^_, _≤_, _<_}
 use mathlib.Core.Bool.{Bool, true, false}
-use mathlib.Core.List.{List, [], _∷_}
-use mathlib.Core.Path.{_≡_, sym, ap, _∙_}
-use lib.Dec.{leb}
+use mathlib.Core.List.{List}
+use mathlib.Core.Path.{_≡_, sym, _∙_}
 use lib.ListN.{length}
-use lib.Seq.{length-sets}
 use Rattle.wire.specs.Promise.{Lending}
 use Rattle.wire.specs.declared.refusal.Refusal.the-variants.{Room}
 use Rattle.buffer.specs.Buffer.{builtNumber, written}
 use Rattle.buffer.specs.declared.Built.the-variants.{Bytes, Refused}
 use Rattle.buffer.proofs.Writing.{no-room}
+use Rattle.status.proofs.Replies.{status-length}
 use Rattle.node.specs.declared.state.Node.{Node}
 use Rattle.message.specs.declared.Message.{Message}
 use Rattle.message.specs.declared.Message.the-variants.{Intact, Other, Spoilt}
@@ -21,10 +20,10 @@ use Rattle.node.specs.Node.{takeOf}
 use Rattle.mask.specs.Mask.{sizeOf}
 use Rattle.mask.proofs.Counts.{size-range}
 use Rattle.reply.specs.Items.{replyItems}
-use Rattle.reply.specs.Grown.{Begun, Grown}
+use Rattle.reply.specs.Grown.{hasRoom, beginOf, Grown}
 use Rattle.reply.specs.Reply.{maskOf, statusByte, replyOf}
 use Rattle.reply.proofs.Counts.{items-length, items-fit}
-use Rattle.reply.proofs.Growing.{grown-whole}
+use Rattle.reply.proofs.Growing.{begun-room, grown-size, grown-whole}
 use Rattle.reply.proofs.Replies.{reply-length}
 use Rattle.reply.proofs.reply.Statement.{statement}
 use Rattle.reply.proofs.reply.Tie as tie
@@ -34,44 +33,39 @@ items-size : (m : ℕ) (n : Node) → 2 + length (replyItems m n) ≡ sizeOf m
 unfolding sizeOf
 items-size m n = omega (arith, items-length m n)
 
--- where the packet under a mask has room, so have its status byte and sum, and, once it is begun, the items of any node
-module _ (m k : ℕ) (t : Bool) (e : t ≡ leb (sizeOf m) k) (h : t ≡ true) where
+-- where the packet under a mask has room, so have its status byte and sum
+module _ (m k : ℕ) (t : Bool) (e : t ≡ hasRoom m k) (h : t ≡ true) where
   roomy : (n : Node) → 2 + length (replyItems m n) ≤ k
   roomy n = omega (arith, items-size m n, leb-true (sizeOf m) k (sym e ∙ h))
 
   begin-room : 2 ≤ k
   begin-room = omega (arith, size-range m .0, leb-true (sizeOf m) k (sym e ∙ h))
 
-items-room : (m b at : ℕ) (n : Node) (out o : List ℕ) (t : Bool) → t ≡ leb (sizeOf m) (length out) → t ≡ true → Begun b out at o → at + length (replyItems m n) < length o
-items-room m b at n out o t e h s =
-    omega (arith, roomy m (length out) t e h n, s .behind, ap (λ (l : List ℕ). length l) (s .bytes), length-sets out 0 (b ∷ b ∷ []))
+-- and, once it is begun, the items of any node
+items-room : (m b at : ℕ) (n : Node) (out o : List ℕ) (t : Bool) → t ≡ hasRoom m (length out) → t ≡ true → record { answer = at; left = o } ≡ beginOf b out
+    → at + length (replyItems m n) < length o
+items-room m b at n out o t e h s = begun-room b out o at s (replyItems m n) (roomy m (length out) t e h n)
 
--- and no packet is long
-short : (m : ℕ) (n : Node) (b at r : ℕ) (out o left : List ℕ) → Begun b out at o → Grown (replyItems m n) at o r left → r + 1 < 2 ^ 64
-short m n b at r out o left s g = omega (arith, s .behind, g .behind, items-fit m n)
+-- no packet is long
+short : (m : ℕ) (n : Node) (b at r : ℕ) (out o left : List ℕ) → record { answer = at; left = o } ≡ beginOf b out → Grown (replyItems m n) at o r left → r + 1 < 2 ^ 64
+short m n b at r out o left s g = omega (arith, grown-size b out o at s (replyItems m n) left r g, status-length b (replyItems m n), items-fit m n)
 
 byte : (h : Message) → statusByte h < 256
 byte (Intact c) = omega arith
 byte Other = omega arith
 byte Spoilt = omega arith
 
-module _ (h : Message) (n after : Node) (m : ℕ) (out : List ℕ) (t : Bool) (ta : after ≡ takeOf h n) (tm : m ≡ maskOf h (after .settings .mask)) (tr : t ≡ leb (sizeOf m) (length out)) where
+module _ (h : Message) (n after : Node) (m : ℕ) (out : List ℕ) (t : Bool) (ta : after ≡ takeOf h n) (tm : m ≡ maskOf h (after .settings .mask)) (tr : t ≡ hasRoom m (length out)) where
   refuses : t ≡ false → Lending builtNumber (Refused Room) out (written (replyOf h n) out)
   refuses e =
       let k : length out < sizeOf m = leb-false (sizeOf m) (length out) (sym tr ∙ e) in
       no-room (replyOf h n) out (rw (reply-length h n, ← ta, ← tm) k)
 
-  sent : (b at r : ℕ) (o left : List ℕ) → t ≡ true → b ≡ statusByte h → Begun b out at o → Grown (replyItems m after) at o r left
+  sent : (b at r : ℕ) (o left : List ℕ) → t ≡ true → b ≡ statusByte h → record { answer = at; left = o } ≡ beginOf b out → Grown (replyItems m after) at o r left
       → Lending builtNumber (Bytes (r + 1)) left (written (replyOf h n) out)
   unfolding replyOf
   sent b at r o left e tb s g =
-      rw (tb, tm, ta) at (grown-whole b (replyItems m after) out o left at r (rw tb (byte h)) (roomy m (length out) t tr e after) s g)
-
-add-t9 : tie.Need-add-t9
-add-t9 c =
-    let p = c .before .before in
-    let b = p .before .before .before .before in
-    record { fits = short _ _ _ _ _ _ _ _ (b .begin .ensures) (p .put-items .ensures) }
+      rw (tb, tm, ta) at (grown-whole b out o at s (replyItems m after) left r g (rw tb (byte h)) (roomy m (length out) t tr e after))
 
 pub reply-spec : {M : Type 1} → statement M
 reply-spec =
@@ -84,6 +78,6 @@ reply-spec =
     (λ c κs. search needs)
     (λ c κs. search (begin-room, not-false))
     (λ c κs. search (items-room, not-false))
-    add-t9
+    (λ c. record { fits = search short })
     (λ c. search needs)
     (λ c. search (sent, not-false)))

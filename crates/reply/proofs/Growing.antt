@@ -19,7 +19,7 @@ use Rattle.status.proofs.Replies.{status-length}
 use Rattle.node.specs.declared.state.Node.{Node}
 use Rattle.mask.proofs.Sizes.{bits-first, bits-next}
 use Rattle.reply.specs.Items.{bytesOf, valuesOf, itemOf, askedFrom, replyItems}
-use Rattle.reply.specs.Grown.{itemValue, beginOf, carriedOn, Grown}
+use Rattle.reply.specs.Grown.{itemValue, replyBegin, carriedOn, Grown}
 use Rattle.reply.proofs.Bytes.{bytes-length}
 
 -- ---- one item, byte by byte
@@ -148,7 +148,7 @@ carried-sum s (y ∷ d) h =
     ap (λ (l : List ℕ). y ∷ l) (carried-sum ((s + y) % 256) d (omega arith) ∙ ap (λ (x : ℕ). d ++ (x ∷ [])) e)
 
 -- a packet that was begun, with its sum at `at`, and has grown by all its items
-module _ (b : ℕ) (out o : List ℕ) (at : ℕ) (s : record { answer = at; left = o } ≡ beginOf b out) where
+module _ (b : ℕ) (out o : List ℕ) (at : ℕ) (s : record { answer = at; left = o } ≡ replyBegin b out) where
   begun-at : at ≡ 1
   begun-at = ap (λ (x : Outcome ℕ (List ℕ)). x .answer) s
 

@@ -20,8 +20,8 @@ abbrev pub hasRoom : ℕ → ℕ → Bool
 hasRoom m room = leb (sizeOf m) room
 
 -- the packet of no item, at the start of the buffer: its sum is the status byte itself, and stands at 1
-abbrev pub beginOf : ℕ → List ℕ → Outcome ℕ (List ℕ)
-beginOf b out = record { answer = 1; left = sets out 0 (b ∷ b ∷ []) }
+abbrev pub replyBegin : ℕ → List ℕ → Outcome ℕ (List ℕ)
+replyBegin b out = record { answer = 1; left = sets out 0 (b ∷ b ∷ []) }
 
 -- bytes, and behind them the 8-bit sum, carried on from s
 abbrev pub carriedOn : ℕ → List ℕ → List ℕ

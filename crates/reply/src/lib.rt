@@ -13,7 +13,7 @@ ghost use lib.ListN.{length};
 ghost use Rattle.wire.specs.Promise.{Lending};
 ghost use Rattle.buffer.specs.Buffer.{builtNumber, written};
 ghost use Rattle.reply.specs.Items.{bytesOf, itemOf, replyItems};
-ghost use Rattle.reply.specs.Grown.{itemValue, hasRoom, beginOf, Grown};
+ghost use Rattle.reply.specs.Grown.{itemValue, hasRoom, replyBegin, Grown};
 ghost use Rattle.reply.specs.Reply.{ownMask, maskOf, statusByte, replyOf};
 
 // The mask of a command's reply: Read Status has its own.
@@ -84,7 +84,7 @@ fn has_room(mask: u8, room: usize) -> bool
 // A status packet with no item yet: its sum is the status byte itself. Where the sum stands.
 fn begin(out: &mut [u8], status: u8) -> usize
     requires { ⌜ 2 ≤ length (now out) ⌝ }
-    ensures { λ r. ⌜ record { answer = r; left = now (out .exit) } ≡ beginOf status (now (out .entry)) ⌝ }
+    ensures { λ r. ⌜ record { answer = r; left = now (out .exit) } ≡ replyBegin status (now (out .entry)) ⌝ }
 {
     out[0] = status;
     out[1] = status;

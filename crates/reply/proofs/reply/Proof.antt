@@ -20,7 +20,7 @@ use Rattle.node.specs.Node.{takeOf}
 use Rattle.mask.specs.Mask.{sizeOf}
 use Rattle.mask.proofs.Counts.{size-range}
 use Rattle.reply.specs.Items.{replyItems}
-use Rattle.reply.specs.Grown.{hasRoom, beginOf, Grown}
+use Rattle.reply.specs.Grown.{hasRoom, replyBegin, Grown}
 use Rattle.reply.specs.Reply.{maskOf, statusByte, replyOf}
 use Rattle.reply.proofs.Counts.{items-length, items-fit}
 use Rattle.reply.proofs.Growing.{begun-room, grown-size, grown-whole}
@@ -42,12 +42,12 @@ module _ (m k : ℕ) (t : Bool) (e : t ≡ hasRoom m k) (h : t ≡ true) where
   begin-room = omega (arith, size-range m .0, leb-true (sizeOf m) k (sym e ∙ h))
 
 -- and, once it is begun, the items of any node
-items-room : (m b at : ℕ) (n : Node) (out o : List ℕ) (t : Bool) → t ≡ hasRoom m (length out) → t ≡ true → record { answer = at; left = o } ≡ beginOf b out
+items-room : (m b at : ℕ) (n : Node) (out o : List ℕ) (t : Bool) → t ≡ hasRoom m (length out) → t ≡ true → record { answer = at; left = o } ≡ replyBegin b out
     → at + length (replyItems m n) < length o
 items-room m b at n out o t e h s = begun-room b out o at s (replyItems m n) (roomy m (length out) t e h n)
 
 -- no packet is long
-short : (m : ℕ) (n : Node) (b at r : ℕ) (out o left : List ℕ) → record { answer = at; left = o } ≡ beginOf b out → Grown (replyItems m n) at o r left → r + 1 < 2 ^ 64
+short : (m : ℕ) (n : Node) (b at r : ℕ) (out o left : List ℕ) → record { answer = at; left = o } ≡ replyBegin b out → Grown (replyItems m n) at o r left → r + 1 < 2 ^ 64
 short m n b at r out o left s g = omega (arith, grown-size b out o at s (replyItems m n) left r g, status-length b (replyItems m n), items-fit m n)
 
 byte : (h : Message) → statusByte h < 256
@@ -61,7 +61,7 @@ module _ (h : Message) (n after : Node) (m : ℕ) (out : List ℕ) (t : Bool) (t
       let k : length out < sizeOf m = leb-false (sizeOf m) (length out) (sym tr ∙ e) in
       no-room (replyOf h n) out (rw (reply-length h n, ← ta, ← tm) k)
 
-  sent : (b at r : ℕ) (o left : List ℕ) → t ≡ true → b ≡ statusByte h → record { answer = at; left = o } ≡ beginOf b out → Grown (replyItems m after) at o r left
+  sent : (b at r : ℕ) (o left : List ℕ) → t ≡ true → b ≡ statusByte h → record { answer = at; left = o } ≡ replyBegin b out → Grown (replyItems m after) at o r left
       → Lending builtNumber (Bytes (r + 1)) left (written (replyOf h n) out)
   unfolding replyOf
   sent b at r o left e tb s g =

@@ -80,7 +80,7 @@ abbrev pub still : ℕ → Node → ℕ → List ℕ
 still m n i = askedFrom i m (drop i counts) (drop i (valuesOf n))
 
 -- the bytes of item i, as the loop has them: the bits that are left, and its value
-abbrev pub itemAt : ℕ → ℕ → ℕ → List ℕ
+abbrev itemAt : ℕ → ℕ → ℕ → List ℕ
 itemAt bits v i = itemOf (eqb (bits % 2) 1) (bytesOf (getD counts i 0) v)
 
 -- i items are passed: those from bit i on are still to be added, and have room; then all were added from `end` on, over o

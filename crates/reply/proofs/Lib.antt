@@ -1,5 +1,5 @@
 pub mod Bytes
-pub mod Growing
+mod Growing
 pub mod Counts
 pub mod Replies
 pub mod Unique

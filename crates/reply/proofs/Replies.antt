@@ -1,7 +1,7 @@
 -- What a reply is: its length, how the host judges it, that it reads back under its mask as its items, and what the builder writes.
-use Prim.Native.Nat.{ℕ, _+_, _≤_}
+use Prim.Native.Nat.{ℕ, _≤_}
 use mathlib.Core.List.{List}
-use mathlib.Core.Path.{_≡_, refl, sym, ap, _∙_}
+use mathlib.Core.Path.{_≡_, refl, sym, _∙_}
 use lib.ListN.{length, take}
 use Rattle.buffer.specs.Buffer.{atStart, written}
 use Rattle.buffer.specs.Change.{Altered}
@@ -9,7 +9,7 @@ use Rattle.buffer.proofs.Writing.{wrote, written-wrote, written-fits}
 use Rattle.status.specs.Status.{statusRead, itemsPart, cleared, judgeOf}
 use Rattle.status.specs.declared.Status.the-variants.{Whole}
 use Rattle.status.specs.declared.Answer.the-variants.{Clear, Marked, Silent}
-use Rattle.status.proofs.Replies.{status-length, built-reads, built-items, accepted-built, judged-built, judged-altered}
+use Rattle.status.proofs.Replies.{status-length, packet-reads, packet-items, accepted-packet, judged-packet, judged-altered}
 use Rattle.command.specs.declared.Command.{Command}
 use Rattle.command.specs.declared.Command.the-variants.{DefineStatus, ReadStatus, Nop}
 use Rattle.node.specs.declared.state.Node.{Node}
@@ -19,21 +19,20 @@ use Rattle.node.specs.Node.{takeOf}
 use Rattle.mask.specs.Mask.{sizeOf, maskRead}
 use Rattle.reply.specs.Items.{replyItems}
 use Rattle.reply.specs.Reply.{maskFor, statusByte, replyOf}
-use Rattle.reply.proofs.Counts.{items-length, items-fit}
+use Rattle.reply.proofs.Counts.{items-length, items-size, items-fit}
 
 -- ---- length
 
 pub reply-length : (h : Message) (n : Node) → length (replyOf h n) ≡ sizeOf (maskFor h n)
-unfolding replyOf sizeOf
-reply-length h n =
-    status-length (statusByte h) (replyItems (maskFor h n) (takeOf h n)) ∙ ap (λ (k : ℕ). 2 + k) (items-length (maskFor h n) (takeOf h n))
+unfolding replyOf
+reply-length h n = status-length (statusByte h) (replyItems (maskFor h n) (takeOf h n)) ∙ items-size (maskFor h n) (takeOf h n)
 
 -- ---- what the host makes of a reply
 
 -- every reply is good, and judged by its status byte
 pub reply-judged : (h : Message) (n : Node) → judgeOf (replyOf h n) ≡ cleared (statusByte h)
 unfolding replyOf
-reply-judged h n = judged-built (statusByte h) (replyItems (maskFor h n) (takeOf h n)) (items-fit (maskFor h n) (takeOf h n))
+reply-judged h n = judged-packet (statusByte h) (replyItems (maskFor h n) (takeOf h n)) (items-fit (maskFor h n) (takeOf h n))
 
 pub intact-clear : (c : Command) (n : Node) → judgeOf (replyOf (Intact c) n) ≡ Clear
 intact-clear c n = reply-judged (Intact c) n
@@ -57,12 +56,12 @@ pub reply-reads : (h : Message) (n : Node) → maskRead (maskFor h n) (replyOf h
 unfolding replyOf maskRead
 reply-reads h n =
     let m : ℕ = maskFor h n in
-    rw (← (items-length m (takeOf h n))) (built-reads (statusByte h) (replyItems m (takeOf h n)))
+    rw (← (items-length m (takeOf h n))) (packet-reads (statusByte h) (replyItems m (takeOf h n)))
 
 -- and the items asked for, as the node holds them once it has acted
 pub reply-items : (h : Message) (n : Node) → itemsPart (replyOf h n) ≡ replyItems (maskFor h n) (takeOf h n)
 unfolding replyOf
-reply-items h n = built-items (statusByte h) (replyItems (maskFor h n) (takeOf h n))
+reply-items h n = packet-items (statusByte h) (replyItems (maskFor h n) (takeOf h n))
 
 -- ---- what the builder writes
 
@@ -82,7 +81,7 @@ pub accepted-written : (h : Message) (n : Node) (s out : List ℕ) (k : ℕ) →
     → length s ≤ length out → written (replyOf h n) out ≡ atStart s out
 unfolding replyOf
 accepted-written h n s out k e f l =
-    let q : replyOf h n ≡ s = rw (← f) (sym (accepted-built s k (statusByte h) e)) in
+    let q : replyOf h n ≡ s = rw (← f) (sym (accepted-packet s k (statusByte h) e)) in
     rw q (written-fits s out l)
 
 -- ---- others

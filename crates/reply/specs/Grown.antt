@@ -1,4 +1,4 @@
--- Serves inner calls: how a reply is written, which comes to what Reply says. A status packet grows in place: its sum stands behind what is written, and moves on with each item.
+-- Serves private contracts: how a reply is written, which comes to what Reply says. Document 02, request 5: "straight into the reply buffer, carrying the sum along". The sum stands behind what is written, and moves on with each item.
 use Prim.Native.Nat.{ℕ, _+_, _%_}
 use mathlib.Core.Bool.{Bool}
 use mathlib.Core.List.{List, [], _∷_}
@@ -11,7 +11,7 @@ use Rattle.mask.specs.Mask.{sizeOf}
 use Rattle.node.specs.declared.state.Node.{Node}
 use Rattle.reply.specs.Items.{valuesOf}
 
--- the value of the item of bit i; there are eight
+-- the value of the item of bit i; there are eight, and 0 past them
 abbrev pub itemValue : Node → ℕ → ℕ
 itemValue n i = getD (valuesOf n) i 0
 
@@ -23,7 +23,7 @@ hasRoom m room = leb (sizeOf m) room
 abbrev pub replyBegin : ℕ → List ℕ → Outcome ℕ (List ℕ)
 replyBegin b out = record { answer = 1; left = sets out 0 (b ∷ b ∷ []) }
 
--- bytes, and behind them the 8-bit sum, carried on from s
+-- "carrying the sum along": bytes, and behind them the 8-bit sum, carried on from s
 abbrev pub carriedOn : ℕ → List ℕ → List ℕ
 carriedOn s [] = s ∷ []
 carriedOn s (x ∷ d) = x ∷ carriedOn ((s + x) % 256) d

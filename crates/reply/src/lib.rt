@@ -1,5 +1,5 @@
 // What a node sends back: the status packet, with the items of Define Status in their order, least significant byte first.
-// It is written straight into the lent buffer and grows there, item by item, its sum carried along: at each step a whole status packet stands in it.
+// It is written straight into the lent buffer and grows there, item by item, its sum carried along: after each item a whole status packet stands in it.
 // Promised: every reply is good, says by bit 1 whether the sum was wrong, and reads back under its mask as the items asked for.
 // Left to others: whether the node replies at all (message, survey).
 use buffer::Built;
@@ -81,7 +81,7 @@ fn has_room(mask: u8, room: usize) -> bool
     mask::size(mask) <= room
 }
 
-// A status packet with no item yet: its sum is the status byte itself. Where the sum stands.
+// A status packet with no item yet, whose sum is the status byte itself; where the sum stands.
 fn begin(out: &mut [u8], status: u8) -> usize
     requires { ⌜ 2 ≤ length (now out) ⌝ }
     ensures { λ r. ⌜ record { answer = r; left = now (out .exit) } ≡ replyBegin status (now (out .entry)) ⌝ }
@@ -91,7 +91,7 @@ fn begin(out: &mut [u8], status: u8) -> usize
     1
 }
 
-// An item more, if it is asked for: its bytes from where the sum stands, least significant first, and the sum behind them. Where the sum then stands.
+// An item more, if it is asked for: its bytes from `end` on, where the sum stands, least significant first, and the sum behind them; where the sum then stands.
 fn put_item(out: &mut [u8], end: usize, wanted: bool, count: usize, value: u32) -> usize
     requires { ⌜ end + length (itemOf wanted (bytesOf count value)) < length (now out) ⌝ }
     ensures { λ r. ⌜ Grown (itemOf wanted (bytesOf count value)) end (now (out .entry)) r (now (out .exit)) ⌝ }
@@ -113,7 +113,7 @@ fn put_item(out: &mut [u8], end: usize, wanted: bool, count: usize, value: u32) 
     end + count
 }
 
-// The items of a node that a mask asks for, from bit 0 on, behind what ends in its sum at `end`. Where the sum then stands.
+// The items of a node that a mask asks for, in their order, from `end` on, where the sum stands; where it then stands.
 fn put_items(n: Node, mask: u8, out: &mut [u8], end: usize) -> usize
     requires { ⌜ end + length (replyItems mask n) < length (now out) ⌝ }
     ensures { λ r. ⌜ Grown (replyItems mask n) end (now (out .entry)) r (now (out .exit)) ⌝ }

@@ -30,13 +30,13 @@ unfolding statusRead
 whole s k t n e = simp (le-ltb (length s) (2 + k) (omega arith), le-ltb (2 + k) (length s) (omega arith), e)
 
 -- a status packet reads back as its status byte
-pub built-reads : (b : ℕ) (d : List ℕ) → statusRead (statusPacket b d) (length d) ≡ Whole b
-built-reads b d = whole (statusPacket b d) (length d) true (status-length b d) (with-sum-ends (b ∷ d))
+pub packet-reads : (b : ℕ) (d : List ℕ) → statusRead (statusPacket b d) (length d) ≡ Whole b
+packet-reads b d = whole (statusPacket b d) (length d) true (status-length b d) (with-sum-ends (b ∷ d))
 
 -- and its items
-pub built-items : (b : ℕ) (d : List ℕ) → itemsPart (statusPacket b d) ≡ d
+pub packet-items : (b : ℕ) (d : List ℕ) → itemsPart (statusPacket b d) ≡ d
 unfolding itemsPart
-built-items b d =
+packet-items b d =
     let k : length (statusPacket b d) - 2 ≡ length d = omega (arith, status-length b d) in
     rw k (take-append-seam d (sumOf (b ∷ d) ∷ []))
 
@@ -61,9 +61,9 @@ first-then [] k e = absurd (omega arith)
 first-then (x ∷ s) k e = refl
 
 -- an accepted status packet is the one of its parts
-pub accepted-built : (s : List ℕ) (k b : ℕ) → statusRead s k ≡ Whole b → s ≡ statusPacket b (itemsPart s)
+pub accepted-packet : (s : List ℕ) (k b : ℕ) → statusRead s k ≡ Whole b → s ≡ statusPacket b (itemsPart s)
 unfolding itemsPart
-accepted-built s k b e =
+accepted-packet s k b e =
     let a = accepted s k b e in
     let n : length s - 2 ≡ k = omega (arith, a .size) in
     let m : length s - 1 ≡ suc k = omega (arith, a .size) in
@@ -79,9 +79,9 @@ altered-reads s t k b e d =
 -- ---- the host's judgement
 
 -- a status packet of at most T item bytes is good, and judged by its status byte
-pub judged-built : (b : ℕ) (d : List ℕ) → length d ≤ T → judgeOf (statusPacket b d) ≡ cleared b
+pub judged-packet : (b : ℕ) (d : List ℕ) → length d ≤ T → judgeOf (statusPacket b d) ≡ cleared b
 unfolding judgeOf
-judged-built b d h =
+judged-packet b d h =
     let n = status-length b d in
     simp (le-ltb (length (statusPacket b d)) 2 (omega arith), le-ltb mostReply (length (statusPacket b d)) (omega arith), with-sum-ends (b ∷ d))
 

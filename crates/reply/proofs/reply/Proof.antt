@@ -22,16 +22,11 @@ use Rattle.mask.proofs.Counts.{size-range}
 use Rattle.reply.specs.Items.{replyItems}
 use Rattle.reply.specs.Grown.{hasRoom, replyBegin, Grown}
 use Rattle.reply.specs.Reply.{maskOf, statusByte, replyOf}
-use Rattle.reply.proofs.Counts.{items-length, items-fit}
+use Rattle.reply.proofs.Counts.{items-size, items-fit}
 use Rattle.reply.proofs.Growing.{begun-room, grown-size, grown-whole}
 use Rattle.reply.proofs.Replies.{reply-length}
 use Rattle.reply.proofs.reply.Statement.{statement}
 use Rattle.reply.proofs.reply.Tie as tie
-
--- status byte, items, sum
-items-size : (m : ℕ) (n : Node) → 2 + length (replyItems m n) ≡ sizeOf m
-unfolding sizeOf
-items-size m n = omega (arith, items-length m n)
 
 -- where the packet under a mask has room, so have its status byte and sum
 module _ (m k : ℕ) (t : Bool) (e : t ≡ hasRoom m k) (h : t ≡ true) where

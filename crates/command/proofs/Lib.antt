@@ -1,5 +1,3 @@
 pub mod Roles
-mod Rows
-mod Building
-pub mod Commands
+mod Fitting
 pub mod Unique

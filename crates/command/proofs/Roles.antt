@@ -1,13 +1,12 @@
 -- Which command a role belongs to, and what holds of all commands of a role: whoever speaks of a role needs no list of commands.
-use mathlib.Core.Bool.{true, false, true≢false, false≢true}
+use mathlib.Core.Bool.{true, false≢true}
 use mathlib.Core.Path.{_≡_, refl}
 use Rattle.command.specs.declared.Place.{Place}
 use Rattle.command.specs.declared.Command.{Command}
-use Rattle.command.specs.declared.Command.the-variants.{SetAddress, DefineStatus, ReadStatus, SetPwm, SynchOutput, SetOutputs, SetSynchOutput, SetTimerMode, SynchInput, Nop, HardReset}
+use Rattle.command.specs.declared.Command.the-variants.{SetAddress, DefineStatus, ReadStatus, SetPwm, SynchOutput, SetOutputs, SetSynchOutput, SetTimerMode, SynchInput, Nop, HardReset, ResetPosition, LoadTrajectory, StartMotion, SetGain, StopMotor}
 use Rattle.command.specs.declared.Role.{Role}
-use Rattle.command.specs.declared.Role.the-variants.{Plain, Places, Masks, Captures, Idles, Resets}
+use Rattle.command.specs.declared.Role.the-variants.{Plain, Places, Masks, Captures, Zeroes, Idles, Resets}
 use Rattle.command.specs.Role.{roleOf, isPlacing, isReset}
-use Rattle.command.specs.Build.{fitsBy, fitsOf, typedBy, Typed}
 
 -- every role but Plain is that of one command
 abbrev Belongs : Role → Command → Type 0
@@ -15,6 +14,7 @@ Belongs Plain c = Unit {0}
 Belongs (Places p) c = c ≡ SetAddress p
 Belongs (Masks m) c = c ≡ ReadStatus m
 Belongs Captures c = c ≡ SynchInput
+Belongs Zeroes c = c ≡ ResetPosition
 Belongs Idles c = c ≡ Nop
 Belongs Resets c = c ≡ HardReset
 
@@ -30,12 +30,18 @@ belongs (SetTimerMode m) = tt
 belongs SynchInput = refl
 belongs Nop = refl
 belongs HardReset = refl
+belongs ResetPosition = refl
+belongs (LoadTrajectory m) = tt
+belongs StartMotion = tt
+belongs (SetGain g) = tt
+belongs (StopMotor s) = tt
 
 resets-belongs : (r : Role) (c : Command) → Belongs r c → isReset r ≡ true → c ≡ HardReset
 resets-belongs Plain c b h = absurd (false≢true h)
 resets-belongs (Places p) c b h = absurd (false≢true h)
 resets-belongs (Masks m) c b h = absurd (false≢true h)
 resets-belongs Captures c b h = absurd (false≢true h)
+resets-belongs Zeroes c b h = absurd (false≢true h)
 resets-belongs Idles c b h = absurd (false≢true h)
 resets-belongs Resets c b h = b
 
@@ -53,21 +59,10 @@ places-belongs Plain c b h = absurd (false≢true h)
 places-belongs (Places p) c b h = record { to = p; by = b }
 places-belongs (Masks m) c b h = absurd (false≢true h)
 places-belongs Captures c b h = absurd (false≢true h)
+places-belongs Zeroes c b h = absurd (false≢true h)
 places-belongs Idles c b h = absurd (false≢true h)
 places-belongs Resets c b h = absurd (false≢true h)
 
 -- only Set Address gives a place
 pub only-places : (c : Command) → isPlacing (roleOf c) ≡ true → PlacedBy c
 only-places c = places-belongs (roleOf c) c (belongs c)
-
-unplaced-fits : (r : Role) → isPlacing r ≡ false → (fitsBy r ≡ true) × typedBy r
-unplaced-fits Plain h = (refl, tt)
-unplaced-fits (Places p) h = absurd (true≢false h)
-unplaced-fits (Masks m) h = (refl, tt)
-unplaced-fits Captures h = (refl, tt)
-unplaced-fits Idles h = (refl, tt)
-unplaced-fits Resets h = (refl, tt)
-
--- what gives no place has no values off their range
-pub ordinary-fits : (c : Command) → isPlacing (roleOf c) ≡ false → (fitsOf c ≡ true) × Typed c
-ordinary-fits c = unplaced-fits (roleOf c)

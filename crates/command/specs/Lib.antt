@@ -1,4 +1,4 @@
-pub mod Command
 pub mod Role
-pub mod Build
-pub mod Filling
+pub mod Owner
+pub mod Control
+pub mod Ranges

@@ -1,11 +1,11 @@
 -- What a command is beside its data: one table. Whatever treats some commands alike goes by the role, so that a new command is one row here.
 use mathlib.Core.Bool.{Bool, true, false}
 use Rattle.command.specs.declared.Command.{Command}
-use Rattle.command.specs.declared.Command.the-variants.{SetAddress, DefineStatus, ReadStatus, SetPwm, SynchOutput, SetOutputs, SetSynchOutput, SetTimerMode, SynchInput, Nop, HardReset}
+use Rattle.command.specs.declared.Command.the-variants.{SetAddress, DefineStatus, ReadStatus, SetPwm, SynchOutput, SetOutputs, SetSynchOutput, SetTimerMode, SynchInput, Nop, HardReset, ResetPosition, LoadTrajectory, StartMotion, SetGain, StopMotor}
 use Rattle.command.specs.declared.Role.{Role}
-use Rattle.command.specs.declared.Role.the-variants.{Plain, Places, Masks, Captures, Idles, Resets}
+use Rattle.command.specs.declared.Role.the-variants.{Plain, Places, Masks, Captures, Zeroes, Idles, Resets}
 
--- Set Address places, Read Status has its own mask, Synch Input captures, Hard Reset resets; Nop does nothing, and the others store or copy settings, no more
+-- Set Address places, Read Status has its own mask, Synch Input captures, Reset Position zeroes, Hard Reset resets; Nop does nothing, and the others store or copy settings, no more
 abbrev pub roleOf : Command → Role
 roleOf (SetAddress p) = Places p
 roleOf (DefineStatus m) = Plain
@@ -18,6 +18,11 @@ roleOf (SetTimerMode m) = Plain
 roleOf SynchInput = Captures
 roleOf Nop = Idles
 roleOf HardReset = Resets
+roleOf ResetPosition = Zeroes
+roleOf (LoadTrajectory m) = Plain
+roleOf StartMotion = Plain
+roleOf (SetGain g) = Plain
+roleOf (StopMotor s) = Plain
 
 -- Set Address: sent by "next" and by "regroup" alone
 abbrev pub isPlacing : Role → Bool
@@ -25,6 +30,7 @@ isPlacing Plain = false
 isPlacing (Places p) = true
 isPlacing (Masks m) = false
 isPlacing Captures = false
+isPlacing Zeroes = false
 isPlacing Idles = false
 isPlacing Resets = false
 
@@ -34,6 +40,7 @@ isNop Plain = false
 isNop (Places p) = false
 isNop (Masks m) = false
 isNop Captures = false
+isNop Zeroes = false
 isNop Idles = true
 isNop Resets = false
 
@@ -43,5 +50,6 @@ isReset Plain = false
 isReset (Places p) = false
 isReset (Masks m) = false
 isReset Captures = false
+isReset Zeroes = false
 isReset Idles = false
 isReset Resets = true

@@ -1,21 +1,14 @@
-// The commands of an LS-773: one enum, whose cases carry their own data; read from a packet's parts, and built.
-// Promised: a built packet reads back as the same command, an accepted one is the one built from its command.
-// Left to others: header and sum (packet), and what a command does (node).
-use buffer::Built;
-use wire::Address;
+// The commands of an LS-773 and of an LS-173AP: one enum, whose cases carry their own data.
+// Promised: of each command its role, which kinds of node have it, and whether its values are of the manual's ranges.
+// Left to others: how a command is read and built (codec), and what it does (node).
 use wire::Group;
 use wire::Individual;
-use wire::Refusal;
+use wire::Kind;
 ghost use mathlib.Core.Path.{_≡_};
-ghost use Prim.Native.Nat.{_%_, _/_};
-ghost use mathlib.Core.List.{[], _∷_};
-ghost use lib.ListN.{getD};
-ghost use Rattle.wire.specs.Promise.{Lending};
-ghost use Rattle.buffer.specs.Buffer.{builtNumber, written};
-ghost use Rattle.command.specs.Command.{wordOf, placeOf, listedOf, commandRead};
 ghost use Rattle.command.specs.Role.{roleOf, isPlacing, isNop, isReset};
-ghost use Rattle.command.specs.Build.{ownData, groupByte, placeFits, fitsBy, packetTo, commandBuild};
-ghost use Rattle.command.specs.Filling.{commandHead, filled};
+ghost use Rattle.command.specs.Owner.{ownerOf, has};
+ghost use Rattle.command.specs.Control.{loadsOf, isStopHere};
+ghost use Rattle.command.specs.Ranges.{placeFits, gainsFit, valueFits, positionFits, motionFits, stopFits, fitsOf};
 
 // Where a node stands: its individual address, its group, and whether it leads that group.
 pub struct Place {
@@ -36,6 +29,34 @@ pub struct Held {
     pub pwm: Pwm,
 }
 
+// What Set Gain stores, by the manual's names: the gains KP, KD, KI and the integration limit IL, the error limit EL, the output limit OL,
+// the servo rate divisor SR, the deadband compensation DB.
+pub struct Gains {
+    pub kp: u16,
+    pub kd: u16,
+    pub ki: u16,
+    pub il: u16,
+    pub el: u16,
+    pub ol: u8,
+    pub sr: u8,
+    pub db: u8,
+}
+
+// How a drive is to move: what Load Trajectory loads and Start Motion starts. A position is signed: 32 bits, two's complement, as it is sent.
+pub struct Motion {
+    pub position: u32,
+    pub velocity: u32,
+    pub acceleration: u32,
+    pub control: u8,
+    pub pwm: u8,
+}
+
+// What Stop Motor brings: the stop byte and, if its bit 4 says so, the position to stop at.
+pub struct Stop {
+    pub position: u32,
+    pub byte: u8,
+}
+
 // A match on it has an arm for each case, and no `_`, which would leave a proof only the number of the case.
 pub enum Command {
     SetAddress(Place),
@@ -49,11 +70,22 @@ pub enum Command {
     SynchInput,
     Nop,
     HardReset,
+    ResetPosition,
+    LoadTrajectory(Motion),
+    StartMotion,
+    SetGain(Gains),
+    StopMotor(Stop),
+}
+
+// What the parts of an intact packet say: a command, or another one, which is replied to as a Nop is and changes nothing.
+pub enum Reading {
+    Known(Command),
+    Other,
 }
 
 // What a command is beside its data. Whoever treats some commands alike asks for their role, so that a new command is one row of `role`.
 pub enum Role {
-    // Stores its data or copies what is held, and no more.
+    // Stores its data or copies what is held or waits, and no more.
     Plain,
     // Gives the node this place, and addresses it.
     Places(Place),
@@ -61,10 +93,19 @@ pub enum Role {
     Masks(u8),
     // Captures the inputs and the counter.
     Captures,
+    // Sets the position to zero.
+    Zeroes,
     // Does nothing but be answered.
     Idles,
     // Restores power-up state, and is not answered.
     Resets,
+}
+
+// Who has a command: both kinds of node, or one alone.
+pub enum Owner {
+    Both,
+    Gate,
+    Drive,
 }
 
 impl Command {
@@ -84,7 +125,71 @@ impl Command {
             Command::SynchInput => Role::Captures,
             Command::Nop => Role::Idles,
             Command::HardReset => Role::Resets,
+            Command::ResetPosition => Role::Zeroes,
+            Command::LoadTrajectory(_) => Role::Plain,
+            Command::StartMotion => Role::Plain,
+            Command::SetGain(_) => Role::Plain,
+            Command::StopMotor(_) => Role::Plain,
         }
+    }
+
+    // The one table of who has which command.
+    pub fn owner(self) -> Owner
+        ensures { λ r. ⌜ r ≡ ownerOf self ⌝ }
+    {
+        match self {
+            Command::SetAddress(_) => Owner::Both,
+            Command::DefineStatus(_) => Owner::Both,
+            Command::ReadStatus(_) => Owner::Both,
+            Command::SetPwm(_) => Owner::Gate,
+            Command::SynchOutput => Owner::Gate,
+            Command::SetOutputs(_) => Owner::Gate,
+            Command::SetSynchOutput(_) => Owner::Gate,
+            Command::SetTimerMode(_) => Owner::Gate,
+            Command::SynchInput => Owner::Gate,
+            Command::Nop => Owner::Both,
+            Command::HardReset => Owner::Both,
+            Command::ResetPosition => Owner::Drive,
+            Command::LoadTrajectory(_) => Owner::Drive,
+            Command::StartMotion => Owner::Drive,
+            Command::SetGain(_) => Owner::Drive,
+            Command::StopMotor(_) => Owner::Drive,
+        }
+    }
+
+    // Whether all its values are of the manual's ranges.
+    pub fn fits(self) -> bool
+        ensures { λ r. ⌜ r ≡ fitsOf self ⌝ }
+    {
+        match self {
+            Command::SetAddress(place) => place_fits(place),
+            Command::DefineStatus(_) => true,
+            Command::ReadStatus(_) => true,
+            Command::SetPwm(_) => true,
+            Command::SynchOutput => true,
+            Command::SetOutputs(_) => true,
+            Command::SetSynchOutput(_) => true,
+            Command::SetTimerMode(_) => true,
+            Command::SynchInput => true,
+            Command::Nop => true,
+            Command::HardReset => true,
+            Command::ResetPosition => true,
+            Command::LoadTrajectory(motion) => motion_fits(motion),
+            Command::StartMotion => true,
+            Command::SetGain(gains) => gains_fit(gains),
+            Command::StopMotor(stop) => stop_fits(stop),
+        }
+    }
+}
+
+// Whether a kind of node has a command.
+pub fn has(kind: Kind, c: Command) -> bool
+    ensures { λ r. ⌜ r ≡ has kind c ⌝ }
+{
+    match c.owner() {
+        Owner::Both => true,
+        Owner::Gate => kind.is_gate(),
+        Owner::Drive => !kind.is_gate(),
     }
 }
 
@@ -98,6 +203,7 @@ impl Role {
             Role::Plain => false,
             Role::Masks(_) => false,
             Role::Captures => false,
+            Role::Zeroes => false,
             Role::Idles => false,
             Role::Resets => false,
         }
@@ -113,6 +219,7 @@ impl Role {
             Role::Places(_) => false,
             Role::Masks(_) => false,
             Role::Captures => false,
+            Role::Zeroes => false,
             Role::Resets => false,
         }
     }
@@ -127,152 +234,50 @@ impl Role {
             Role::Places(_) => false,
             Role::Masks(_) => false,
             Role::Captures => false,
+            Role::Zeroes => false,
             Role::Idles => false,
         }
     }
 }
 
-// What the parts of an intact packet say: a command, or another one, which is replied to as a Nop is and changes nothing.
-pub enum Reading {
-    Known(Command),
-    Other,
+// What a control byte says: which values it brings, by bits 0 to 3, and whether the motion starts at once, by bit 7.
+pub struct Loads {
+    pub position: bool,
+    pub velocity: bool,
+    pub acceleration: bool,
+    pub pwm: bool,
+    pub starts: bool,
 }
 
-// The word of two bytes, least significant first.
-fn word(low: u8, high: u8) -> u16
-    ensures { λ r. ⌜ r ≡ wordOf low high ⌝ }
-{
-    low as u16 + high as u16 * 256
-}
-
-// The place of the two data bytes of Set Address.
-fn place_of(address: u8, group: u8) -> Place
-    ensures { λ r. ⌜ r ≡ placeOf address group ⌝ }
-{
-    Place {
-        address: Individual(address),
-        group: Group(group % 0x80 + 0x80),
-        leader: group < 0x80,
-    }
-}
-
-// The data byte at a position.
-fn byte(bytes: &[u8], at: usize) -> u8
-    ensures { λ r. ⌜ r ≡ getD (now (bytes .entry)) at 0 ⌝ }
-{
-    if at < bytes.len() {
-        return bytes[at];
-    }
-    0
-}
-
-// The command of a command byte, count and command as the manual lists them, and the first four data bytes.
-fn listed(head: u8, one: u8, two: u8, three: u8, four: u8) -> Reading
-    ensures { λ r. ⌜ r ≡ listedOf (head % 16) (head / 16) (one ∷ two ∷ three ∷ four ∷ []) ⌝ }
-{
-    let c = match head {
-        0x21 => {
-            if 0x80 <= one {
-                return Reading::Other;
-            }
-            Command::SetAddress(place_of(one, two))
+impl Loads {
+    // The bits of a control byte.
+    pub fn of(control: u8) -> Loads
+        ensures { λ r. ⌜ r ≡ loadsOf control ⌝ }
+    {
+        Loads {
+            position: control % 2 == 1,
+            velocity: control / 2 % 2 == 1,
+            acceleration: control / 4 % 2 == 1,
+            pwm: control / 8 % 2 == 1,
+            starts: control / 128 == 1,
         }
-        0x12 => Command::DefineStatus(one),
-        0x13 => Command::ReadStatus(one),
-        0x24 => Command::SetPwm(Pwm {
-            first: one,
-            second: two,
-        }),
-        0x05 => Command::SynchOutput,
-        0x26 => Command::SetOutputs(word(one, two)),
-        0x47 => Command::SetSynchOutput(Held {
-            outputs: word(one, two),
-            pwm: Pwm {
-                first: three,
-                second: four,
-            },
-        }),
-        0x18 => Command::SetTimerMode(one),
-        0x0C => Command::SynchInput,
-        0x0E => Command::Nop,
-        0x0F => Command::HardReset,
-        _ => return Reading::Other,
-    };
-    Reading::Known(c)
-}
-
-// The command of a packet's command nibble and data bytes.
-pub fn read(command: u8, bytes: &[u8]) -> Reading
-    ensures { λ r. ⌜ r ≡ commandRead command (now (bytes .entry)) ⌝ }
-{
-    if 15 < command {
-        return Reading::Other;
-    }
-    if 15 < bytes.len() {
-        return Reading::Other;
-    }
-    let head = command + (bytes.len() as u8) * 16;
-    listed(
-        head,
-        byte(bytes, 0),
-        byte(bytes, 1),
-        byte(bytes, 2),
-        byte(bytes, 3),
-    )
-}
-
-// The second data byte of Set Address: the group, with bit 7 clear for a leader.
-fn group_byte(p: Place) -> u8
-    ensures { λ r. ⌜ r ≡ groupByte p ⌝ }
-{
-    let low = p.group.0 % 0x80;
-    if p.leader { low } else { low + 0x80 }
-}
-
-// A word's two bytes, least significant first, and two more.
-fn word_then(w: u16, third: u8, fourth: u8) -> [u8; 4]
-    ensures { λ r. ⌜ r ≡ w % 256 ∷ w / 256 ∷ third ∷ fourth ∷ [] ⌝ }
-{
-    [(w % 256) as u8, (w / 256) as u8, third, fourth]
-}
-
-// The command byte: how many data bytes, and the command.
-fn head(c: Command) -> u8
-    ensures { λ r. ⌜ r ≡ commandHead c ⌝ }
-{
-    match c {
-        Command::SetAddress(_) => 0x21,
-        Command::DefineStatus(_) => 0x12,
-        Command::ReadStatus(_) => 0x13,
-        Command::SetPwm(_) => 0x24,
-        Command::SynchOutput => 0x05,
-        Command::SetOutputs(_) => 0x26,
-        Command::SetSynchOutput(_) => 0x47,
-        Command::SetTimerMode(_) => 0x18,
-        Command::SynchInput => 0x0C,
-        Command::Nop => 0x0E,
-        Command::HardReset => 0x0F,
     }
 }
 
-// A command's own data, and zeros behind it.
-fn own_data(c: Command) -> [u8; 4]
-    ensures { λ r. ⌜ r ≡ filled (ownData c) ⌝ }
+// Bit 4 of a stop byte: a position to stop at follows.
+pub fn is_stop_here(stop: u8) -> bool
+    ensures { λ r. ⌜ r ≡ isStopHere stop ⌝ }
 {
-    match c {
-        Command::SetAddress(p) => [p.address.0, group_byte(p), 0, 0],
-        Command::DefineStatus(mask) => [mask, 0, 0, 0],
-        Command::ReadStatus(mask) => [mask, 0, 0, 0],
-        Command::SetPwm(w) => [w.first, w.second, 0, 0],
-        Command::SynchOutput => [0; 4],
-        Command::SetOutputs(w) => word_then(w, 0, 0),
-        Command::SetSynchOutput(h) => word_then(h.outputs, h.pwm.first, h.pwm.second),
-        Command::SetTimerMode(mode) => [mode, 0, 0, 0],
-        Command::SynchInput => [0; 4],
-        Command::Nop => [0; 4],
-        Command::HardReset => [0; 4],
-    }
+    stop / 16 % 2 == 1
 }
+
+// The most that a velocity or an acceleration is, and a position in either direction.
+const MOST_MOTION: u32 = 0x7FFFFFFF;
+
+// The most that KP, KD, KI and IL are, and EL; SR is 1 at least.
+const MOST_GAIN: u16 = 0x7FFF;
+
+const MOST_ERROR: u16 = 0x3FFF;
 
 // Whether a place is of its range.
 fn place_fits(p: Place) -> bool
@@ -280,44 +285,50 @@ fn place_fits(p: Place) -> bool
 {
     let address = p.address;
     let group = p.group;
-    if address.in_range() {
-        return group.in_range();
-    }
-    false
+    address.in_range() & group.in_range()
 }
 
-// Whether a command's values are of their range: only a place has one.
-fn fits_by(role: Role) -> bool
-    ensures { λ r. ⌜ r ≡ fitsBy role ⌝ }
+// Whether gains are of their ranges; OL and DB may be any byte.
+fn gains_fit(g: Gains) -> bool
+    ensures { λ r. ⌜ r ≡ gainsFit g ⌝ }
 {
-    match role {
-        Role::Places(p) => place_fits(p),
-        Role::Plain => true,
-        Role::Masks(_) => true,
-        Role::Captures => true,
-        Role::Idles => true,
-        Role::Resets => true,
-    }
+    let gains = (g.kp <= MOST_GAIN) & (g.kd <= MOST_GAIN) & (g.ki <= MOST_GAIN);
+    gains & (g.il <= MOST_GAIN) & (g.el <= MOST_ERROR) & (1 <= g.sr)
 }
 
-// The packet of a command whose values are of their range, to the address byte `a`.
-fn put_packet_to(a: u8, c: Command, out: &mut [u8]) -> Built
-    ensures { λ r. ⌜ Lending builtNumber r (now (out .exit)) (written (packetTo a c) (now (out .entry))) ⌝ }
+// Whether a position is of its range, -0x7FFFFFFF to 0x7FFFFFFF: two's complement has one number more.
+fn position_fits(position: u32) -> bool
+    ensures { λ r. ⌜ r ≡ positionFits position ⌝ }
 {
-    let command_byte = head(c);
-    let bytes = own_data(c);
-    let count = (command_byte / 16) as usize;
-    packet::build(a, command_byte % 16, &bytes[..count], out)
+    position != MOST_MOTION + 1
 }
 
-// Builds the packet of a command at the start of `out`, whose rest stays. 6 where the address or a place is not of its range, then 5.
-pub fn build(to: Address, c: Command, out: &mut [u8]) -> Built
-    ensures { λ r. ⌜ Lending builtNumber r (now (out .exit)) (commandBuild to c (now (out .entry))) ⌝ }
+// Whether a value is of its range if a command brings it. One that it doesn't bring is not sent, and must be 0: else a command would not come back from its packet.
+fn value_fits(brought: bool, fits: bool, value: u32) -> bool
+    ensures { λ r. ⌜ r ≡ valueFits brought fits value ⌝ }
 {
-    if to.in_range() {
-        if fits_by(c.role()) {
-            return put_packet_to(to.byte(), c, out);
-        }
+    if brought {
+        return fits;
     }
-    Built::Refused(Refusal::Range)
+    value == 0
+}
+
+// Whether what a control byte brings is of its ranges.
+fn motion_fits(m: Motion) -> bool
+    ensures { λ r. ⌜ r ≡ motionFits m ⌝ }
+{
+    let l = Loads::of(m.control);
+    value_fits(l.position, position_fits(m.position), m.position)
+        & value_fits(l.velocity, m.velocity <= MOST_MOTION, m.velocity)
+        & value_fits(l.acceleration, m.acceleration <= MOST_MOTION, m.acceleration)
+        & value_fits(l.pwm, true, m.pwm as u32)
+}
+
+// Whether a stop byte has no reserved bit and at most one of bits 1 to 4, and the position that it brings is of its range.
+fn stop_fits(s: Stop) -> bool
+    ensures { λ r. ⌜ r ≡ stopFits s ⌝ }
+{
+    let b = s.byte;
+    let chosen = b / 2 % 2 + b / 4 % 2 + b / 8 % 2 + b / 16 % 2;
+    (b < 0x20) & (chosen <= 1) & value_fits(is_stop_here(b), position_fits(s.position), s.position)
 }

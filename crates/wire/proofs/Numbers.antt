@@ -30,6 +30,7 @@ in-range refusal.Closed = refl
 in-range refusal.Line = refl
 in-range refusal.Uneven = refl
 in-range refusal.Backward = refl
+in-range refusal.Lacked = refl
 
 -- each of its tests holds
 module _ (n : ℕ) (h : refuses n ≡ true) where

@@ -2,6 +2,7 @@
 use mathlib.Core.Path.{sym, _∙_}
 use Rattle.wire.proofs.OneResult.{OneResult}
 use Rattle.wire.proofs.refusal.Refusal.number.Reads as number
+use Rattle.wire.proofs.kind.Kind.is_gate.Reads as is-gate
 use Rattle.wire.proofs.address.Individual.in_range.Reads as individual-in-range
 use Rattle.wire.proofs.address.Group.in_range.Reads as group-in-range
 use Rattle.wire.proofs.address.Address.of.Reads as address-of
@@ -10,6 +11,9 @@ use Rattle.wire.proofs.address.Address.byte.Reads as address-byte
 
 pub number-unique : OneResult number.Post
 number-unique κs a r r′ s s′ p q = p ∙ sym q
+
+pub is-gate-unique : OneResult is-gate.Post
+is-gate-unique κs a r r′ s s′ p q = p ∙ sym q
 
 pub individual-in-range-unique : OneResult individual-in-range.Post
 individual-in-range-unique κs a r r′ s s′ p q = p ∙ sym q

@@ -1,4 +1,5 @@
 pub mod Promise
 pub mod Numbers
 pub mod Address
+pub mod Kind
 pub mod Part

@@ -24,6 +24,7 @@ numberOf refusal.Closed = 12
 numberOf refusal.Line = 14
 numberOf refusal.Uneven = 15
 numberOf refusal.Backward = 16
+numberOf refusal.Lacked = 17
 
 -- "several nodes replied (not a refusal)"
 abbrev pub collision : ℕ

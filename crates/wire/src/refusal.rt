@@ -35,6 +35,8 @@ pub enum Refusal {
     Uneven,
     // A time is less than the one before in its capture.
     Backward,
+    // The kind of a node that the command may reach lacks it.
+    Lacked,
 }
 
 // A call that is done.
@@ -70,6 +72,7 @@ impl Refusal {
             Refusal::Line => 14,
             Refusal::Uneven => 15,
             Refusal::Backward => 16,
+            Refusal::Lacked => 17,
         }
     }
 }

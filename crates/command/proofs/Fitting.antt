@@ -1,0 +1,35 @@
+-- Ranges, as the code tests them.
+use Prim.Native.Nat.{ℕ, _+_, _/_, _%_}
+use mathlib.Core.Bool.{Bool, true, false, _&&_}
+use mathlib.Core.Path.{_≡_, sym, ap, _∙_}
+use lib.Dec.{ltb, leb}
+use Rattle.wire.specs.Address.{individualInRange, groupInRange}
+use Rattle.command.specs.declared.Place.{Place}
+use Rattle.command.specs.declared.Motion.{Motion}
+use Rattle.command.specs.declared.Loads.{Loads}
+use Rattle.command.specs.declared.Stop.{Stop}
+use Rattle.command.specs.declared.Command.{Command}
+use Rattle.command.specs.Control.{loadsOf, isStopHere}
+use Rattle.command.specs.Ranges.{placeFits, positionFits, valueFits, motionFits, stopFits, fitsOf}
+
+pub place-tested : (p : Place) (a g : Bool) → a ≡ individualInRange (p .address .0) → g ≡ groupInRange (p .group .0) → (a && g) ≡ placeFits p
+place-tested p a g e f = rw (e, f)
+
+-- a value that isn't brought
+pub not-brought : (brought fits : Bool) (v : ℕ) (z : Bool) → brought ≡ false → z ≡ valueFits false fits v → z ≡ valueFits brought fits v
+not-brought brought fits v z h e = rw h e
+
+-- the four values of a load
+pub motion-tested : (m : Motion) (l : Loads) (q p v a w : Bool) → l ≡ loadsOf (m .control) → q ≡ positionFits (m .position) → p ≡ valueFits (l .position) q (m .position)
+    → v ≡ valueFits (l .velocity) (leb (m .velocity) 0x7FFFFFFF) (m .velocity) → a ≡ valueFits (l .acceleration) (leb (m .acceleration) 0x7FFFFFFF) (m .acceleration)
+    → w ≡ valueFits (l .pwm) true (m .pwm) → (p && v && a && w) ≡ motionFits m
+motion-tested m l q p v a w el eq ep ev ea ew = rw (ep, ev, ea, ew, eq, el)
+
+-- the stop byte and the position that it brings
+pub stop-tested : (s : Stop) (h q v : Bool) → h ≡ isStopHere (s .byte) → q ≡ positionFits (s .position) → v ≡ valueFits h q (s .position)
+    → (ltb (s .byte) 0x20 && leb (s .byte / 2 % 2 + s .byte / 4 % 2 + s .byte / 8 % 2 + s .byte / 16 % 2) 1 && v) ≡ stopFits s
+stop-tested s h q v eh eq ev = rw (ev, eq, eh)
+
+-- in each arm the command is known
+pub fits-told : (c d : Command) (r : Bool) → c ≡ d → r ≡ fitsOf d → r ≡ fitsOf c
+fits-told c d r e h = h ∙ sym (ap (λ (k : Command). fitsOf k) e)

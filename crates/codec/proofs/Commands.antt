@@ -1,7 +1,7 @@
 -- Commands: what the builder writes, whatever follows it, reads back as the same command for each kind of node that has it, and ends at its length;
 -- up to its end an accepted packet is what it writes from its parts; what both kinds have they read alike; a refused builder leaves the buffer as it stood.
 use Prim.Native.Nat.{ℕ, _+_, _*_, _%_, _/_, _<_, _≤_}
-use mathlib.Core.Bool.{Bool, true, false, cond, false≢true}
+use mathlib.Core.Bool.{Bool, true, false, cond, true≢false, false≢true}
 use mathlib.Core.List.{List, _++_}
 use mathlib.Core.Path.{_≡_, refl, sym, ap, _∙_}
 use native.Mathlib.Omega.{arith}
@@ -21,9 +21,11 @@ use Rattle.wire.proofs.Choice.{chose-first, both}
 use Rattle.wire.proofs.Impossible.{impossible}
 use Rattle.buffer.proofs.Writing.{written-fits, wrote, wrote-not, written-count, written-wrote}
 use Rattle.buffer.proofs.Refusals.{Spares, written-spares, else-spares}
-use Rattle.packet.specs.Packet.{dataPart}
+use Rattle.packet.specs.Packet.{readOf, dataPart}
+use Rattle.packet.specs.declared.Framed.the-variants.{Whole}
 use Rattle.packet.proofs.Packets as packets
 use Rattle.packet.proofs.Laws as packet
+use Rattle.command.specs.Role.{roleOf, isPlacing}
 use Rattle.command.specs.Owner.{ownerOf, hasBy, has}
 use Rattle.command.specs.Ranges.{fitsOf}
 use Rattle.command.specs.declared.Owner.{Owner}
@@ -33,9 +35,11 @@ use Rattle.command.specs.declared.Gains.{Gains}
 use Rattle.command.specs.declared.Stop.{Stop}
 use Rattle.command.specs.declared.Command.{Command}
 use Rattle.command.specs.declared.Command.the-variants.{SetAddress, DefineStatus, ReadStatus, SetPwm, SynchOutput, SetOutputs, SetSynchOutput, SetTimerMode, SynchInput, Nop, HardReset, ResetPosition, LoadTrajectory, StartMotion, SetGain, StopMotor}
+use Rattle.command.specs.declared.Role.{Role}
+use Rattle.command.specs.declared.Role.the-variants.{Plain, Places, Masks, Captures, Zeroes, Idles, Resets}
 use Rattle.command.specs.declared.Reading.the-variants.{Known}
 use Rattle.codec.specs.Reading.{placeOf, loadCount, stopCount, motionOf, gainsOf, stopOf, sharedRows, gateRows, driveRows, ownRows, codecRead, ReadsAs}
-use Rattle.codec.specs.Build.{codeOf, ownData, groupByte, Typed, loadData, gainData, stopData, packetFor, buildFor, codecBuild}
+use Rattle.codec.specs.Build.{codeOf, ownData, groupByte, typedBy, Typed, loadData, gainData, stopData, packetFor, buildFor, codecBuild}
 use Rattle.codec.proofs.Values.{word-back}
 use Rattle.codec.proofs.Loads.{load-count, load-first, motion-back, gain-count, gain-tenth, gains-back, stop-count, stop-first, stop-back}
 use Rattle.codec.proofs.Rows.{sized, says-shared, ownOwner, says-own, split, shared-known}
@@ -142,6 +146,19 @@ shared-alike kind other k d c o e =
     (λ e. shared-known other k d c e)
     (λ e. absurd (own-not-both kind (sym (says-own kind k (length d) d c e .owned) ∙ o)))
 
+-- only a place must be typed
+role-typed : (r : Role) → isPlacing r ≡ false → typedBy r
+role-typed Plain h = tt
+role-typed (Places p) h = absurd (true≢false h)
+role-typed (Masks m) h = tt
+role-typed Captures h = tt
+role-typed Zeroes h = tt
+role-typed Idles h = tt
+role-typed Resets h = tt
+
+pub unplaced-typed : (c : Command) → isPlacing (roleOf c) ≡ false → Typed c
+unplaced-typed c h = role-typed (roleOf c) h
+
 -- ---- from bytes to bytes
 
 built-length : (a : Address) (c : Command) → length (packetFor a c) ≡ 4 + length (ownData c)
@@ -151,17 +168,27 @@ built-length a c = packets.built-length (byteOf a) (codeOf c) (ownData c)
 pub built-few : (a : Address) (c : Command) → length (packetFor a c) ≤ 18
 built-few a c = let z = sized c in omega (arith, built-length a c)
 
--- a built packet, whatever follows it, reads back as the same command and ends at its length
-pub built-reads : (kind : Kind) (a : Address) (c : Command) → has kind c ≡ true → inRange a ≡ true → fitsOf c ≡ true → Typed c → (more : List ℕ)
-    → ReadsAs kind (packetFor a c ++ more) a c (length (packetFor a c))
-built-reads kind a c o h f t more =
+-- some bytes begin with a packet with a right sum, which ends at n and has the number and the data bytes of command c, to address a: whatever kind of node reads it
+pub record Frames (s : List ℕ) (a : Address) (c : Command) (n : ℕ) : Type 0 where
+  pub whole : readOf s ≡ Whole a (codeOf c) n
+  pub bytes : dataPart s ≡ ownData c
+
+-- so does a built packet, whatever follows it, and it ends at its length
+pub built-frames : (a : Address) (c : Command) → inRange a ≡ true → (more : List ℕ) → Frames (packetFor a c ++ more) a c (length (packetFor a c))
+built-frames a c h more =
     let z = sized c in
     let small : codeOf c < 16 = omega arith in
     record {
-      command = codeOf c;
       whole = rw (built-length a c) (rw (address-back a h) at (packets.built-reads (byteOf a) (codeOf c) (ownData c) more small));
-      known = rw (packets.built-data (byteOf a) (codeOf c) (ownData c) more small) (read-back kind c o f t);
+      bytes = packets.built-data (byteOf a) (codeOf c) (ownData c) more small;
     }
+
+-- and reads back as the same command
+pub built-reads : (kind : Kind) (a : Address) (c : Command) → has kind c ≡ true → inRange a ≡ true → fitsOf c ≡ true → Typed c → (more : List ℕ)
+    → ReadsAs kind (packetFor a c ++ more) a c (length (packetFor a c))
+built-reads kind a c o h f t more =
+    let b = built-frames a c h more in
+    record { command = codeOf c; whole = b .whole; known = rw (b .bytes) (read-back kind c o f t) }
 
 -- up to its end an accepted packet is the one that we would build from its parts
 pub reads-built : (kind : Kind) (s : List ℕ) (a : Address) (c : Command) (n : ℕ) → AllBytes s → ReadsAs kind s a c n → take n s ≡ packetFor a c

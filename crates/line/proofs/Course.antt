@@ -8,7 +8,8 @@ use lib.ListN.{length, take}
 use Rattle.wire.specs.Address.{inRange}
 use Rattle.wire.specs.declared.address.Address.{Address}
 use Rattle.command.specs.declared.Command.{Command}
-use Rattle.command.specs.Build.{fitsOf, packetFor}
+use Rattle.command.specs.Ranges.{fitsOf}
+use Rattle.codec.specs.Build.{packetFor}
 use Rattle.command.specs.Build as build
 use Rattle.status.specs.declared.Answer.{Answer}
 use Rattle.status.specs.declared.Answer.the-variants.{Silent}

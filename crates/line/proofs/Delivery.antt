@@ -17,9 +17,10 @@ use Rattle.packet.specs.declared.Framed.the-variants.{Whole}
 use Rattle.buffer.proofs.Sums.{changed-length}
 use Rattle.packet.proofs.Packets.{read-says, damaged-frames, damaged-spoilt}
 use Rattle.command.specs.declared.Command.{Command}
-use Rattle.command.specs.Command.{ReadsAs}
-use Rattle.command.specs.Build.{fitsOf, Typed, packetFor}
-use Rattle.command.proofs.Commands.{built-reads}
+use Rattle.codec.specs.Reading.{ReadsAs}
+use Rattle.command.specs.Ranges.{fitsOf}
+use Rattle.codec.specs.Build.{Typed, packetFor}
+use Rattle.codec.proofs.Commands.{built-reads}
 use Rattle.command.specs.Role.{roleOf}
 use Rattle.status.specs.Status.{judgeOf, cleared}
 use Rattle.status.specs.declared.Answer.{Answer}

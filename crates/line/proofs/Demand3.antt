@@ -8,7 +8,7 @@ use native.Mathlib.Omega.{arith}
 use borrow.Author.Tests.{not-false}
 use lib.ListN.{getD}
 use Rattle.wire.specs.Address.{addressOf}
-use Rattle.command.specs.Build.{packetFor}
+use Rattle.codec.specs.Build.{packetFor}
 use Rattle.message.specs.declared.Message.the-variants.{Intact, Spoilt}
 use Rattle.node.specs.declared.state.Node.{Node}
 use Rattle.node.specs.Setting.{Setting}

@@ -16,7 +16,8 @@ use Rattle.command.specs.declared.Command.{Command}
 use Rattle.command.specs.declared.Command.the-variants.{SetAddress, Nop}
 use Rattle.command.specs.Role.{roleOf, isPlacing, isReset}
 use Rattle.command.proofs.Roles.{ordinary-fits}
-use Rattle.command.specs.Build.{fitsOf, Typed, packetFor}
+use Rattle.command.specs.Ranges.{fitsOf}
+use Rattle.codec.specs.Build.{Typed, packetFor}
 use Rattle.node.specs.Setting.{place}
 use Rattle.node.specs.Effect.{addressUp, effect, writes}
 use Rattle.node.proofs.Laws.{place-writes}

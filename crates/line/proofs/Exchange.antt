@@ -7,7 +7,7 @@ use native.Mathlib.Omega.{arith}
 use lib.ListN.{getD}
 use Rattle.wire.specs.declared.address.Address.{Address}
 use Rattle.command.specs.declared.Command.{Command}
-use Rattle.command.specs.Build.{fitsOf}
+use Rattle.command.specs.Ranges.{fitsOf}
 use Rattle.status.specs.declared.Answer.{Answer}
 use Rattle.node.specs.declared.state.Node.{Node}
 use Rattle.ledger.specs.Ledger.{blankEntry}

@@ -8,7 +8,7 @@ use lib.Dec.{eqb}
 use lib.ListN.{length, getD}
 use Rattle.wire.specs.declared.address.Address.{Address}
 use Rattle.command.specs.declared.Command.{Command}
-use Rattle.command.specs.Build.{placeFits}
+use Rattle.command.specs.Ranges.{placeFits}
 use Rattle.command.specs.Role.{roleOf}
 use Rattle.status.specs.declared.Answer.{Answer}
 use Rattle.status.specs.declared.Answer.the-variants.{Clear, Marked}

@@ -9,8 +9,8 @@ use Rattle.buffer.specs.Sum.{total, endsInSum}
 use Rattle.buffer.specs.Buffer.{written}
 use Rattle.packet.specs.Packet.{dataPart, frameOf, isIntact}
 use Rattle.command.specs.declared.Command.the-variants.{SetAddress, SynchOutput, SetOutputs, SetSynchOutput}
-use Rattle.command.specs.Command.{listedOf, commandRead}
-use Rattle.command.specs.Build.{buildFor, commandBuild}
+use Rattle.codec.specs.Reading.{listedOf, codecRead}
+use Rattle.codec.specs.Build.{buildFor, codecBuild}
 use Rattle.status.specs.Status.{judgeOf}
 use Rattle.status.specs.declared.Answer.the-variants.{Silent}
 use Rattle.node.specs.declared.state.Node.{Node}
@@ -71,29 +71,29 @@ sets = 0xAA ∷ 0x80 ∷ 0x26 ∷ 0x05 ∷ 0x00 ∷ 0xAB ∷ []
 leads : Round (Regroup (record { 0 = 1 }) (record { 0 = 0x80 }) true) (sends (nodeAt 1) (SetAddress (inGroup 1 true))) (joins 1 0x00) (λ i. true)
     (session Idle (addressed 1) (addressed 2)) (session (Waiting (nodeAt 1) (SetAddress (inGroup 1 true))) (addressed 1) (addressed 2))
     (placed 1 0 ∷ placed 2 0 ∷ []) (grouped 1 true ∷ placed 2 0 ∷ [])
-unfolding regroupOf regroupCheck hasRival isLed ledFrom ledgerLeast freeCheck isClosed isValid isWaiting isAskDue transmitOf openExchange commandBuild buildFor written total
-    frameOf frameAlone dataPart isIntact endsInSum commandRead listedOf after turned doesAct doesReply replyOf replyItems
+unfolding regroupOf regroupCheck hasRival isLed ledFrom ledgerLeast freeCheck isClosed isValid isWaiting isAskDue transmitOf openExchange codecBuild buildFor written total
+    frameOf frameAlone dataPart isIntact endsInSum codecRead listedOf after turned doesAct doesReply replyOf replyItems
 leads = record { typed = omega arith; sends = λ past. refl; nodes = refl; says = refl }
 
 follows : Round (Regroup (record { 0 = 2 }) (record { 0 = 0x80 }) false) (sends (nodeAt 2) (SetAddress (inGroup 2 false))) (joins 2 0x80) (λ i. true)
     (session Idle (groupedEntry 1 true) (addressed 2)) (session (Waiting (nodeAt 2) (SetAddress (inGroup 2 false))) (groupedEntry 1 true) (addressed 2))
     (grouped 1 true ∷ placed 2 0 ∷ []) (grouped 1 true ∷ grouped 2 false ∷ [])
-unfolding regroupOf regroupCheck hasRival isLed ledFrom ledgerLeast freeCheck isClosed isValid isWaiting isAskDue transmitOf openExchange commandBuild buildFor written total
-    frameOf frameAlone dataPart isIntact endsInSum commandRead listedOf after turned doesAct doesReply replyOf replyItems
+unfolding regroupOf regroupCheck hasRival isLed ledFrom ledgerLeast freeCheck isClosed isValid isWaiting isAskDue transmitOf openExchange codecBuild buildFor written total
+    frameOf frameAlone dataPart isIntact endsInSum codecRead listedOf after turned doesAct doesReply replyOf replyItems
 follows = record { typed = omega arith; sends = λ past. refl; nodes = refl; says = refl }
 
 hold-1 : Round (Order (nodeAt 1) (SetSynchOutput opened)) (sends (nodeAt 1) (SetSynchOutput opened)) (holds 1) (λ i. true)
     (session Idle (groupedEntry 1 true) (groupedEntry 2 false)) (session (Waiting (nodeAt 1) (SetSynchOutput opened)) (groupedEntry 1 true) (groupedEntry 2 false))
     (grouped 1 true ∷ grouped 2 false ∷ []) (holding 1 true ∷ grouped 2 false ∷ [])
-unfolding orderOf orderCheck freeCheck isClosed isValid isWaiting transmitOf openExchange commandBuild buildFor written total
-    frameOf frameAlone dataPart isIntact endsInSum commandRead listedOf after turned doesAct doesReply replyOf replyItems
+unfolding orderOf orderCheck freeCheck isClosed isValid isWaiting transmitOf openExchange codecBuild buildFor written total
+    frameOf frameAlone dataPart isIntact endsInSum codecRead listedOf after turned doesAct doesReply replyOf replyItems
 hold-1 = record { typed = tt; sends = λ past. refl; nodes = refl; says = refl }
 
 hold-2 : Round (Order (nodeAt 2) (SetSynchOutput opened)) (sends (nodeAt 2) (SetSynchOutput opened)) (holds 2) (λ i. true)
     (session Idle (holdingEntry 1 true) (groupedEntry 2 false)) (session (Waiting (nodeAt 2) (SetSynchOutput opened)) (holdingEntry 1 true) (groupedEntry 2 false))
     (holding 1 true ∷ grouped 2 false ∷ []) (holding 1 true ∷ holding 2 false ∷ [])
-unfolding orderOf orderCheck freeCheck isClosed isValid isWaiting transmitOf openExchange commandBuild buildFor written total
-    frameOf frameAlone dataPart isIntact endsInSum commandRead listedOf after turned doesAct doesReply replyOf replyItems
+unfolding orderOf orderCheck freeCheck isClosed isValid isWaiting transmitOf openExchange codecBuild buildFor written total
+    frameOf frameAlone dataPart isIntact endsInSum codecRead listedOf after turned doesAct doesReply replyOf replyItems
 hold-2 = record { typed = tt; sends = λ past. refl; nodes = refl; says = refl }
 
 -- the group is made, and both hold their set
@@ -109,8 +109,8 @@ module _ (got : Bool) where
   pass : Round (Order group80 SynchOutput) (sends group80 SynchOutput) (synch 0x80) (λ i. eqb i 0 || got)
       (session Idle (holdingEntry 1 true) (holdingEntry 2 false)) (session (Waiting group80 SynchOutput) (holdingEntry 1 true) (holdingEntry 2 false))
       (holding 1 true ∷ holding 2 false ∷ []) (actOf SynchOutput (holding 1 true) ∷ second ∷ [])
-  unfolding orderOf orderCheck freeCheck isClosed isValid isWaiting transmitOf openExchange commandBuild buildFor written total
-      frameOf frameAlone dataPart isIntact endsInSum commandRead listedOf after turned doesAct doesReply replyOf replyItems
+  unfolding orderOf orderCheck freeCheck isClosed isValid isWaiting transmitOf openExchange codecBuild buildFor written total
+      frameOf frameAlone dataPart isIntact endsInSum codecRead listedOf after turned doesAct doesReply replyOf replyItems
   pass = record { typed = omega arith; sends = λ past. refl; nodes = refl; says = refl }
 
   -- its clear reply confirms it at node 1, the leader, and puts node 2 in doubt
@@ -124,8 +124,8 @@ hand : Round (Order (nodeAt 2) SynchOutput) (sends (nodeAt 2) SynchOutput) (sync
     (session Idle (confirmOf SynchOutput (holdingEntry 1 true)) (doubtOf SynchOutput (holdingEntry 2 false)))
     (session (Waiting (nodeAt 2) SynchOutput) (confirmOf SynchOutput (holdingEntry 1 true)) (doubtOf SynchOutput (holdingEntry 2 false)))
     (actOf SynchOutput (holding 1 true) ∷ holding 2 false ∷ []) (actOf SynchOutput (holding 1 true) ∷ actOf SynchOutput (holding 2 false) ∷ [])
-unfolding orderOf orderCheck freeCheck isClosed isValid isWaiting transmitOf openExchange commandBuild buildFor written total
-    frameOf frameAlone dataPart isIntact endsInSum commandRead listedOf after turned doesAct doesReply replyOf replyItems
+unfolding orderOf orderCheck freeCheck isClosed isValid isWaiting transmitOf openExchange codecBuild buildFor written total
+    frameOf frameAlone dataPart isIntact endsInSum codecRead listedOf after turned doesAct doesReply replyOf replyItems
 hand = record { typed = tt; sends = λ past. refl; nodes = refl; says = refl }
 
 pub by-itself : Comes (worldAt (session Idle (confirmOf SynchOutput (holdingEntry 1 true)) (confirmOf SynchOutput (doubtOf SynchOutput (holdingEntry 2 false))))
@@ -143,8 +143,8 @@ command : Round (Order group80 (SetOutputs 5)) (sends group80 (SetOutputs 5)) se
     (session Idle (doubtOf (SetAddress (inGroup 1 true)) (addressed 1)) (addressed 2))
     (session (Waiting group80 (SetOutputs 5)) (doubtOf (SetAddress (inGroup 1 true)) (addressed 1)) (addressed 2))
     (grouped 1 true ∷ placed 2 0 ∷ []) (actOf (SetOutputs 5) (grouped 1 true) ∷ placed 2 0 ∷ [])
-unfolding orderOf orderCheck freeCheck isClosed isValid isWaiting transmitOf openExchange commandBuild buildFor written total
-    frameOf frameAlone dataPart isIntact endsInSum commandRead listedOf after turned doesAct doesReply replyOf replyItems
+unfolding orderOf orderCheck freeCheck isClosed isValid isWaiting transmitOf openExchange codecBuild buildFor written total
+    frameOf frameAlone dataPart isIntact endsInSum codecRead listedOf after turned doesAct doesReply replyOf replyItems
 command = record { typed = omega arith; sends = λ past. refl; nodes = refl; says = refl }
 
 pub leader-unknown : Comes (worldAt (session Idle (doubtOf (SetOutputs 5) (doubtOf (SetAddress (inGroup 1 true)) (addressed 1))) (addressed 2))

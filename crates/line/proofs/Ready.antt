@@ -15,7 +15,7 @@ use Rattle.wire.proofs.Choice.{chose-first, both}
 use Rattle.command.specs.declared.Place.{Place}
 use Rattle.command.specs.declared.Command.{Command}
 use Rattle.command.specs.declared.Command.the-variants.{SetAddress}
-use Rattle.command.specs.Build.{fitsOf}
+use Rattle.command.specs.Ranges.{fitsOf}
 use Rattle.command.specs.Role.{roleOf}
 use Rattle.status.specs.declared.Answer.{Answer}
 use Rattle.node.specs.declared.state.Node.{Node}

@@ -10,7 +10,7 @@ use Rattle.wire.specs.declared.address.Address.{Address}
 use Rattle.command.specs.declared.Command.{Command}
 use Rattle.command.specs.Ranges.{fitsOf}
 use Rattle.codec.specs.Build.{packetFor}
-use Rattle.command.specs.Build as build
+use Rattle.codec.specs.Build as build
 use Rattle.status.specs.declared.Answer.{Answer}
 use Rattle.status.specs.declared.Answer.the-variants.{Silent}
 use Rattle.node.specs.declared.state.Node.{Node}
@@ -121,7 +121,7 @@ arrives h ns past what p g q r a b =
     record {
       old = ns;
       opened = o;
-      exchange = exchanged (o .called) (o .command) ns (o .range) (o .fits) (o .typed) (none-collided (o .before) ns (o .inv)) (rw (g .packet) at a) b;
+      exchange = exchanged (o .called) (o .command) ns (o .range) (o .fits) (o .typed) (due-unreset (o .due)) (λ i l. suits (o .due) ns (o .inv) i (omega (arith, o .inv .long))) (none-collided (o .before) ns (o .inv)) (rw (g .packet) at a) b;
     }
 
 settles-again : (h : Session) (ns : List Node) (past : List Sent) (what : Sending) (r : Option (List ℕ)) → Coming h ns past what r
@@ -238,10 +238,10 @@ call-holds w holds k typed out = go (callPerform k (w .host) out .answer .end) r
 
 pub holds : {w : World} → Comes w → Upholds w
 holds (start ns) up = absurd (false≢true up)
-holds (power {w = w} c bs e) up =
-    let p = accepted-power (w .host) (length bs) e in
-    rw (p .session) (record { free = refl; inv = powered-invariant bs (p .some) (p .few); exactly = powered-exactly bs (p .some) (p .few) })
-holds (unpowered {w = w} c n why e) up = rw (refused-power (w .host) n why e) (holds c up)
+holds (power {w = w} c ds ks t e) up =
+    let p = accepted-power (w .host) (length ds) ks e in
+    rw (p .session) (record { free = refl; inv = powered-invariant ds ks t (p .some) (p .few); exactly = powered-exactly ds ks t (p .some) (p .few) })
+holds (unpowered {w = w} c n ks why e) up = rw (refused-power (w .host) n ks why e) (holds c up)
 holds (call {w = w} c k typed out) up = call-holds w (λ u. holds c u) k typed out up
 holds (deliver {w = w} c what p e q r a b) up =
     arrives (w .host) (w .nodes) (w .past) what p (subst (λ (l : Line). LineHolds (w .host) (w .nodes) (w .past) l) e (holds c up)) q r a b
@@ -251,7 +251,7 @@ holds (hurry {w = w} c what p e r n) up =
     hurries (w .host) (w .nodes) (w .past) what p (subst (λ (l : Line). LineHolds (w .host) (w .nodes) (w .past) l) e (holds c up)) r n
 holds (delay {w = w} c p e q a) up = lingering-settles (subst (λ (l : Line). LineHolds (w .host) (w .nodes) (w .past) l) e (holds c up)) q a
 holds (stray {w = w} c r why e) up = rw (refused-report (w .host) r why e) (holds c up)
-holds (bench {w = w} c i b) up = bench-holds (w .host) (w .nodes) _ (w .past) (w .line) (set-benched (w .nodes) i b) (holds c up)
+holds (bench {w = w} c i b p) up = bench-holds (w .host) (w .nodes) _ (w .past) (w .line) (set-benched (w .nodes) i b p) (holds c up)
 
 -- also in the middle of an exchange the nodes are such as some settled session has them
 pub record Steady (n : ℕ) (ns : List Node) : Type 0 where

@@ -4,6 +4,7 @@ use mathlib.Core.Bool.{Bool, true, false, cond, true≢false, false≢true}
 use mathlib.Core.List.{List, _∷_}
 use mathlib.Core.Option.{Option, none}
 use mathlib.Core.Path.{_≡_, refl, sym, ap, subst, _∙_}
+use native.Mathlib.Omega.{arith}
 use lib.ListN.{length, take}
 use Rattle.wire.specs.Address.{inRange}
 use Rattle.wire.specs.declared.address.Address.{Address}
@@ -32,12 +33,13 @@ use Rattle.line.specs.Line as line
 use Rattle.line.specs.World.{World, hosting, callEnded, callMade, Comes, start, power, unpowered, call, deliver, report, hurry, delay, stray, bench}
 use Rattle.line.proofs.Refusing.{refused-power, refused-call, refused-report}
 use Rattle.line.proofs.Due.{Due, CallSends, call-sends}
-use Rattle.line.proofs.Closing.{waitingAt, due-opens, reported-finished, reported-concludes, conclusion}
+use Rattle.line.proofs.Closing.{waitingAt, due-waits, due-opens, reported-finished, reported-concludes, conclusion}
 use Rattle.line.proofs.Exactly.{Exactly, exactly-step}
 use Rattle.line.proofs.Invariant.{at, Invariant, Exchanged}
 use Rattle.line.proofs.Getting.{parted-none}
 use Rattle.line.proofs.Peace.{none-collided}
 use Rattle.line.proofs.Delivery.{nothing-silent, exchanged}
+use Rattle.line.proofs.Suits.{suits}
 use Rattle.line.proofs.Exchange.{exchange-step}
 use Rattle.line.proofs.Benching.{Benched, set-benched, benched-exchange, benched-invariant}
 use Rattle.line.proofs.Powering.{accepted-power, powered-invariant, powered-exactly}
@@ -121,7 +123,7 @@ arrives h ns past what p g q r a b =
     record {
       old = ns;
       opened = o;
-      exchange = exchanged (o .called) (o .command) ns (o .range) (o .fits) (o .typed) (due-unreset (o .due)) (λ i l. suits (o .due) ns (o .inv) i (omega (arith, o .inv .long))) (none-collided (o .before) ns (o .inv)) (rw (g .packet) at a) b;
+      exchange = exchanged (o .called) (o .command) ns (o .range) (o .fits) (o .typed) (due-waits (o .due)) (λ i l. suits (o .due) ns (o .inv) i (omega (arith, o .inv .long))) (none-collided (o .before) ns (o .inv)) (rw (g .packet) at a) b;
     }
 
 settles-again : (h : Session) (ns : List Node) (past : List Sent) (what : Sending) (r : Option (List ℕ)) → Coming h ns past what r

@@ -320,7 +320,11 @@ fn motion_fits(m: Motion) -> bool
     let l = Loads::of(m.control);
     value_fits(l.position, position_fits(m.position), m.position)
         & value_fits(l.velocity, m.velocity <= MOST_MOTION, m.velocity)
-        & value_fits(l.acceleration, m.acceleration <= MOST_MOTION, m.acceleration)
+        & value_fits(
+            l.acceleration,
+            m.acceleration <= MOST_MOTION,
+            m.acceleration,
+        )
         & value_fits(l.pwm, true, m.pwm as u32)
 }
 

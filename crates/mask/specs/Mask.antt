@@ -1,8 +1,9 @@
--- Define Status in the LS-773 manual: the bits of a mask, and a status packet read under a mask.
+-- Define Status in the manual of either kind: the bits of a mask, and a status packet read under a mask.
 use Prim.Native.Nat.{ℕ, suc, _+_, _/_, _%_, _^_}
 use mathlib.Core.Bool.{Bool, cond}
 use mathlib.Core.List.{List, [], _∷_}
 use lib.Dec.{eqb}
+use Rattle.wire.specs.declared.kind.Kind.{Kind}
 use Rattle.status.specs.Status.{counts, statusRead}
 use Rattle.status.specs.declared.Status.{Status}
 
@@ -19,10 +20,10 @@ abbrev pub countFrom : ℕ → ℕ → List ℕ → ℕ
 countFrom k m [] = 0
 countFrom k m (n ∷ ns) = askedCount (bit k m) n + countFrom (suc k) m ns
 
--- the length of the status packet under a mask: status byte, items, sum
-unfoldable pub sizeOf : ℕ → ℕ
-sizeOf m = 2 + countFrom 0 m counts
+-- the length of a status packet under a mask, by the kind of node that it comes from: status byte, items, sum
+unfoldable pub sizeOf : Kind → ℕ → ℕ
+sizeOf k m = 2 + countFrom 0 m (counts k)
 
--- "Reading a status packet under a mask": with as many item bytes as the mask asks for
-unfoldable pub maskRead : ℕ → List ℕ → Status
-maskRead m s = statusRead s (countFrom 0 m counts)
+-- "Reading a status packet under a mask": with as many item bytes as the mask asks for at that kind of node
+unfoldable pub maskRead : Kind → ℕ → List ℕ → Status
+maskRead k m s = statusRead s (countFrom 0 m (counts k))

@@ -1,2 +1,3 @@
 pub mod Laws
+mod Making
 pub mod Unique

@@ -1,10 +1,11 @@
-// What a packet says to a node that it is meant for.
-// Promised: which of the three it is, and whether it is answered at all.
+// What a packet says to a node that it is meant for, by the node's kind: some command bytes are two commands.
+// Promised: which of the three it is to either kind, and whether it is answered at all.
 // Left to others: what the node makes of it (node), and the reply (reply).
 use command::Command;
 use command::Reading;
+use wire::Kind;
 ghost use mathlib.Core.Path.{_≡_};
-ghost use Rattle.message.specs.Message.{messageOf, isAnswered};
+ghost use Rattle.message.specs.Message.{messageOf, isAnswered, messagesOf, messageTo};
 
 // A packet with a right sum and a command; with a right sum and another command; with a wrong sum.
 pub enum Message {
@@ -35,6 +36,34 @@ impl Message {
             Message::Intact(c) => !c.role().is_reset(),
             Message::Other => true,
             Message::Spoilt => true,
+        }
+    }
+}
+
+// What a packet says to a node of each kind; made once for all nodes.
+pub struct Messages {
+    pub gate: Message,
+    pub drive: Message,
+}
+
+impl Messages {
+    // By what each kind reads, and the sum.
+    pub fn of(gate: Reading, drive: Reading, intact: bool) -> Messages
+        ensures { λ r. ⌜ r ≡ messagesOf gate drive intact ⌝ }
+    {
+        Messages {
+            gate: Message::of(gate, intact),
+            drive: Message::of(drive, intact),
+        }
+    }
+
+    // What it says to a node of this kind.
+    pub fn to(self, kind: Kind) -> Message
+        ensures { λ r. ⌜ r ≡ messageTo kind self ⌝ }
+    {
+        match kind {
+            Kind::Gate => self.gate,
+            Kind::Drive => self.drive,
         }
     }
 }

@@ -1,3 +1,4 @@
 pub mod Setting
 pub mod Effect
 pub mod Node
+pub mod Parts

@@ -1,4 +1,4 @@
--- Document 01, "Packets": status packets, and the host's judgement of a reply.
+-- Document 01, "Packets": status packets, and the host's judgement of a reply. Document 02, request 6: the items' byte counts by kind.
 use Prim.Native.Nat.{ℕ, _+_, _-_, _/_, _%_}
 use mathlib.Core.Bool.{cond}
 use mathlib.Core.List.{List, [], _∷_}
@@ -6,6 +6,8 @@ use lib.ListN.{length, getD, take, drop}
 use lib.Dec.{ltb, eqb}
 use Rattle.wire.specs.Numbers.{done, numberOf}
 use Rattle.buffer.specs.Sum.{withSum, endsInSum}
+use Rattle.wire.specs.declared.kind.Kind.{Kind}
+use Rattle.wire.specs.declared.kind.Kind.the-variants.{Gate, Drive}
 use Rattle.wire.specs.declared.refusal.Refusal.the-variants.{Short, Long, Sum}
 use Rattle.status.specs.declared.Status.{Status}
 use Rattle.status.specs.declared.Status.the-variants.{Whole, Refused}
@@ -39,17 +41,31 @@ statusNumber (Refused why) = numberOf why
 
 -- Define Status in the LS-773 manual, the byte counts: bit 0 the inputs, bits 1 to 3 the three analog values, bit 4 the counter,
 -- bit 5 device ID and version, bits 6 and 7 the captured inputs and counter
-abbrev pub counts : List ℕ
-counts = 2 ∷ 1 ∷ 1 ∷ 1 ∷ 4 ∷ 2 ∷ 2 ∷ 4 ∷ []
+abbrev pub gateCounts : List ℕ
+gateCounts = 2 ∷ 1 ∷ 1 ∷ 1 ∷ 4 ∷ 2 ∷ 2 ∷ 4 ∷ []
+
+-- Define Status in the LS-173AP manual, the byte counts: bit 0 the position, bit 1 the A/D value, bit 2 the velocity, bit 3 the auxiliary status,
+-- bit 4 the home position, bit 5 device ID and version, bit 6 the position error, bit 7 "don't care": no item
+abbrev pub driveCounts : List ℕ
+driveCounts = 4 ∷ 1 ∷ 2 ∷ 1 ∷ 4 ∷ 2 ∷ 2 ∷ 0 ∷ []
+
+-- "the drive's status items": the byte counts by kind
+unfoldable pub counts : Kind → List ℕ
+counts Gate = gateCounts
+counts Drive = driveCounts
 
 -- all of some counts
 abbrev pub allOf : List ℕ → ℕ
 allOf [] = 0
 allOf (n ∷ ns) = n + allOf ns
 
--- "Let T be the total of all item counts"
+-- the larger of two totals
+abbrev pub larger : ℕ → ℕ → ℕ
+larger a b = cond (ltb a b) b a
+
+-- "Let T be the total of all item counts"; "for both kinds, T being the larger"
 abbrev pub T : ℕ
-T = allOf counts
+T = larger (allOf gateCounts) (allOf driveCounts)
 
 -- "2 to T + 2 bytes": the longest good reply
 abbrev pub mostReply : ℕ

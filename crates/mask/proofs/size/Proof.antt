@@ -13,7 +13,7 @@ abbrev μ-loop : tie.MeasureT-loop
 μ-loop mask counts bits₀ n₀ i₀ bits n i = 8 - i
 
 loop-holds : tie.Need-loop-holds Inv-loop μ-loop
-loop-holds c = (omega arith, counted-none _)
+loop-holds c = (omega arith, counted-none _ _ _ (c .counts .ensures))
 
 add-n : tie.Need-add-n Inv-loop μ-loop
 add-n c = omega (arith, counted-room _ _ _ _ _ _ (c .before .before .loop .inv .1) (c .before .loop-test .taken) (c .asked-count .ensures))
@@ -22,7 +22,7 @@ loop-again : tie.Need-loop-again Inv-loop μ-loop
 loop-again c = (omega arith, counted-one _ _ _ _ _ _ (c .before .before .loop .inv .1) (c .before .loop-test .taken) (c .asked-count .ensures))
 
 returns : tie.Need-returns Inv-loop μ-loop
-returns c = counted-all _ _ _ _ _ (c .before .loop .inv .1) (omega arith) (omega arith)
+returns c = counted-all _ _ _ _ _ _ (c .before .before .counts .ensures) (c .before .loop .inv .1) (omega arith)
 
 pub size-spec : {M : Type 1} → statement M
 size-spec =
@@ -30,6 +30,7 @@ size-spec =
     (tie.spec
     Inv-loop
     μ-loop
+    (λ c κs. search needs)
     loop-holds
     (λ c. search needs)
     (λ c. search needs)

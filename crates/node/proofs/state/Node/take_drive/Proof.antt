@@ -1,0 +1,20 @@
+-- Only an intact command that it heeds acts.
+use borrow.Author.Needs.{needs}
+use Rattle.node.proofs.Acting.{drive-takes, drive-leaves}
+use Rattle.node.proofs.state.Node.take_drive.Statement.{statement}
+use Rattle.node.proofs.state.Node.take_drive.Tie as tie
+
+pub take-drive-spec : {M : Type 1} → statement M
+take-drive-spec =
+    tie.close
+    (tie.spec
+    (λ c. search needs)
+    (λ c κs. search needs)
+    (λ c κs. search needs)
+    (λ c κs. search needs)
+    (λ c. search drive-takes)
+    (λ c. search needs)
+    (λ c. search needs)
+    (λ c. search drive-leaves)
+    (λ c. search needs)
+    (λ c. search needs))

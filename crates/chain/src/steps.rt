@@ -7,8 +7,9 @@ use survey::Plan;
 use survey::SET_WIDTH;
 use survey::Seen;
 use survey::Survey;
+use wire::Kind;
 ghost use mathlib.Core.Path.{_≡_};
-ghost use Rattle.node.specs.Node.{takeOf};
+ghost use Rattle.survey.specs.One.{takeFor};
 ghost use Rattle.survey.specs.Survey.{chainStart, surveyWith, surveyAlone};
 ghost use Rattle.survey.specs.Decision.{spanOf};
 
@@ -40,17 +41,22 @@ pub(crate) fn survey_alone(p: Plan) -> Survey
     ensures { λ r. ⌜ r ≡ surveyAlone p ⌝ }
 {
     let bench = Bench {
-        inputs: 0,
         counter: 0,
+        home: 0,
+        inputs: 0,
+        velocity: 0,
+        error: 0,
         analog0: 0,
         analog1: 0,
         analog2: 0,
+        ad: 0,
+        auxiliary: 0,
         id: 0,
         version: 0,
     };
     Survey {
         plan: p,
-        speaker: Node::power_up(bench),
+        speaker: Node::power_up(Kind::Gate, bench),
     }
 }
 
@@ -66,10 +72,18 @@ pub(crate) fn span(n: usize) -> usize
 
 // A node that acts.
 pub(crate) fn take(n: Node, d: Decided) -> Node
-    ensures { λ r. ⌜ r ≡ takeOf (d .message) n ⌝ }
+    ensures { λ r. ⌜ r ≡ takeFor (d .messages) n ⌝ }
 {
-    let message = d.message;
-    n.take(message)
+    let messages = d.messages;
+    let kind = n.kind;
+    n.take(messages.to(kind))
+}
+
+// Who acts.
+pub(crate) fn acting_of(d: Decided) -> u32
+    ensures { λ r. ⌜ r ≡ d .acting ⌝ }
+{
+    d.acting
 }
 
 // The answer alone.

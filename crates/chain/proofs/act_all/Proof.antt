@@ -26,10 +26,10 @@ use Rattle.chain.proofs.Walk.{Given, Item, ‵, raw, _⊛_, some, later
 use Rattle.chain.proofs.Walk.{owns, pureI, Is, shows, uint-makes, uint-lawful, usize, pointee, RefT, sliceVal, MutSlice, Room, heres, codedHoleys, at-slice, slice-vals, mut-slice-tells, row, place-is, elem-out, only, owned, facts, heard, nothing}
 use Rattle.chain.proofs.Walk.{plain, Contract, Triple, calls-at, onEntry, Meets, tripleOf, entered, cited, ensured, lasts, says, Stays, stay-none, walkOf, goes-none, Walks, ends-at, walked, walk-meets, yes}
 use Rattle.chain.proofs.Walk.{word, sliceIn, room, has, dies, tells}
-use Rattle.node.specs.Node.{takeOf}
 use Rattle.node.specs.declared.state.Node.{Node}
 use Rattle.chain.proofs.Record as T
 use Rattle.survey.specs.declared.decision.Decided.{Decided}
+use Rattle.survey.specs.One.{takeFor}
 use Rattle.survey.specs.Sets.{firstOf, withoutFirst}
 use Rattle.survey.specs.Survey.{nobody}
 use Rattle.survey.specs.Decision.{spanOf, actAll}
@@ -48,6 +48,10 @@ use Rattle.survey.proofs.without_first as without
 use Rattle.survey.proofs.without_first.Symbol as without-first-def
 use Rattle.survey.proofs.without_first.Symbol.{name as #survey·without-first}
 use Rattle.survey.proofs.without_first.Met as without-first-thm
+use Rattle.chain.proofs.steps.acting_of as acting-of′
+use Rattle.chain.proofs.steps.acting_of.Symbol as acting-of-def
+use Rattle.chain.proofs.steps.acting_of.Symbol.{name as #chain·acting-of}
+use Rattle.chain.proofs.steps.acting_of.Met as acting-of-thm
 use Rattle.chain.proofs.steps.take as take′
 use Rattle.chain.proofs.steps.take.Symbol as take-def
 use Rattle.chain.proofs.steps.take.Symbol.{name as #chain·take}
@@ -74,14 +78,13 @@ set32 = tyInt w32
 abbrev slice : Ty
 slice = sliceIn 0 mut T.pointed
 
--- the machine value of what is decided, with its fields in sight
-abbrev low : Decided → Val
-low c = LL.tuple-val D.the-type D′.the-laws (D.the-type .to c)
-
 module _ {M : Type 1} (𝓤 : URA M) (H : Heap 𝓤) (A : Atoms 𝓤) (mem : Memory → SProp 𝓤) (run : Routine → Fun 𝓤) where
   -- the contracts that the proof cites
   abbrev Span : Contract 𝓤
   Span = tripleOf 𝓤 H A span′.signature (span′.spec 𝓤 H A mem run)
+
+  abbrev ActingOf : Contract 𝓤
+  ActingOf = tripleOf 𝓤 H A acting-of′.signature (acting-of′.spec 𝓤 H A mem run)
 
   abbrev First : Contract 𝓤
   First = tripleOf 𝓤 H A first′.signature (first′.spec 𝓤 H A mem run)
@@ -92,7 +95,7 @@ module _ {M : Type 1} (𝓤 : URA M) (H : Heap 𝓤) (A : Atoms 𝓤) (mem : Mem
   abbrev Act : Contract 𝓤
   Act = tripleOf 𝓤 H A take′.signature (take′.spec 𝓤 H A mem run)
 
-module _ {M : Type 1} (𝓤 : URA M) (H : Heap 𝓤) (A : Atoms 𝓤) (W : Given 𝓤 H A) (mem : Memory → SProp 𝓤) (run : Routine → Fun 𝓤) (κ : Lft) (q : Share) (b o : ℕ) (γ : GName) (ys : List Node) (c : Decided) (gc : Is D.the-row c (low c ∷ [])) (room₀ : Room T.the-row (length ys)) where
+module _ {M : Type 1} (𝓤 : URA M) (H : Heap 𝓤) (A : Atoms 𝓤) (W : Given 𝓤 H A) (mem : Memory → SProp 𝓤) (run : Routine → Fun 𝓤) (κ : Lft) (q : Share) (b o : ℕ) (γ : GName) (ys : List Node) (c : Decided) (mc : Val) (gc : Is D.the-row c (mc ∷ [])) (room₀ : Room T.the-row (length ys)) where
   abbrev n : ℕ
   n = length ys
 
@@ -106,14 +109,14 @@ module _ {M : Type 1} (𝓤 : URA M) (H : Heap 𝓤) (A : Atoms 𝓤) (W : Given
   a = (x ys, (c, tt))
 
   abbrev vals : List Val × (List Val × Unit {0})
-  vals = (v₁ ∷ [], (low c ∷ [], tt))
+  vals = (v₁ ∷ [], (mc ∷ [], tt))
 
   abbrev Post : Val → SProp 𝓤
   Post = walkOf 𝓤 H A act-all.ended stayed (act-all.clauses 𝓤 H A mem run) .post (((κ, tt), (q, tt), tt, a, vals), tt)
 
   -- what the table is to be
   abbrev final : List Node
-  final = actAll (c .message) (c .acting) ys
+  final = actAll (c .messages) (c .acting) ys
 
   exits : (zs : List Node) → length zs ≡ n → zs ≡ final → ent 𝓤 (⋆ 𝓤 H A (‵ (fobs γ (codedHoleys T.the-row .code (heres T.the-row zs))) ∷ ‵ (fbor κ (Held T.the-row (length zs) b o γ)) ∷ ‵ (flft κ q) ∷ [])) (Post vunit)
   exits zs e is =
@@ -134,6 +137,15 @@ module _ {M : Type 1} (𝓤 : URA M) (H : Heap 𝓤) (A : Atoms 𝓤) (W : Given
   span-of : (r : ℕ) → ent 𝓤 (ensured 𝓤 H A span′.ended (span′.clauses 𝓤 H A mem run) tt (n, tt) tt r) (fact 𝓤 (r ≡ spanOf n))
   span-of r = tells 𝓤 H A (lasts span′.ended tt (n, tt)) (r ≡ spanOf n)
 
+  abbrev to-acting : ActingOf 𝓤 H A mem run .Ghost
+  to-acting = ((tt, tt, tt, (c, tt), (mc ∷ [], tt)), tt)
+
+  goes-acting : ent 𝓤 (emp 𝓤) (ActingOf 𝓤 H A mem run .pre to-acting)
+  goes-acting = qed W [] ∵ nothing ! $ owned ! D.the-row (Is D.the-row) (LL.makes D.the-type D′.the-plain 𝓤 H A) c _ gc $ fjoin ! $ nothing ! $ join ! $ frame ! $ done !
+
+  acting-of-of : (s : ℕ) → ent 𝓤 (ensured 𝓤 H A acting-of′.ended (acting-of′.clauses 𝓤 H A mem run) tt (c, tt) tt s) (fact 𝓤 (s ≡ c .acting))
+  acting-of-of s = tells 𝓤 H A (lasts acting-of′.ended tt (c, tt)) (s ≡ c .acting)
+
   abbrev to-first : ℕ → First 𝓤 H A mem run .Ghost
   to-first s = ((tt, tt, tt, (s, tt), (vint w32 s ∷ [], tt)), tt)
 
@@ -153,22 +165,22 @@ module _ {M : Type 1} (𝓤 : URA M) (H : Heap 𝓤) (A : Atoms 𝓤) (W : Given
   without-of s r = tells 𝓤 H A (lasts without.ended tt (s, tt)) (r ≡ withoutFirst s)
 
   abbrev to-act : Node → Val → Act 𝓤 H A mem run .Ghost
-  to-act d v = ((tt, tt, tt, (d, (c, tt)), (v ∷ [], (low c ∷ [], tt))), tt)
+  to-act d v = ((tt, tt, tt, (d, (c, tt)), (v ∷ [], (mc ∷ [], tt))), tt)
 
   goes-act : (d : Node) (v : Val) → Is T.the-row d (v ∷ []) → ent 𝓤 (emp 𝓤) (Act 𝓤 H A mem run .pre (to-act d v))
   goes-act d v gd =
       qed W [] ∵ nothing ! $ owned ! D.the-row (Is D.the-row) (LL.makes D.the-type D′.the-plain 𝓤 H A) c _ gc $ fjoin ! $ owned ! T.the-row (Is T.the-row) (T.makes 𝓤 H A) d _ gd $ fjoin ! $ nothing ! $ join ! $ frame ! $ done !
 
-  act-of : (d r : Node) → ent 𝓤 (ensured 𝓤 H A take′.ended (take′.clauses 𝓤 H A mem run) tt (d, (c, tt)) tt r) (fact 𝓤 (r ≡ takeOf (c .message) d))
-  act-of d r = tells 𝓤 H A (lasts take′.ended tt (d, (c, tt))) (r ≡ takeOf (c .message) d)
+  act-of : (d r : Node) → ent 𝓤 (ensured 𝓤 H A take′.ended (take′.clauses 𝓤 H A mem run) tt (d, (c, tt)) tt r) (fact 𝓤 (r ≡ takeFor (c .messages) d))
+  act-of d r = tells 𝓤 H A (lasts take′.ended tt (d, (c, tt))) (r ≡ takeFor (c .messages) d)
 
-  module _ (𝓣 : Tables 𝓤 H) (known-span : Triple 𝓤 (𝓣 .C #chain·span) (Span 𝓤 H A mem run)) (known-first : Triple 𝓤 (𝓣 .C #survey·first) (First 𝓤 H A mem run)) (known-without-first : Triple 𝓤 (𝓣 .C #survey·without-first) (Without 𝓤 H A mem run)) (known-act : Triple 𝓤 (𝓣 .C #chain·take) (Act 𝓤 H A mem run)) (l₀ l₁ l₂ l₃ l₄ l₅ l₆ l₇ l₈ l₉ l₁₀ l₁₁ l₁₂ l₁₃ : ℕ) where
+  module _ (𝓣 : Tables 𝓤 H) (known-span : Triple 𝓤 (𝓣 .C #chain·span) (Span 𝓤 H A mem run)) (known-acting : Triple 𝓤 (𝓣 .C #chain·acting-of) (ActingOf 𝓤 H A mem run)) (known-first : Triple 𝓤 (𝓣 .C #survey·first) (First 𝓤 H A mem run)) (known-without-first : Triple 𝓤 (𝓣 .C #survey·without-first) (Without 𝓤 H A mem run)) (known-act : Triple 𝓤 (𝓣 .C #chain·take) (Act 𝓤 H A mem run)) (l₀ l₁ l₂ l₃ l₄ l₅ l₆ l₇ l₈ l₉ l₁₀ l₁₁ l₁₂ l₁₃ : ℕ) where
     abbrev En : Env 𝓤 H
     En = (tyUnit, l₀) ∷ (slice, l₁) ∷ (Dc, l₂) ∷ (word, l₃) ∷ (set32, l₄) ∷ (word, l₅) ∷ (word, l₆) ∷ (tyBool, l₇) ∷ (Nd, l₈) ∷ (word, l₉) ∷ (tyPtr, l₁₀) ∷ (Nd, l₁₁) ∷ (word, l₁₂) ∷ (tyPtr, l₁₃) ∷ []
 
     -- the locals, of which 3 to 5 are as given and those after hold nothing, and G
     abbrev Locs : Item 𝓤 → Item 𝓤 → Item 𝓤 → List (Item 𝓤) → List (Item 𝓤)
-    Locs i₃ i₄ i₅ G = room tyPtr l₁₃ ∷ dies tyPtr l₁₃ ∷ room word l₁₂ ∷ dies word l₁₂ ∷ room Nd l₁₁ ∷ dies Nd l₁₁ ∷ room tyPtr l₁₀ ∷ dies tyPtr l₁₀ ∷ room word l₉ ∷ dies word l₉ ∷ room Nd l₈ ∷ dies Nd l₈ ∷ room tyBool l₇ ∷ dies tyBool l₇ ∷ room word l₆ ∷ dies word l₆ ∷ i₅ ∷ dies word l₅ ∷ i₄ ∷ dies set32 l₄ ∷ i₃ ∷ dies word l₃ ∷ has Dc l₂ (low c) ∷ dies Dc l₂ ∷ has slice l₁ v₁ ∷ dies slice l₁ ∷ room tyUnit l₀ ∷ dies tyUnit l₀ ∷ G
+    Locs i₃ i₄ i₅ G = room tyPtr l₁₃ ∷ dies tyPtr l₁₃ ∷ room word l₁₂ ∷ dies word l₁₂ ∷ room Nd l₁₁ ∷ dies Nd l₁₁ ∷ room tyPtr l₁₀ ∷ dies tyPtr l₁₀ ∷ room word l₉ ∷ dies word l₉ ∷ room Nd l₈ ∷ dies Nd l₈ ∷ room tyBool l₇ ∷ dies tyBool l₇ ∷ room word l₆ ∷ dies word l₆ ∷ i₅ ∷ dies word l₅ ∷ i₄ ∷ dies set32 l₄ ∷ i₃ ∷ dies word l₃ ∷ has Dc l₂ (mc) ∷ dies Dc l₂ ∷ has slice l₁ v₁ ∷ dies slice l₁ ∷ room tyUnit l₀ ∷ dies tyUnit l₀ ∷ G
 
     abbrev Left : Out → SProp 𝓤
     Left = afterBlock 𝓤 H (afterSeq 𝓤 H (Wp 𝓤 H (𝓣 .C) (𝓣 .Λ) En body.t-6 (atReturn 𝓤 H En Post)) (atReturn 𝓤 H En Post))
@@ -181,7 +193,7 @@ module _ {M : Type 1} (𝓤 : URA M) (H : Heap 𝓤) (A : Atoms 𝓤) (W : Given
           (‵ (fobor κ q (Held T.the-row n b o γ)) ∷ ‵ (fobs γ (codedHoleys T.the-row .code (heres T.the-row ys))) ∷ ‵ (fauth γ (codedHoleys T.the-row .code (heres T.the-row ys))) ∷ [])
 
       abbrev Facts : ℕ → List Node → Type 0
-      Facts s ws = (s < 2 ^ 32) × (length ws ≡ n) × (actAll (c .message) s ws ≡ final)
+      Facts s ws = (s < 2 ^ 32) × (length ws ≡ n) × (actAll (c .messages) s ws ≡ final)
 
       abbrev Inv : ℕ → SProp 𝓤
       Inv s = ex 𝓤 (λ (ws : List Node). guard 𝓤 (Facts s ws) (⋆ 𝓤 H A (At s ws)))
@@ -190,7 +202,7 @@ module _ {M : Type 1} (𝓤 : URA M) (H : Heap 𝓤) (A : Atoms 𝓤) (W : Given
       Below s = ex 𝓤 (λ (t : ℕ). guard 𝓤 (t < s) (Inv t))
 
       -- a turn
-      more : (s : ℕ) (ws : List Node) (X : SProp 𝓤) → s < 2 ^ 32 → firstOf s < m → firstOf s < n → firstOf s < length ws → ((r : Node) → r ≡ takeOf (c .message) (getD ws (firstOf s) nobody) → ent 𝓤 (⋆ 𝓤 H A (At (withoutFirst s) (set ws (firstOf s) r))) X) → ent 𝓤 (⋆ 𝓤 H A (At s ws)) (Wp 𝓤 H (𝓣 .C) (𝓣 .Λ) En body.turn-1 (afterTurn 𝓤 H X Left))
+      more : (s : ℕ) (ws : List Node) (X : SProp 𝓤) → s < 2 ^ 32 → firstOf s < m → firstOf s < n → firstOf s < length ws → ((r : Node) → r ≡ takeFor (c .messages) (getD ws (firstOf s) nobody) → ent 𝓤 (⋆ 𝓤 H A (At (withoutFirst s) (set ws (firstOf s) r))) X) → ent 𝓤 (⋆ 𝓤 H A (At s ws)) (Wp 𝓤 H (𝓣 .C) (𝓣 .Λ) En body.turn-1 (afterTurn 𝓤 H X Left))
       unfolding afterTurn
       more s ws X s-fits small inside within k =
           qed W (At s ws) ∵ exec ! (𝓣 .C) (𝓣 .Λ) En body.turn-1 (anyQ (afterTurn 𝓤 H X Left)) $
@@ -206,7 +218,7 @@ module _ {M : Type 1} (𝓤 : URA M) (H : Heap 𝓤) (A : Atoms 𝓤) (W : Given
           use0 W (raw (Act 𝓤 H A mem run .pre (to-act (getD ws (firstOf s) nobody) (T.lowered (getD ws (firstOf s) nobody))))) (goes-act (getD ws (firstOf s) nobody) (T.lowered (getD ws (firstOf s) nobody)) g) $
           calls-at ! (fmOf 𝓤 H (W .laws) 𝓣) (Act 𝓤 H A mem run) known-act (to-act (getD ws (firstOf s) nobody) (T.lowered (getD ws (firstOf s) nobody))) (and-then ! (load ! (from ! (stop !)) (look ! 8 refl)) (and-then ! (load ! (from ! (stop !)) (look ! 26 refl)) (no-more !))) (λ v.
           use1 W (later (some (λ (r : Node). (‵ ftrue ⊛ ‵ (T.the-row .own r (v ∷ []))) ⊛ raw (ensured 𝓤 H A take′.ended (take′.clauses 𝓤 H A mem run) tt (getD ws (firstOf s) nobody, (c, tt)) tt r)))) (id⊢ 𝓤 _) $ await ! tt $ pick ! (λ r.
-          split ! $ move ! (1 ∷ []) $ use1 W (raw (fact 𝓤 (r ≡ takeOf (c .message) (getD ws (firstOf s) nobody)))) (act-of (getD ws (firstOf s) nobody) r) $ heard ! (r ≡ takeOf (c .message) (getD ws (firstOf s) nobody)) (λ e. split ! $ let-go ! $
+          split ! $ move ! (1 ∷ []) $ use1 W (raw (fact 𝓤 (r ≡ takeFor (c .messages) (getD ws (firstOf s) nobody)))) (act-of (getD ws (firstOf s) nobody) r) $ heard ! (r ≡ takeFor (c .messages) (getD ws (firstOf s) nobody)) (λ e. split ! $ let-go ! $
           peeks ! T.the-row (Is T.the-row) (shows 𝓤 H A T.the-row) r (v ∷ []) (λ is.
           -- [what r owns; table[i]; what it owns; the others; _13; …]
           land ! (from ! (stop !)) (init ! 14 refl (T.lawful 𝓤 H A W .typed r _ is .0)) $
@@ -256,7 +268,7 @@ module _ {M : Type 1} (𝓤 : URA M) (H : Heap 𝓤) (A : Atoms 𝓤) (W : Given
 
       turn-by : (s : ℕ) (ws : List Node) (t : Bool) → ltb (firstOf s) m ≡ t → Facts s ws → ent 𝓤 (⋆ 𝓤 H A (At s ws)) (Wp 𝓤 H (𝓣 .C) (𝓣 .Λ) En body.turn-1 (afterTurn 𝓤 H (Below s) Left))
       turn-by s ws false by-test e =
-          ends s ws (Below s) past (e .1) (sym (visit-end (c .message) s ws (subst (λ (z : ℕ). z ≤ firstOf s) (spans ∙ ap spanOf (sym (e .1))) past) (e .0)) ∙ e .2)
+          ends s ws (Below s) past (e .1) (sym (visit-end (c .messages) s ws (subst (λ (z : ℕ). z ≤ firstOf s) (spans ∙ ap spanOf (sym (e .1))) past) (e .0)) ∙ e .2)
         where
           past : m ≤ firstOf s
           past = ltb-false (firstOf s) m by-test
@@ -271,8 +283,8 @@ module _ {M : Type 1} (𝓤 : URA M) (H : Heap 𝓤) (A : Atoms 𝓤) (W : Given
           both : (firstOf s < 32) × (firstOf s < length ws)
           both = below-span (firstOf s) (length ws) (subst (λ (z : ℕ). firstOf s < z) (spans ∙ ap spanOf (sym (e .1))) small)
 
-          kept : (r : Node) → r ≡ takeOf (c .message) (getD ws (firstOf s) nobody) → actAll (c .message) (withoutFirst s) (set ws (firstOf s) r) ≡ final
-          kept r is = ap (λ (z : Node). actAll (c .message) (withoutFirst s) (set ws (firstOf s) z)) is ∙ visit-next (c .message) s ws nobody (both .0) (both .1) ∙ e .2
+          kept : (r : Node) → r ≡ takeFor (c .messages) (getD ws (firstOf s) nobody) → actAll (c .messages) (withoutFirst s) (set ws (firstOf s) r) ≡ final
+          kept r is = ap (λ (z : Node). actAll (c .messages) (withoutFirst s) (set ws (firstOf s) z)) is ∙ visit-next (c .messages) s ws nobody (both .0) (both .1) ∙ e .2
 
           smaller : (t u : ℕ) → t < u → u < 2 ^ 32 → t < 2 ^ 32
           smaller t u l h = omega arith
@@ -283,15 +295,12 @@ module _ {M : Type 1} (𝓤 : URA M) (H : Heap 𝓤) (A : Atoms 𝓤) (W : Given
           (loop-rule 𝓤 H (W .laws) 𝓣 _<_ (Nat·lt-wfRel .wf) En body.turn-1 Left Inv (λ s.
           exE 𝓤 (λ (ws : List Node). guard 𝓤 (Facts s ws) (⋆ 𝓤 H A (At s ws))) (λ ws. guardE 𝓤 (Facts s ws) (⋆ 𝓤 H A (At s ws)) (λ e. turn-by s ws (ltb (firstOf s) m) refl e))) (c .acting))
 
-    acting-fits : c .acting < 2 ^ 32
-    acting-fits = LL.owed D.the-type D′.the-laws c (low c ∷ []) gc .1 .0 .1
-
     -- where the parameters are passed, up to the loop: the borrow is opened once, before it
     abbrev Passed : Item 𝓤 → Item 𝓤 → List (Item 𝓤)
     Passed i₃ i₄ = Locs i₃ i₄ (room word l₅) ((‵ (flft κ q) ⊛ ‵ ftrue) ∷ ‵ (owns (MutSlice (named 0) κ T.the-row ∷ D.the-row ∷ []) a vals) ∷ [])
 
-    second : (m : ℕ) → m ≡ spanOf n → ent 𝓤 (⋆ 𝓤 H A (Passed (has word l₃ (vint w64 m)) (has set32 l₄ (vint w32 (c .acting))))) (Wp 𝓤 H (𝓣 .C) (𝓣 .Λ) En body.t-4 (atReturn 𝓤 H En Post))
-    second m e =
+    second : (m : ℕ) → m ≡ spanOf n → c .acting < 2 ^ 32 → ent 𝓤 (⋆ 𝓤 H A (Passed (has word l₃ (vint w64 m)) (has set32 l₄ (vint w32 (c .acting))))) (Wp 𝓤 H (𝓣 .C) (𝓣 .Λ) En body.t-4 (atReturn 𝓤 H En Post))
+    second m e acting-fits =
         qed W (Passed (has word l₃ (vint w64 m)) (has set32 l₄ (vint w32 (c .acting)))) ∵ exec ! (𝓣 .C) (𝓣 .Λ) En body.t-4 (atRet En Post) $
         use0 W (raw (First 𝓤 H A mem run .pre (to-first (c .acting)))) (goes-first (c .acting) acting-fits) $
         calls-at ! (fmOf 𝓤 H (W .laws) 𝓣) (First 𝓤 H A mem run) known-first (to-first (c .acting)) (and-then ! (load ! (from ! (stop !)) (look ! 19 refl)) (no-more !)) (λ v.
@@ -316,23 +325,29 @@ module _ {M : Type 1} (𝓤 : URA M) (H : Heap 𝓤) (A : Atoms 𝓤) (W : Given
         facts ! usize (Is usize) (shows 𝓤 H A usize) m (v ∷ []) (λ is.
         land ! (from ! (stop !)) (init ! 20 refl (uint-lawful 𝓤 H A W w64 .typed m _ is .0)) $
         rewrite ! 20 (λ (z : Val). has word l₃ z) (ap only (is .0)) refl $
-        assigns ! (of-opd ! (load ! (from ! (fld ! {τ = set32} {d = 16} refl (stop !))) (look-in ! 22 (sub ! 1 {τ = set32} {d = 16} refl (whole !))))) (from ! (stop !)) (init ! 18 refl (tt, record { fits = acting-fits })) $
-        forget ! 14 refl $ by ! (second m e)))))
+        use0 W (raw (ActingOf 𝓤 H A mem run .pre to-acting)) goes-acting $
+        calls-at ! (fmOf 𝓤 H (W .laws) 𝓣) (ActingOf 𝓤 H A mem run) known-acting to-acting (and-then ! (load ! (from ! (stop !)) (look ! 23 refl)) (no-more !)) (λ v₂.
+        use1 W (later (some (λ (s : ℕ). (‵ ftrue ⊛ ‵ (u32 .own s (v₂ ∷ []))) ⊛ raw (ensured 𝓤 H A acting-of′.ended (acting-of′.clauses 𝓤 H A mem run) tt (c, tt) tt s)))) (id⊢ 𝓤 _) $ await ! tt $ pick ! (λ s.
+        split ! $ move ! (1 ∷ []) $ use1 W (raw (fact 𝓤 (s ≡ c .acting))) (acting-of-of s) $ heard ! (s ≡ c .acting) (λ e₂. split ! $ let-go ! $
+        facts ! u32 (Is u32) (shows 𝓤 H A u32) s (v₂ ∷ []) (λ is₂.
+        land ! (from ! (stop !)) (init ! 18 refl (uint-lawful 𝓤 H A W w32 .typed s _ is₂ .0)) $
+        rewrite ! 18 (λ (z : Val). has set32 l₄ z) (ap only (is₂ .0) ∙ ap (vint w32) e₂) refl $
+        forget ! 14 refl $ by ! (second m e (subst (λ (z : ℕ). z < 2 ^ 32) e₂ (is₂ .1)))))))))))
 
-  walk : (𝓣 : Tables 𝓤 H) → Triple 𝓤 (𝓣 .C #chain·span) (Span 𝓤 H A mem run) → Triple 𝓤 (𝓣 .C #survey·first) (First 𝓤 H A mem run) → Triple 𝓤 (𝓣 .C #survey·without-first) (Without 𝓤 H A mem run) → Triple 𝓤 (𝓣 .C #chain·take) (Act 𝓤 H A mem run)
-      → ent 𝓤 (onEntry 𝓤 H A act-all.signature (κ, tt) (q, tt) a vals) (WpFn 𝓤 H (𝓣 .C) (𝓣 .Λ) code.function (v₁ ∷ low c ∷ []) Post)
-  walk 𝓣 known-span known-first known-without-first known-act =
-      qed W ((‵ (flft κ q) ⊛ ‵ ftrue) ∷ ‵ (owns (MutSlice (named 0) κ T.the-row ∷ D.the-row ∷ []) a vals) ∷ []) ∵ enter ! (𝓣 .C) (𝓣 .Λ) code.function (v₁ ∷ low c ∷ []) _ $
+  walk : (𝓣 : Tables 𝓤 H) → Triple 𝓤 (𝓣 .C #chain·span) (Span 𝓤 H A mem run) → Triple 𝓤 (𝓣 .C #chain·acting-of) (ActingOf 𝓤 H A mem run) → Triple 𝓤 (𝓣 .C #survey·first) (First 𝓤 H A mem run) → Triple 𝓤 (𝓣 .C #survey·without-first) (Without 𝓤 H A mem run) → Triple 𝓤 (𝓣 .C #chain·take) (Act 𝓤 H A mem run)
+      → ent 𝓤 (onEntry 𝓤 H A act-all.signature (κ, tt) (q, tt) a vals) (WpFn 𝓤 H (𝓣 .C) (𝓣 .Λ) code.function (v₁ ∷ mc ∷ []) Post)
+  walk 𝓣 known-span known-acting known-first known-without-first known-act =
+      qed W ((‵ (flft κ q) ⊛ ‵ ftrue) ∷ ‵ (owns (MutSlice (named 0) κ T.the-row ∷ D.the-row ∷ []) a vals) ∷ []) ∵ enter ! (𝓣 .C) (𝓣 .Λ) code.function (v₁ ∷ mc ∷ []) _ $
       alloc1 ! (λ l₀. alloc1 ! (λ l₁. alloc1 ! (λ l₂. alloc1 ! (λ l₃. alloc1 ! (λ l₄. alloc1 ! (λ l₅. alloc1 ! (λ l₆. alloc1 ! (λ l₇. alloc1 ! (λ l₈. alloc1 ! (λ l₉. alloc1 ! (λ l₁₀. alloc1 ! (λ l₁₁. alloc1 ! (λ l₁₂. alloc1 ! (λ l₁₃. alloc0 ! $ params1 ! $
       pass1 ! (init ! 24 refl (tt, (tt, (record { fits = room₀ .0 }, tt)))) $ pass1 ! (init ! 22 refl (LL.lawful D.the-type D′.the-laws 𝓤 H A W .typed c _ gc .0)) $ pass0 ! $
-      by ! (starts 𝓣 known-span known-first known-without-first known-act l₀ l₁ l₂ l₃ l₄ l₅ l₆ l₇ l₈ l₉ l₁₀ l₁₁ l₁₂ l₁₃)))))))))))))))
+      by ! (starts 𝓣 known-span known-acting known-first known-without-first known-act l₀ l₁ l₂ l₃ l₄ l₅ l₆ l₇ l₈ l₉ l₁₀ l₁₁ l₁₂ l₁₃)))))))))))))))
 
-module _ {M : Type 1} (𝓤 : URA M) (H : Heap 𝓤) (A : Atoms 𝓤) (W : Given 𝓤 H A) (mem : Memory → SProp 𝓤) (run : Routine → Fun 𝓤) (𝓣 : Tables 𝓤 H) (known-span : Triple 𝓤 (𝓣 .C #chain·span) (Span 𝓤 H A mem run)) (known-first : Triple 𝓤 (𝓣 .C #survey·first) (First 𝓤 H A mem run)) (known-without-first : Triple 𝓤 (𝓣 .C #survey·without-first) (Without 𝓤 H A mem run)) (known-act : Triple 𝓤 (𝓣 .C #chain·take) (Act 𝓤 H A mem run)) where
+module _ {M : Type 1} (𝓤 : URA M) (H : Heap 𝓤) (A : Atoms 𝓤) (W : Given 𝓤 H A) (mem : Memory → SProp 𝓤) (run : Routine → Fun 𝓤) (𝓣 : Tables 𝓤 H) (known-span : Triple 𝓤 (𝓣 .C #chain·span) (Span 𝓤 H A mem run)) (known-acting : Triple 𝓤 (𝓣 .C #chain·acting-of) (ActingOf 𝓤 H A mem run)) (known-first : Triple 𝓤 (𝓣 .C #survey·first) (First 𝓤 H A mem run)) (known-without-first : Triple 𝓤 (𝓣 .C #survey·without-first) (Without 𝓤 H A mem run)) (known-act : Triple 𝓤 (𝓣 .C #chain·take) (Act 𝓤 H A mem run)) where
   act-all-walks : Walks 𝓤 H A act-all.ended stayed (WpFn 𝓤 H (𝓣 .C) (𝓣 .Λ) code.function) (act-all.clauses 𝓤 H A mem run)
   act-all-walks = walked 𝓤 H A act-all.ended stayed (act-all.clauses 𝓤 H A mem run) (WpFn 𝓤 H (𝓣 .C) (𝓣 .Λ) code.function)
       (λ κs. (slice-vals, (LL.vals D.the-type D′.the-laws, tt))) (λ κs. (mut-slice-tells (named 0) (κs .0) T.the-row, (LL.tells D.the-type D′.the-laws, tt)))
       (λ κs qs bounds a g are. via 𝓤 _ (fst∗ 𝓤 _ (emp 𝓤))
-      (walk 𝓤 H A W mem run (κs .0) (qs .0) (a .0 .ptr .0) (a .0 .ptr .1) (a .0 .name) (a .0 .now) (a .1 .0) (are .1 .0) (are .0 .0 .1) 𝓣 known-span known-first known-without-first known-act))
+      (walk 𝓤 H A W mem run (κs .0) (qs .0) (a .0 .ptr .0) (a .0 .ptr .1) (a .0 .name) (a .0 .now) (a .1 .0) _ (are .1 .0) (are .0 .0 .1) 𝓣 known-span known-acting known-first known-without-first known-act))
 
   act-all-meets : Meets 𝓤 H A act-all.signature (WpFn 𝓤 H (𝓣 .C) (𝓣 .Λ) code.function) (act-all.spec 𝓤 H A mem run)
   act-all-meets =
@@ -346,6 +361,7 @@ act-all-spec 𝓤 H 𝓜 𝓖 𝓡 =
     (tables 𝓤 H 𝓜 𝓡 code.env .C) (tables 𝓤 H 𝓜 𝓡 code.env .Λ) #chain·act-all code.function (code.unfolded 𝓤 H 𝓜 𝓡)
     (act-all-meets 𝓤 H (𝓖 .A) (givenOf 𝓤 H 𝓜 𝓖) (𝓜 .mem) (𝓡 .run) (tablesOf 𝓤 H 𝓜 (tables 𝓤 H 𝓜 𝓡 code.env))
     (cited 𝓤 H (Span 𝓤 H (𝓖 .A) (𝓜 .mem) (𝓡 .run)) 𝓜 𝓡 code.env #chain·span span-def.routine code.calls-chain·steps·span (span-thm.met 𝓤 H 𝓜 𝓖 𝓡))
+    (cited 𝓤 H (ActingOf 𝓤 H (𝓖 .A) (𝓜 .mem) (𝓡 .run)) 𝓜 𝓡 code.env #chain·acting-of acting-of-def.routine code.calls-chain·steps·acting-of (acting-of-thm.met 𝓤 H 𝓜 𝓖 𝓡))
     (cited 𝓤 H (First 𝓤 H (𝓖 .A) (𝓜 .mem) (𝓡 .run)) 𝓜 𝓡 code.env #survey·first first-def.routine code.calls-survey·first (first-thm.met 𝓤 H 𝓜 𝓖 𝓡))
     (cited 𝓤 H (Without 𝓤 H (𝓖 .A) (𝓜 .mem) (𝓡 .run)) 𝓜 𝓡 code.env #survey·without-first without-first-def.routine code.calls-survey·without-first (without-first-thm.met 𝓤 H 𝓜 𝓖 𝓡))
     (cited 𝓤 H (Act 𝓤 H (𝓖 .A) (𝓜 .mem) (𝓡 .run)) 𝓜 𝓡 code.env #chain·take take-def.routine code.calls-chain·steps·take (take-thm.met 𝓤 H 𝓜 𝓖 𝓡)))

@@ -4,16 +4,11 @@ use Prim.Native.Nat.{ℕ, zero, suc, _≤_, _<_}
 use native.Mathlib.Nat.{not-suc-le-zero, le-of-suc-le-suc}
 use mathlib.Core.List.{List, [], _∷_}
 use lib.ListN.{length, getD, List·getD-eq-default}
-use Rattle.message.specs.declared.Message.{Message}
-use Rattle.message.specs.declared.Messages.{Messages}
-use Rattle.message.specs.Message.{messageTo}
 use Rattle.node.specs.declared.state.Node.{Node}
-use Rattle.node.specs.Node.{takeOf}
 use Rattle.survey.specs.declared.plan.Incoming.{Incoming}
 use Rattle.survey.specs.declared.plan.Plan.{Plan}
 use Rattle.survey.specs.declared.plan.Seen.{Seen}
 use Rattle.survey.specs.declared.plan.Survey.{Survey}
-use Rattle.survey.specs.One.{takeFor}
 use Rattle.survey.specs.Survey.{glanceOf, glancesOf, chainStart, planOf, speakerOf, surveyWith, surveyAlone, surveyAll, nobody}
 
 module _ (c : Incoming) where
@@ -49,7 +44,3 @@ module _ (c : Incoming) where
 -- the plan alone, as the code makes it
 pub alone : (p : Plan) (n : Node) → n ≡ nobody → record { plan = p; speaker = n } ≡ surveyAlone p
 alone p n e = rw e
-
--- a node that acts, as the code has it
-pub taken-for : (h : Messages) (n r : Node) (own : Message) → own ≡ messageTo (n .kind) h → r ≡ takeOf own n → r ≡ takeFor h n
-taken-for h n r own e p = p ∙ ap (λ (m : Message). takeOf m n) e

@@ -41,9 +41,15 @@ fn act_all(table: &mut [Node], decided: Decided)
     let mut rest = steps::acting_of(decided);
     let mut i = survey::first(rest);
     while i < n {
-        table[i] = steps::take(table[i], decided);
+        let k = i;
         rest = survey::without_first(rest);
         i = survey::first(rest);
+        // A store for each kind: so the part of the other kind is not copied.
+        if steps::is_gate(table[k]) {
+            table[k] = steps::take_gate(table[k], decided);
+        } else {
+            table[k] = steps::take_drive(table[k], decided);
+        }
     }
 }
 

@@ -9,7 +9,9 @@ use survey::Seen;
 use survey::Survey;
 use wire::Kind;
 ghost use mathlib.Core.Path.{_≡_};
-ghost use Rattle.survey.specs.One.{takeFor};
+ghost use Rattle.wire.specs.Kind.{isGate};
+ghost use Rattle.wire.specs.declared.kind.Kind.the-variants.{Gate, Drive};
+ghost use Rattle.node.specs.Node.{takeAs};
 ghost use Rattle.survey.specs.Survey.{chainStart, surveyWith, surveyAlone};
 ghost use Rattle.survey.specs.Decision.{spanOf};
 
@@ -70,13 +72,30 @@ pub(crate) fn span(n: usize) -> usize
     n
 }
 
-// A node that acts.
-pub(crate) fn take(n: Node, d: Decided) -> Node
-    ensures { λ r. ⌜ r ≡ takeFor (d .messages) n ⌝ }
+// What kind a node is.
+pub(crate) fn is_gate(n: Node) -> bool
+    ensures { λ r. ⌜ r ≡ isGate (n .kind) ⌝ }
+{
+    let kind = n.kind;
+    kind.is_gate()
+}
+
+// A node that acts, as a gate takes what the packet says to gates.
+pub(crate) fn take_gate(n: Node, d: Decided) -> Node
+    ensures { λ r. ⌜ r ≡ takeAs Gate (d .messages .gate) n ⌝ }
 {
     let messages = d.messages;
-    let kind = n.kind;
-    n.take(messages.to(kind))
+    let message = messages.gate;
+    n.take_gate(message)
+}
+
+// As a drive takes what it says to drives.
+pub(crate) fn take_drive(n: Node, d: Decided) -> Node
+    ensures { λ r. ⌜ r ≡ takeAs Drive (d .messages .drive) n ⌝ }
+{
+    let messages = d.messages;
+    let message = messages.drive;
+    n.take_drive(message)
 }
 
 // Who acts.

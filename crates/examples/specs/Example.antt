@@ -40,9 +40,9 @@ pub data Event : Type 0 where
   silence : Event
   reply : List ℕ → Event
 
--- a lent buffer
+-- a lent buffer with room for every packet
 abbrev pub buffer : List ℕ
-buffer = replicate 8 0
+buffer = replicate 19 0
 
 -- what an event makes of a session
 abbrev pub stepOf : Event → Session → Step

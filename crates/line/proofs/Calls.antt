@@ -15,6 +15,7 @@ use Rattle.packet.specs.declared.Framed.the-variants as framed
 use Rattle.status.specs.Status.{T}
 use Rattle.node.specs.declared.state.Node.{Node}
 use Rattle.message.specs.declared.Messages.{Messages}
+use Rattle.message.specs.Message.{messageTo}
 use Rattle.reply.specs.Reply.{maskFor}
 use Rattle.mask.proofs.Counts.{size-range}
 use Rattle.reply.proofs.Replies.{reply-length}

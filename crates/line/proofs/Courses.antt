@@ -1,17 +1,18 @@
 -- The courses of the walk and of a command to one node, step by step; and the packet that is on its way at a power-up.
 use Prim.Native.Nat.{ℕ}
-use mathlib.Core.Bool.{true, false, true≢false}
+use mathlib.Core.Bool.{Bool, true, false, true≢false}
 use mathlib.Core.List.{List, [], _∷_}
 use mathlib.Core.Path.{refl, ap, _∙_}
 use lib.ListN.{getD}
 use Rattle.buffer.specs.Sum.{total, endsInSum}
 use Rattle.buffer.specs.Buffer.{written}
 use Rattle.packet.specs.Packet.{dataPart, frameOf, isIntact}
+use Rattle.wire.specs.declared.kind.Kind.the-variants.{Gate}
 use Rattle.command.specs.declared.Place.{Place}
 use Rattle.command.specs.declared.Command.the-variants.{SetOutputs, Nop}
 use Rattle.codec.specs.Reading.{sharedRows, gateRows, driveRows, motionOf, codecRead}
 use Rattle.codec.specs.Build.{buildFor, codecBuild}
-use Rattle.status.specs.Status.{judgeOf}
+use Rattle.status.specs.Status.{counts, judgeOf}
 use Rattle.node.specs.declared.state.Node.{Node}
 use Rattle.node.specs.Setting.{Setting, get}
 use Rattle.reply.specs.Items.{replyItems}
@@ -21,7 +22,7 @@ use Rattle.survey.specs.Chain.{blankNode, after}
 use Rattle.survey.specs.Delivery.{frameAlone}
 use Rattle.entry.specs.declared.Entry.{Entry}
 use Rattle.entry.specs.Entry.{knows, shows, entryPowerUp}
-use Rattle.ledger.specs.Ledger.{ledgerPowerUp, ledgerLeast, eachFrom, settleOf}
+use Rattle.ledger.specs.Ledger.{ledgerPowerUp, ledgerLeast, eachFrom, settleOf, isLacked, anyFrom, allGates, telling}
 use Rattle.session.specs.declared.Exchange.the-variants.{Idle, Waiting}
 use Rattle.session.specs.Session.{isValid, isClosed, isAskDue, entryOf, nodeAt, givenPlace}
 use Rattle.start.specs.Start.{startPowerUp}
@@ -37,8 +38,9 @@ use Rattle.line.specs.World.{World, Comes, call}
 use Rattle.line.specs.Demand3.{nodeOf}
 use Rattle.line.specs.Courses.{Stands, Courses, unasked, asked, lost, again}
 use Rattle.line.specs.Late.{Late}
-use Rattle.line.proofs.Rounds.{rest, zeros, up, worldAt, Round, round, replied, unheard, powers, placed, given, opened1, next-1, walks}
+use Rattle.line.proofs.Rounds.{rest, up, worldAt, Round, round, replied, unheard, powers, placed, given, opened1, next-1, walks, gateUp, idle, gates, told}
 use Rattle.line.proofs.Passes.{group-passed, by-itself, leader-unknown}
+use Rattle.line.proofs.Rides.{load-unheard, started-in-doubt, load-known}
 
 -- the packets: AA 01 0E 0F, AA 02 26 05 00 2D
 abbrev nop1 : List ℕ
@@ -48,50 +50,55 @@ abbrev set5 : List ℕ
 set5 = 0xAA ∷ 0x02 ∷ 0x26 ∷ 0x05 ∷ 0x00 ∷ 0x2D ∷ []
 
 -- the first "next": the reply is lost; "ask" is replied to
-unanswered : Comes (worldAt (pair 0 Idle placeInDoubt entryPowerUp rest) (placed 1 0 ∷ up ∷ []) quiet unasked)
+unanswered : Comes (worldAt (pair 0 Idle placeInDoubt gateUp rest) (placed 1 0 ∷ up ∷ []) quiet unasked)
 unfolding finishOf isClosed isValid concludeOf isGiving isAsking settleOf eachFrom ledgerLeast
 unanswered = round powers next-1 (unheard refl)
 
-ask-1 : Round Ask (asks 1) nop1 (λ i. true) (pair 0 Idle placeInDoubt entryPowerUp rest) (pair 0 (Waiting (nodeAt 1) Nop) placeInDoubt entryPowerUp rest)
+ask-1 : Round Ask (asks 1) nop1 (λ i. true) (pair 0 Idle placeInDoubt gateUp rest) (pair 0 (Waiting (nodeAt 1) Nop) placeInDoubt gateUp rest)
     (placed 1 0 ∷ up ∷ []) (placed 1 0 ∷ up ∷ [])
 unfolding askOf askCheck freeCheck isClosed isValid isWaiting isAskDue transmitOf openExchange codecBuild buildFor written total
-    frameOf frameAlone dataPart isIntact endsInSum codecRead sharedRows gateRows driveRows motionOf after turned doesAct doesReply replyOf replyItems
+    frameOf frameAlone dataPart isIntact endsInSum codecRead sharedRows gateRows driveRows motionOf after turned doesAct doesReply replyOf replyItems counts
 ask-1 = record { typed = tt; sends = λ past. refl; nodes = refl; says = refl }
 
-answered : Comes (worldAt (pair 1 Idle (addressed 1) entryPowerUp rest) (placed 1 0 ∷ up ∷ []) quiet asked)
+answered : Comes (worldAt (pair 1 Idle (addressed 1) gateUp rest) (placed 1 0 ∷ up ∷ []) quiet asked)
 unfolding reportOf finishOf isClosed isValid concludeOf isGiving isAsking isAskDue settleOf eachFrom ledgerLeast judgeOf endsInSum total
 answered = round unanswered ask-1 (replied refl)
 
--- Set Outputs 5 to node 2, whatever its outputs are and its entry is
-set-outputs : (old : ℕ) (e : Entry) → Round (Order (nodeAt 2) (SetOutputs 5)) (sends (nodeAt 2) (SetOutputs 5)) set5 (λ i. true) (pair 2 Idle (addressed 1) e rest)
-    (pair 2 (Waiting (nodeAt 2) (SetOutputs 5)) (addressed 1) e rest) (placed 1 0 ∷ placed 2 old ∷ []) (placed 1 0 ∷ placed 2 5 ∷ [])
+-- Set Outputs 5 to node 2, whatever its outputs are, known or in doubt
+abbrev second : Bool → Entry
+second known = entryWith (givenPlace 2) 0 (knownBut known true true)
+
+set-outputs : (old : ℕ) (known : Bool) → Round (Order (nodeAt 2) (SetOutputs 5)) (sends (nodeAt 2) (SetOutputs 5)) set5 (λ i. true) (pair 2 Idle (addressed 1) (second known) rest)
+    (pair 2 (Waiting (nodeAt 2) (SetOutputs 5)) (addressed 1) (second known) rest) (placed 1 0 ∷ placed 2 old ∷ []) (placed 1 0 ∷ placed 2 5 ∷ [])
 unfolding orderOf orderCheck isLacked anyFrom ledgerLeast freeCheck isClosed isValid isWaiting transmitOf openExchange codecBuild buildFor written total
-    frameOf frameAlone dataPart isIntact endsInSum codecRead sharedRows gateRows driveRows motionOf after turned doesAct doesReply replyOf replyItems
-set-outputs old e = record { typed = tt; sends = λ past. refl; nodes = refl; says = refl }
+    frameOf frameAlone dataPart isIntact endsInSum codecRead sharedRows gateRows driveRows motionOf after turned doesAct doesReply replyOf replyItems counts
+set-outputs old known = record { typed = tt; sends = λ past. refl; nodes = refl; says = refl }
 
 -- the reply is lost
-unsure : Comes (worldAt (pair 2 Idle (addressed 1) (entryWith (givenPlace 2) 0 (knownBut false true true)) rest) (placed 1 0 ∷ placed 2 5 ∷ []) quiet lost)
+unsure : Comes (worldAt (pair 2 Idle (addressed 1) (second false) rest) (placed 1 0 ∷ placed 2 5 ∷ []) quiet lost)
 unfolding finishOf isClosed isValid concludeOf isGiving isAsking settleOf eachFrom ledgerLeast
-unsure = round walks (set-outputs 0 (addressed 2)) (unheard refl)
+unsure = round walks (set-outputs 0 true) (unheard refl)
 
 -- sent again, and replied to
 sure : Comes (worldAt (pair 2 Idle (addressed 1) (entryWith (givenPlace 2) 5 (knownBut true true true)) rest) (placed 1 0 ∷ placed 2 5 ∷ []) quiet again)
 unfolding reportOf finishOf isClosed isValid concludeOf isGiving isAsking settleOf eachFrom ledgerLeast judgeOf endsInSum total
-sure = round unsure (set-outputs 5 (entryWith (givenPlace 2) 0 (knownBut false true true))) (replied refl)
+sure = round unsure (set-outputs 5 false) (replied refl)
 
 -- the first "next" is on its way
 sent : Comes (worldAt opened1 (up ∷ up ∷ []) (going (gives 1) (given 1)) [])
 sent = rw (next-1 .sends []) at (call powers Next tt buffer)
 
 pub late : Late
-unfolding startPowerUp ledgerPowerUp
+unfolding startPowerUp ledgerPowerUp allGates telling ledgerLeast eachFrom
 late = record {
   world = _;
   comes = sent;
   packet = given 1;
   sent = refl;
-  bench = zeros ∷ zeros ∷ [];
-  told = refl;
+  devices = idle ∷ idle ∷ [];
+  kinds = gates;
+  told = told;
+  accepted = refl;
   known = refl;
   differs = λ e. true≢false (cc (ap (λ (p : Place). p .address .0) (e ∙ ap (λ (ns : List Node). getD ns 0 blankNode .settings .place) (next-1 .nodes))));
 }
@@ -109,4 +116,7 @@ courses = record {
   following = record { world = _; comes = group-passed true; up = refl; free = refl; history = refl; two = refl; ends = (stands, stands) };
   alone = record { world = _; comes = by-itself; up = refl; free = refl; history = refl; two = refl; ends = stands };
   unknown = record { world = _; comes = leader-unknown; up = refl; free = refl; history = refl; two = refl; ends = stands };
+  loading = record { world = _; comes = load-unheard; up = refl; free = refl; history = refl; two = refl; ends = stands };
+  starting = record { world = _; comes = started-in-doubt; up = refl; free = refl; history = refl; two = refl; ends = stands };
+  turning = record { world = _; comes = load-known; up = refl; free = refl; history = refl; two = refl; ends = (stands, stands) };
 }

@@ -85,8 +85,11 @@ module _ (ns : List Node) (q : List ℕ) (gets : ℕ → Bool) (to : Address) (k
   nodes-are : nodesAfter (record { bytes = q; gets = gets }) ns ≡ parted gets ns (after to m ns)
   nodes-are = rw (f, e) refl
 
+  said-framed : saidAfter (record { bytes = q; gets = gets }) ns ≡ saidAmong gets to (messagesAs k q) ns
+  said-framed = rw f refl
+
   said-is : saidAfter (record { bytes = q; gets = gets }) ns ≡ saidAmong gets to m ns
-  said-is = rw (f, e) refl
+  said-is = said-framed ∙ ap (λ (x : Messages). saidAmong gets to x ns) e
 
 -- whoever replies to an address is one that acts on it
 replies-acts : (to : Address) (ns : List Node) (i : ℕ) → repliesAt to ns i ≡ true → acts to ns i ≡ true

@@ -22,5 +22,6 @@ mod Calls
 pub mod Demand3
 mod Rounds
 mod Passes
+mod Rides
 pub mod Courses
 pub mod Missed

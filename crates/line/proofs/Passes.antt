@@ -8,10 +8,11 @@ use lib.Dec.{eqb}
 use Rattle.buffer.specs.Sum.{total, endsInSum}
 use Rattle.buffer.specs.Buffer.{written}
 use Rattle.packet.specs.Packet.{dataPart, frameOf, isIntact}
+use Rattle.wire.specs.declared.kind.Kind.the-variants.{Gate}
 use Rattle.command.specs.declared.Command.the-variants.{SetAddress, SynchOutput, SetOutputs, SetSynchOutput}
 use Rattle.codec.specs.Reading.{sharedRows, gateRows, driveRows, motionOf, codecRead}
 use Rattle.codec.specs.Build.{buildFor, codecBuild}
-use Rattle.status.specs.Status.{judgeOf}
+use Rattle.status.specs.Status.{counts, judgeOf}
 use Rattle.status.specs.declared.Answer.the-variants.{Silent}
 use Rattle.node.specs.declared.state.Node.{Node}
 use Rattle.node.specs.Node.{actAs}
@@ -22,7 +23,7 @@ use Rattle.survey.specs.Chain.{after}
 use Rattle.survey.specs.Delivery.{frameAlone}
 use Rattle.entry.specs.declared.Entry.{Entry}
 use Rattle.entry.specs.Entry.{confirmOf, doubtOf}
-use Rattle.ledger.specs.Ledger.{ledgerLeast, eachFrom, settleOf, anyFrom, isLed}
+use Rattle.ledger.specs.Ledger.{ledgerLeast, eachFrom, settleOf, anyFrom, isLed, isLacked}
 use Rattle.session.specs.declared.Exchange.{Exchange}
 use Rattle.session.specs.declared.Exchange.the-variants.{Idle, Waiting}
 use Rattle.session.specs.declared.Session.{Session}
@@ -36,7 +37,7 @@ use Rattle.line.specs.History.{sends}
 use Rattle.line.specs.Line.{quiet}
 use Rattle.line.specs.World.{Comes}
 use Rattle.line.specs.Courses.{walked, group80, inGroup, opened, armed, passed, handed, leaderInDoubt}
-use Rattle.line.proofs.Rounds.{rest, worldAt, Round, round, replied, unheard, placed, walks}
+use Rattle.line.proofs.Rounds.{rest, worldAt, Round, round, replied, unheard, placed, walks, gateUp}
 
 -- both nodes have their addresses; what waits, and the two entries
 abbrev session : Exchange → Entry → Entry → Session
@@ -72,28 +73,28 @@ leads : Round (Regroup (record { 0 = 1 }) (record { 0 = 0x80 }) true) (sends (no
     (session Idle (addressed 1) (addressed 2)) (session (Waiting (nodeAt 1) (SetAddress (inGroup 1 true))) (addressed 1) (addressed 2))
     (placed 1 0 ∷ placed 2 0 ∷ []) (grouped 1 true ∷ placed 2 0 ∷ [])
 unfolding regroupOf regroupCheck hasRival isLed anyFrom ledgerLeast freeCheck isClosed isValid isWaiting isAskDue transmitOf openExchange codecBuild buildFor written total
-    frameOf frameAlone dataPart isIntact endsInSum codecRead sharedRows gateRows driveRows motionOf after turned doesAct doesReply replyOf replyItems
+    frameOf frameAlone dataPart isIntact endsInSum codecRead sharedRows gateRows driveRows motionOf after turned doesAct doesReply replyOf replyItems counts
 leads = record { typed = omega arith; sends = λ past. refl; nodes = refl; says = refl }
 
 follows : Round (Regroup (record { 0 = 2 }) (record { 0 = 0x80 }) false) (sends (nodeAt 2) (SetAddress (inGroup 2 false))) (joins 2 0x80) (λ i. true)
     (session Idle (groupedEntry 1 true) (addressed 2)) (session (Waiting (nodeAt 2) (SetAddress (inGroup 2 false))) (groupedEntry 1 true) (addressed 2))
     (grouped 1 true ∷ placed 2 0 ∷ []) (grouped 1 true ∷ grouped 2 false ∷ [])
 unfolding regroupOf regroupCheck hasRival isLed anyFrom ledgerLeast freeCheck isClosed isValid isWaiting isAskDue transmitOf openExchange codecBuild buildFor written total
-    frameOf frameAlone dataPart isIntact endsInSum codecRead sharedRows gateRows driveRows motionOf after turned doesAct doesReply replyOf replyItems
+    frameOf frameAlone dataPart isIntact endsInSum codecRead sharedRows gateRows driveRows motionOf after turned doesAct doesReply replyOf replyItems counts
 follows = record { typed = omega arith; sends = λ past. refl; nodes = refl; says = refl }
 
 hold-1 : Round (Order (nodeAt 1) (SetSynchOutput opened)) (sends (nodeAt 1) (SetSynchOutput opened)) (holds 1) (λ i. true)
     (session Idle (groupedEntry 1 true) (groupedEntry 2 false)) (session (Waiting (nodeAt 1) (SetSynchOutput opened)) (groupedEntry 1 true) (groupedEntry 2 false))
     (grouped 1 true ∷ grouped 2 false ∷ []) (holding 1 true ∷ grouped 2 false ∷ [])
 unfolding orderOf orderCheck isLacked anyFrom ledgerLeast freeCheck isClosed isValid isWaiting transmitOf openExchange codecBuild buildFor written total
-    frameOf frameAlone dataPart isIntact endsInSum codecRead sharedRows gateRows driveRows motionOf after turned doesAct doesReply replyOf replyItems
+    frameOf frameAlone dataPart isIntact endsInSum codecRead sharedRows gateRows driveRows motionOf after turned doesAct doesReply replyOf replyItems counts
 hold-1 = record { typed = tt; sends = λ past. refl; nodes = refl; says = refl }
 
 hold-2 : Round (Order (nodeAt 2) (SetSynchOutput opened)) (sends (nodeAt 2) (SetSynchOutput opened)) (holds 2) (λ i. true)
     (session Idle (holdingEntry 1 true) (groupedEntry 2 false)) (session (Waiting (nodeAt 2) (SetSynchOutput opened)) (holdingEntry 1 true) (groupedEntry 2 false))
     (holding 1 true ∷ grouped 2 false ∷ []) (holding 1 true ∷ holding 2 false ∷ [])
 unfolding orderOf orderCheck isLacked anyFrom ledgerLeast freeCheck isClosed isValid isWaiting transmitOf openExchange codecBuild buildFor written total
-    frameOf frameAlone dataPart isIntact endsInSum codecRead sharedRows gateRows driveRows motionOf after turned doesAct doesReply replyOf replyItems
+    frameOf frameAlone dataPart isIntact endsInSum codecRead sharedRows gateRows driveRows motionOf after turned doesAct doesReply replyOf replyItems counts
 hold-2 = record { typed = tt; sends = λ past. refl; nodes = refl; says = refl }
 
 -- the group is made, and both hold their set
@@ -110,7 +111,7 @@ module _ (got : Bool) where
       (session Idle (holdingEntry 1 true) (holdingEntry 2 false)) (session (Waiting group80 SynchOutput) (holdingEntry 1 true) (holdingEntry 2 false))
       (holding 1 true ∷ holding 2 false ∷ []) (actAs Gate SynchOutput (holding 1 true) ∷ second ∷ [])
   unfolding orderOf orderCheck isLacked anyFrom ledgerLeast freeCheck isClosed isValid isWaiting transmitOf openExchange codecBuild buildFor written total
-      frameOf frameAlone dataPart isIntact endsInSum codecRead sharedRows gateRows driveRows motionOf after turned doesAct doesReply replyOf replyItems
+      frameOf frameAlone dataPart isIntact endsInSum codecRead sharedRows gateRows driveRows motionOf after turned doesAct doesReply replyOf replyItems counts
   pass = record { typed = omega arith; sends = λ past. refl; nodes = refl; says = refl }
 
   -- its clear reply confirms it at node 1, the leader, and puts node 2 in doubt
@@ -125,7 +126,7 @@ hand : Round (Order (nodeAt 2) SynchOutput) (sends (nodeAt 2) SynchOutput) (sync
     (session (Waiting (nodeAt 2) SynchOutput) (confirmOf SynchOutput (holdingEntry 1 true)) (doubtOf SynchOutput (holdingEntry 2 false)))
     (actAs Gate SynchOutput (holding 1 true) ∷ holding 2 false ∷ []) (actAs Gate SynchOutput (holding 1 true) ∷ actAs Gate SynchOutput (holding 2 false) ∷ [])
 unfolding orderOf orderCheck isLacked anyFrom ledgerLeast freeCheck isClosed isValid isWaiting transmitOf openExchange codecBuild buildFor written total
-    frameOf frameAlone dataPart isIntact endsInSum codecRead sharedRows gateRows driveRows motionOf after turned doesAct doesReply replyOf replyItems
+    frameOf frameAlone dataPart isIntact endsInSum codecRead sharedRows gateRows driveRows motionOf after turned doesAct doesReply replyOf replyItems counts
 hand = record { typed = tt; sends = λ past. refl; nodes = refl; says = refl }
 
 pub by-itself : Comes (worldAt (session Idle (confirmOf SynchOutput (holdingEntry 1 true)) (confirmOf SynchOutput (doubtOf SynchOutput (holdingEntry 2 false))))
@@ -144,7 +145,7 @@ command : Round (Order group80 (SetOutputs 5)) (sends group80 (SetOutputs 5)) se
     (session (Waiting group80 (SetOutputs 5)) (doubtOf (SetAddress (inGroup 1 true)) (addressed 1)) (addressed 2))
     (grouped 1 true ∷ placed 2 0 ∷ []) (actAs Gate (SetOutputs 5) (grouped 1 true) ∷ placed 2 0 ∷ [])
 unfolding orderOf orderCheck isLacked anyFrom ledgerLeast freeCheck isClosed isValid isWaiting transmitOf openExchange codecBuild buildFor written total
-    frameOf frameAlone dataPart isIntact endsInSum codecRead sharedRows gateRows driveRows motionOf after turned doesAct doesReply replyOf replyItems
+    frameOf frameAlone dataPart isIntact endsInSum codecRead sharedRows gateRows driveRows motionOf after turned doesAct doesReply replyOf replyItems counts
 command = record { typed = omega arith; sends = λ past. refl; nodes = refl; says = refl }
 
 pub leader-unknown : Comes (worldAt (session Idle (doubtOf (SetOutputs 5) (doubtOf (SetAddress (inGroup 1 true)) (addressed 1))) (addressed 2))

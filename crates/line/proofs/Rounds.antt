@@ -1,29 +1,32 @@
 -- One exchange of a course of two nodes: the call, the packet as it comes to the nodes, the reply as it comes back, the report. And the walk, made of two.
-use Prim.Native.Nat.{ℕ, _+_}
+use Prim.Native.Nat.{ℕ, zero, suc, _+_}
 use mathlib.Core.Bool.{Bool, true}
 use mathlib.Core.List.{List, [], _∷_}
 use mathlib.Core.Option.{Option, none, some}
 use mathlib.Core.Path.{_≡_, refl}
+use native.Mathlib.Omega.{arith}
 use lib.ListN.{replicate}
 use Rattle.buffer.specs.Sum.{total, endsInSum}
 use Rattle.buffer.specs.Buffer.{written}
 use Rattle.packet.specs.Packet.{dataPart, frameOf, isIntact}
+use Rattle.wire.specs.declared.kind.Kind.{Kind}
+use Rattle.wire.specs.declared.kind.Kind.the-variants.{Gate}
 use Rattle.command.specs.declared.Command.the-variants.{SetAddress, SetOutputs}
 use Rattle.codec.specs.Reading.{sharedRows, gateRows, driveRows, motionOf, codecRead}
 use Rattle.codec.specs.Build.{buildFor, codecBuild}
-use Rattle.status.specs.Status.{judgeOf}
+use Rattle.status.specs.Status.{counts, judgeOf}
 use Rattle.status.specs.declared.Answer.{Answer}
 use Rattle.status.specs.declared.Answer.the-variants.{Clear, Silent}
 use Rattle.node.specs.declared.state.Node.{Node}
-use Rattle.node.specs.Node.{powerUp, actAs}
+use Rattle.node.specs.Node.{actAs}
 use Rattle.reply.specs.Items.{replyItems}
 use Rattle.reply.specs.Reply.{replyOf}
 use Rattle.survey.specs.One.{doesAct, doesReply, turned}
-use Rattle.survey.specs.Chain.{reply, after}
+use Rattle.survey.specs.Chain.{zeros, reply, after}
 use Rattle.survey.specs.Delivery.{frameAlone}
 use Rattle.entry.specs.declared.Entry.{Entry}
 use Rattle.entry.specs.Entry.{entryPowerUp}
-use Rattle.ledger.specs.Ledger.{ledgerPowerUp, ledgerLeast, eachFrom, settleOf}
+use Rattle.ledger.specs.Ledger.{allGates, telling, ledgerPowerUp, ledgerLeast, eachFrom, settleOf}
 use Rattle.session.specs.declared.Exchange.the-variants.{Idle, Waiting}
 use Rattle.session.specs.declared.Session.{Session}
 use Rattle.session.specs.Session.{isValid, isClosed, isAskDue, nodeAt, givenPlace}
@@ -38,18 +41,22 @@ use Rattle.examples.specs.Example.{buffer, addressed, pair}
 use Rattle.line.specs.History.{Sending, Sent, gives}
 use Rattle.line.specs.Line.{Line, quiet, going, Returns, nodesAfter, saidAfter, reportedOf, answerIn}
 use Rattle.line.specs.Line as line
-use Rattle.line.specs.World.{World, callMade, Comes, start, power, call, deliver, report}
+use Rattle.line.specs.World.{World, Device, poweredUp, Told, callMade, Comes, start, power, call, deliver, report}
 use Rattle.line.specs.Courses.{walked}
 
--- the 29 entries past the second, and bench values 0
-pub rest : List Entry
-rest = replicate 29 entryPowerUp
+-- a gate's entry at power-up, and the 29 past the second
+abbrev pub gateUp : Entry
+gateUp = entryPowerUp Gate
 
-abbrev pub zeros : Bench
-zeros = record { inputs = 0; counter = 0; analog0 = 0; analog1 = 0; analog2 = 0; id = 0; version = 0 }
+unfoldable pub rest : List Entry
+rest = replicate 29 gateUp
+
+-- a gate with bench values 0
+abbrev pub idle : Device
+idle = record { kind = Gate; bench = zeros }
 
 abbrev pub up : Node
-up = powerUp zeros
+up = poweredUp idle
 
 abbrev pub worldAt : Session → List Node → Line → List Sent → World
 worldAt s ns l past = record { host = s; nodes = ns; line = l; past = past; up = true }
@@ -88,10 +95,18 @@ replied e = record { comes = line.Returns.whole; session = e; answer = judged-go
 pub unheard : {opened t : Session} → reportedOf opened none .session ≡ t → Reported opened none Silent t
 unheard e = record { comes = line.Returns.lost line.absent; session = e; answer = refl }
 
--- two nodes power up
-pub powers : Comes (worldAt (pair 0 Idle entryPowerUp entryPowerUp rest) (up ∷ up ∷ []) quiet [])
-unfolding startPowerUp ledgerPowerUp rest
-powers = power (start []) (zeros ∷ zeros ∷ []) refl
+-- two gates power up, and the host is told so
+abbrev pub gates : List Kind
+gates = Gate ∷ Gate ∷ []
+
+pub told : Told gates (idle ∷ idle ∷ [])
+told zero l = refl
+told (suc zero) l = refl
+told (suc (suc i)) l = absurd (omega arith)
+
+pub powers : Comes (worldAt (pair 0 Idle gateUp gateUp rest) (up ∷ up ∷ []) quiet [])
+unfolding startPowerUp ledgerPowerUp allGates telling ledgerLeast eachFrom rest
+powers = power (start []) (idle ∷ idle ∷ []) gates told refl
 
 -- node k with its address and its outputs
 abbrev pub placed : ℕ → ℕ → Node
@@ -102,21 +117,21 @@ abbrev pub given : ℕ → List ℕ
 given k = 0xAA ∷ 0x00 ∷ 0x21 ∷ k ∷ 0xFF ∷ (k + 0x20) ∷ []
 
 abbrev pub opened1 : Session
-opened1 = pair 0 (Waiting (nodeAt 1) (SetAddress (givenPlace 1))) entryPowerUp entryPowerUp rest
+opened1 = pair 0 (Waiting (nodeAt 1) (SetAddress (givenPlace 1))) gateUp gateUp rest
 
-pub next-1 : Round Next (gives 1) (given 1) (λ i. true) (pair 0 Idle entryPowerUp entryPowerUp rest) opened1 (up ∷ up ∷ []) (placed 1 0 ∷ up ∷ [])
+pub next-1 : Round Next (gives 1) (given 1) (λ i. true) (pair 0 Idle gateUp gateUp rest) opened1 (up ∷ up ∷ []) (placed 1 0 ∷ up ∷ [])
 unfolding nextOf nextCheck freeCheck isClosed isValid isWaiting isAskDue transmitOf openExchange codecBuild buildFor written total
-    frameOf frameAlone dataPart isIntact endsInSum codecRead sharedRows gateRows driveRows motionOf after turned doesAct doesReply replyOf replyItems
+    frameOf frameAlone dataPart isIntact endsInSum codecRead sharedRows gateRows driveRows motionOf after turned doesAct doesReply replyOf replyItems counts
 next-1 = record { typed = tt; sends = λ past. refl; nodes = refl; says = refl }
 
-first : Comes (worldAt (pair 1 Idle (addressed 1) entryPowerUp rest) (placed 1 0 ∷ up ∷ []) quiet (record { what = gives 1; answer = Clear } ∷ []))
+first : Comes (worldAt (pair 1 Idle (addressed 1) gateUp rest) (placed 1 0 ∷ up ∷ []) quiet (record { what = gives 1; answer = Clear } ∷ []))
 unfolding reportOf finishOf isClosed isValid concludeOf isGiving isAsking settleOf eachFrom ledgerLeast judgeOf endsInSum total
 first = round powers next-1 (replied refl)
 
-next-2 : Round Next (gives 2) (given 2) (λ i. true) (pair 1 Idle (addressed 1) entryPowerUp rest)
-    (pair 1 (Waiting (nodeAt 2) (SetAddress (givenPlace 2))) (addressed 1) entryPowerUp rest) (placed 1 0 ∷ up ∷ []) (placed 1 0 ∷ placed 2 0 ∷ [])
+next-2 : Round Next (gives 2) (given 2) (λ i. true) (pair 1 Idle (addressed 1) gateUp rest)
+    (pair 1 (Waiting (nodeAt 2) (SetAddress (givenPlace 2))) (addressed 1) gateUp rest) (placed 1 0 ∷ up ∷ []) (placed 1 0 ∷ placed 2 0 ∷ [])
 unfolding nextOf nextCheck freeCheck isClosed isValid isWaiting isAskDue transmitOf openExchange codecBuild buildFor written total
-    frameOf frameAlone dataPart isIntact endsInSum codecRead sharedRows gateRows driveRows motionOf after turned doesAct doesReply replyOf replyItems
+    frameOf frameAlone dataPart isIntact endsInSum codecRead sharedRows gateRows driveRows motionOf after turned doesAct doesReply replyOf replyItems counts
 next-2 = record { typed = tt; sends = λ past. refl; nodes = refl; says = refl }
 
 -- the walk, each step of it replied to

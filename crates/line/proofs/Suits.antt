@@ -16,6 +16,7 @@ use Rattle.entry.specs.declared.Reach.the-variants.{Misses, Hits, May}
 use Rattle.ledger.specs.Ledger.{blankEntry, reachOf, mayReach}
 use Rattle.ledger.proofs.Ledgers.{had-says}
 use Rattle.session.specs.declared.Session.{Session}
+use Rattle.session.specs.Session.{givenPlace}
 use Rattle.line.specs.History.{Sending}
 use Rattle.line.proofs.Due.{Due, next, ask, order, regroup}
 use Rattle.line.proofs.Closing.{entryAt}
@@ -32,10 +33,10 @@ reached May b f e = refl
 
 pub suits : {h : Session} {what : Sending} {called to : Address} {c : Command} → Due h what called to c → (ns : List Node) → Invariant h ns
     → (i : ℕ) → i < h .n → acts called ns i ≡ true → Suits c (at ns i)
-suits {h} (next l k) ns inv i p e = (refl, placed-heeds (at ns i .kind) _ (omega arith))
+suits {h} (next l k) ns inv i p e = (refl, placed-heeds (at ns i .kind) (givenPlace (h .walk + 1)) (omega arith))
 suits (ask l k) ns inv i p e = (refl, refl)
 suits {h} {to = to} {c = c} (order w o f y) ns inv i p e =
     let r = reached (reachOf to (suc i) (entryAt h i)) (acts to ns i) (fits-ready h ns inv w to i p (acts to ns i) (λ a. a)) e in
     let g = had-says to c (h .n) (h .entries) blankEntry (inv .few) y i p (omega (arith, inv .few, inv .full)) r in
     (sym (ap (λ (k : Kind). has k c) (inv .kinds i p)) ∙ g, unplaced-heeds (at ns i .kind) c f)
-suits (regroup {i = n} w o f) ns inv i p e = (refl, placed-heeds (at ns i .kind) _ (o .low))
+suits (regroup {i = n} {g = g} {leader = leader} w o f) ns inv i p e = (refl, placed-heeds (at ns i .kind) (record { address = n; group = g; leader = leader }) (o .low))

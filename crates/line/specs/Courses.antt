@@ -1,5 +1,5 @@
 -- Courses that come about, so that nobody need fear an empty promise: replies are lost, an "ask" and a command sent again make up for them;
--- document 02, request 4: "a node missed a Synch Output that its leader confirmed; its tray stood shut".
+-- document 02, request 4: "a node missed a Synch Output that its leader confirmed; its tray stood shut"; request 6: a carousel.
 use Prim.Native.Nat.{ℕ}
 use mathlib.Core.Bool.{Bool, true, false}
 use mathlib.Core.List.{List, [], _∷_}
@@ -8,9 +8,10 @@ use Rattle.wire.specs.declared.address.Address.{Address}
 use Rattle.wire.specs.declared.address.Address.the-variants as address
 use Rattle.command.specs.declared.Place.{Place}
 use Rattle.command.specs.declared.Held.{Held}
-use Rattle.command.specs.declared.Command.the-variants.{SetAddress, SynchOutput, SetOutputs, SetSynchOutput}
+use Rattle.command.specs.declared.Motion.{Motion}
+use Rattle.command.specs.declared.Command.the-variants.{SetAddress, SynchOutput, SetOutputs, SetSynchOutput, LoadTrajectory, StartMotion}
 use Rattle.status.specs.declared.Answer.the-variants.{Clear, Silent}
-use Rattle.node.specs.Setting.{outputs, Setting, place, gate, Value, get}
+use Rattle.node.specs.Setting.{outputs, position, waiting, inForce, Setting, place, gate, drive, Value, get}
 use Rattle.node.specs.Effect.{settingsPowerUp}
 use Rattle.entry.specs.Entry.{knows, shows}
 use Rattle.session.specs.declared.Exchange.the-variants.{Idle}
@@ -79,9 +80,23 @@ handed = record { what = sends (nodeAt 2) SynchOutput; answer = Clear } ∷ pass
 abbrev pub leaderInDoubt : List Sent
 leaderInDoubt = record { what = sends group80 (SetOutputs 5); answer = Clear } ∷ record { what = sends (nodeAt 1) (SetAddress (inGroup 1 true)); answer = Silent } ∷ walked
 
+-- a carousel at node 2: a load of position 0x2800, whose reply is lost; then Start Motion, replied to; and the load again, with the start bit, replied to
+abbrev pub turn : ℕ → Motion
+turn control = record { position = 0x2800; velocity = 0; acceleration = 0; control = control; pwm = 0 }
+
+abbrev pub loadLost : List Sent
+loadLost = record { what = sends (nodeAt 2) (LoadTrajectory (turn 0x11)); answer = Silent } ∷ walked
+
+abbrev pub motionStarted : List Sent
+motionStarted = record { what = sends (nodeAt 2) StartMotion; answer = Clear } ∷ loadLost
+
+abbrev pub loadStarted : List Sent
+loadStarted = record { what = sends (nodeAt 2) (LoadTrajectory (turn 0x91)); answer = Clear } ∷ motionStarted
+
 -- Where a reply is lost, the node has done what it was told, and the host is in doubt and shows the last known value; afterwards it knows.
 -- Of a group's command the leader is known. A member is in doubt, whether it missed the command and holds the old outputs, or got it and holds the new ones;
--- a command to it alone makes it known. Where no leader is known, a reply makes nothing known
+-- a command to it alone makes it known. Where no leader is known, a reply makes nothing known.
+-- Of a carousel a load in doubt waits in doubt and, started, is in force in doubt, though Start Motion is confirmed; loaded and started at once, it is known
 pub record Courses : Type 0 where
   pub addressing : Course unasked (Stands 1 place false (settingsPowerUp .place) (givenPlace 1))
   pub addressed : Course asked (Stands 1 place true (givenPlace 1) (givenPlace 1))
@@ -91,3 +106,6 @@ pub record Courses : Type 0 where
   pub following : Course passed (λ w. Stands 1 (gate outputs) true 5 5 w × Stands 2 (gate outputs) false 0 5 w)
   pub alone : Course handed (Stands 2 (gate outputs) true 5 5)
   pub unknown : Course leaderInDoubt (Stands 1 (gate outputs) false 0 5)
+  pub loading : Course loadLost (Stands 2 (drive (waiting position)) false 0 0x2800)
+  pub starting : Course motionStarted (Stands 2 (drive (inForce position)) false 0 0x2800)
+  pub turning : Course loadStarted (λ w. Stands 2 (drive (waiting position)) true 0x2800 0x2800 w × Stands 2 (drive (inForce position)) true 0x2800 0x2800 w)

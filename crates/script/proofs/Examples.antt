@@ -4,7 +4,8 @@ use mathlib.Core.Path.{_≡_, refl}
 use Rattle.buffer.specs.Buffer.{written}
 use Rattle.buffer.specs.Sum.{total, endsInSum}
 use Rattle.packet.specs.Packet.{dataPart, frameOf, isIntact}
-use Rattle.command.specs.Command.{listedOf, commandRead}
+use Rattle.status.specs.Status.{counts}
+use Rattle.codec.specs.Reading.{sharedRows, gateRows, driveRows, motionOf, codecRead}
 use Rattle.text.specs.Digits.{valueOf, oneDigit, twoDigits, decimalOf, readDecimal}
 use Rattle.hex.specs.Digits.{digitOf, characterOf}
 use Rattle.hex.specs.Hex.{hexRest, pairBy, readPair}
@@ -19,9 +20,9 @@ use Rattle.script.specs.Bench.{startOf, playOf, runOf, runWith, rehearse
 use Rattle.script.specs.Example.{Rehearsal, paper, edges}
 
 pub example : rehearseOf (paper .input) ≡ paper .output
-unfolding written total endsInSum dataPart frameOf isIntact listedOf commandRead valueOf oneDigit twoDigits decimalOf readDecimal digitOf characterOf hexRest pairBy readPair replyItems replyOf doesAct doesReply turned isRanged after replierIn said valid deliveredTo frameAlone deliverOf tableDeliver numberEnd startOf playOf runOf runWith rehearseOf
+unfolding written total endsInSum dataPart frameOf isIntact counts sharedRows gateRows driveRows motionOf codecRead valueOf oneDigit twoDigits decimalOf readDecimal digitOf characterOf hexRest pairBy readPair replyItems replyOf doesAct doesReply turned isRanged after replierIn said valid deliveredTo frameAlone deliverOf tableDeliver numberEnd startOf playOf runOf runWith rehearseOf
 example = refl
 
 pub edge : map (λ (e : Rehearsal). rehearseOf (e .input)) edges ≡ map (λ (e : Rehearsal). e .output) edges
-unfolding written total endsInSum dataPart frameOf isIntact listedOf commandRead valueOf oneDigit twoDigits decimalOf readDecimal digitOf characterOf hexRest pairBy readPair replyItems replyOf doesAct doesReply turned isRanged after replierIn said valid deliveredTo frameAlone deliverOf tableDeliver numberEnd startOf playOf runOf runWith rehearseOf
+unfolding written total endsInSum dataPart frameOf isIntact counts sharedRows gateRows driveRows motionOf codecRead valueOf oneDigit twoDigits decimalOf readDecimal digitOf characterOf hexRest pairBy readPair replyItems replyOf doesAct doesReply turned isRanged after replierIn said valid deliveredTo frameAlone deliverOf tableDeliver numberEnd startOf playOf runOf runWith rehearseOf
 edge = refl

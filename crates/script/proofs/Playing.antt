@@ -5,6 +5,7 @@ use mathlib.Core.Path.{_≡_, refl, sym, ap, _∙_, subst}
 use native.Mathlib.Omega.{arith}
 use lib.ListN.{length, take, drop, replicate, drop-of-length-le}
 use Rattle.wire.specs.Promise.{Outcome, Lending}
+use Rattle.wire.specs.declared.kind.Kind.the-variants.{Gate}
 use Rattle.wire.proofs.Impossible.{impossible}
 use Rattle.buffer.specs.Change.{AllBytes}
 use Rattle.buffer.proofs.Bytes.{byte-at}
@@ -17,13 +18,14 @@ use Rattle.hex.proofs.Meaning.{read-written}
 use Rattle.status.specs.Status.{mostReply}
 use Rattle.node.specs.declared.state.Node.{Node}
 use Rattle.node.specs.Node.{powerUp}
+use Rattle.survey.specs.Chain.{zeros}
 use Rattle.table.specs.declared.Table.{Table}
 use Rattle.table.specs.declared.Delivered.{Delivered}
 use Rattle.table.specs.Table.{tableRoom, deliveredNumber, tableDeliver}
 use Rattle.script.specs.Answers.{answerLine}
 use Rattle.buffer.specs.Wrote.{Wrote}
 use Rattle.script.specs.Line.{WroteLine}
-use Rattle.script.specs.Bench.{zeros, startOf, Stepped, answerStep, refuseStep, onContent, playOf, runOf}
+use Rattle.script.specs.Bench.{startOf, Stepped, answerStep, refuseStep, onContent, playOf, runOf}
 use Rattle.script.specs.Line.{Played}
 use Rattle.script.specs.declared.rehearsal.Step.{Step}
 use Rattle.script.proofs.Deliveries.{deliver-kept}
@@ -31,7 +33,7 @@ use Rattle.buffer.proofs.Appends.{Going, going-on, going-done}
 
 -- ---- the start
 
-pub start-done : (n : Node) (k : ℕ) → n ≡ powerUp zeros → record { nodes = replicate tableRoom n; count = k } ≡ startOf k
+pub start-done : (n : Node) (k : ℕ) → n ≡ powerUp Gate zeros → record { nodes = replicate tableRoom n; count = k } ≡ startOf k
 unfolding startOf
 start-done n k e = rw e
 

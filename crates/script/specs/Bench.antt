@@ -6,10 +6,11 @@ use lib.Dec.{ltb}
 use lib.ListN.{length, replicate}
 use Rattle.wire.specs.Promise.{Outcome}
 use Rattle.wire.specs.Numbers.{mostNodes}
+use Rattle.wire.specs.declared.kind.Kind.the-variants.{Gate}
 use Rattle.wire.specs.declared.refusal.Refusal.the-variants.{Range}
 use Rattle.status.specs.Status.{mostReply}
-use Rattle.node.specs.declared.state.Bench.{Bench}
 use Rattle.node.specs.Node.{powerUp}
+use Rattle.survey.specs.Chain.{zeros}
 use Rattle.table.specs.declared.Table.{Table}
 use Rattle.table.specs.declared.Delivered.{Delivered}
 use Rattle.table.specs.Table.{tableRoom, tableDeliver}
@@ -20,13 +21,9 @@ use Rattle.text.specs.Digits.{readDecimal}
 use Rattle.hex.specs.Hex.{Content, bytes, malformed, bytesIn}
 use Rattle.script.specs.Answers.{answerLine, refusedLine}
 
--- "bench values 0"
-abbrev pub zeros : Bench
-zeros = record { inputs = 0; counter = 0; analog0 = 0; analog1 = 0; analog2 = 0; id = 0; version = 0 }
-
--- "All nodes start in power-up state"
+-- "All nodes start in power-up state, bench values 0"; each is a gate, an LS-773
 unfoldable pub startOf : ℕ → Table
-startOf k = record { nodes = replicate tableRoom (powerUp zeros); count = k }
+startOf k = record { nodes = replicate tableRoom (powerUp Gate zeros); count = k }
 
 -- ---- a line
 

@@ -7,6 +7,7 @@ use node::Bench;
 use node::Node;
 use table::Table;
 use text::Decimal;
+use wire::Kind;
 use wire::MOST_NODES;
 use wire::Refusal;
 ghost use mathlib.Core.Path.{_≡_};
@@ -35,20 +36,25 @@ pub(crate) struct Step {
     pub at: usize,
 }
 
-// The chain at the start: all nodes in power-up state, bench values 0.
+// The chain at the start: gates in power-up state, bench values 0.
 fn start(count: usize) -> Table
     ensures { λ r. ⌜ r ≡ startOf count ⌝ }
 {
     let bench = Bench {
-        inputs: 0,
         counter: 0,
+        home: 0,
+        inputs: 0,
+        velocity: 0,
+        error: 0,
         analog0: 0,
         analog1: 0,
         analog2: 0,
+        ad: 0,
+        auxiliary: 0,
         id: 0,
         version: 0,
     };
-    let fresh = Node::power_up(bench);
+    let fresh = Node::power_up(Kind::Gate, bench);
     Table {
         nodes: [fresh; table::ROOM],
         count,

@@ -1,5 +1,6 @@
 -- The exits of the functions that decide a delivery, as the code comes to them.
 use Prim.Native.Nat.{ℕ}
+use mathlib.Core.Bool.{Bool, true, false, not}
 use mathlib.Core.List.{List}
 use mathlib.Core.Path.{_≡_, sym, ap, _∙_}
 use Rattle.wire.specs.Promise.{Outcome, Lending}
@@ -7,8 +8,12 @@ use Rattle.buffer.specs.Buffer.{written, builtNumber}
 use Rattle.wire.specs.declared.refusal.Refusal.{Refusal}
 use Rattle.buffer.specs.declared.Built.{Built}
 use Rattle.buffer.specs.declared.Built.the-variants as built
+use Rattle.command.specs.declared.Command.{Command}
+use Rattle.command.specs.declared.Role.{Role}
+use Rattle.command.specs.Role.{roleOf}
 use Rattle.node.specs.declared.state.Node.{Node}
 use Rattle.message.specs.declared.Message.{Message}
+use Rattle.message.specs.declared.Message.the-variants.{Intact}
 use Rattle.message.specs.declared.Messages.{Messages}
 use Rattle.message.specs.Message.{messageTo}
 use Rattle.reply.specs.Reply.{replyOf}
@@ -18,8 +23,30 @@ use Rattle.survey.specs.declared.plan.Plan.{Plan}
 use Rattle.survey.specs.declared.plan.Plan.the-variants.{Refuse}
 use Rattle.survey.specs.declared.plan.Survey.{Survey}
 use Rattle.survey.specs.declared.decision.Decided.{Decided}
+use Rattle.survey.specs.declared.decision.Delivery.{Delivery}
 use Rattle.survey.specs.declared.decision.Delivery.the-variants.{Silent, Replied, Collision}
-use Rattle.survey.specs.Decision.{decideRefusal, decideAnswer, decideOne, decideBy, decidePlan, decideOf}
+use Rattle.survey.specs.Decision.{isIdle, doesTouch, touchedOf, decideRefusal, decideAnswer, decideOne, decideBy, decidePlan, decideOf}
+
+-- who is gone through
+pub told-touch : (h : Message) (c : Command) (role : Role) (b : Bool) → h ≡ Intact c → role ≡ roleOf c → b ≡ isIdle role → not b ≡ doesTouch h
+told-touch h c role b e f g = rw (e, ← f, g)
+
+module _ (h : Messages) (acting : ℕ) (gate : Bool) (e : gate ≡ doesTouch (h .gate)) where
+  pub touched-gate : gate ≡ true → acting ≡ touchedOf h acting
+  unfolding touchedOf
+  touched-gate y = rw (sym e ∙ y)
+
+  module _ (off : gate ≡ false) (drive : Bool) (f : drive ≡ doesTouch (h .drive)) where
+    pub touched-drive : drive ≡ true → acting ≡ touchedOf h acting
+    unfolding touchedOf
+    touched-drive y = rw (sym e ∙ off, sym f ∙ y)
+
+    pub touched-none : drive ≡ false → 0 ≡ touchedOf h acting
+    unfolding touchedOf
+    touched-none n = rw (sym e ∙ off, sym f ∙ n)
+
+pub told-answer : (answer : Delivery) (acting r : ℕ) (h : Messages) → r ≡ touchedOf h acting → record { answer = answer; acting = r; messages = h } ≡ decideAnswer answer acting h
+told-answer answer acting r h e = rw e
 
 -- one node replies, to what the packet says to its kind
 module _ (n : Node) (acting : ℕ) (h : Messages) (own : Message) (said : own ≡ messageTo (n .kind) h) (out left : List ℕ) (b : Built) (p : Lending builtNumber b left (written (replyOf own n) out)) where

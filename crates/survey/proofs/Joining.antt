@@ -34,10 +34,11 @@ use Rattle.survey.specs.declared.decision.Delivery.{Delivery}
 use Rattle.survey.specs.One.{doesAct, doesReply, toBoth, messagesAs}
 use Rattle.survey.specs.Chain.{after, searchOf, replierIn, Said, silence, said, replyFor, saidBy, blankNode, allRanged}
 use Rattle.survey.specs.Survey.{receiveBy, receiveOf, chainStart, glancesOf, replierTo, planBy, planOf, speakerIn, speakerOf, nobody, surveyAll}
-use Rattle.survey.specs.Decision.{decideBuilt, decideOne, decideBy, decidePlan, decideOf, actAll}
+use Rattle.survey.specs.Decision.{touchedOf, decideBuilt, decideOne, decideBy, decidePlan, decideOf, actAll}
 use Rattle.survey.specs.Delivery.{Lent, valid, onBuilt, onSaid, deliveredTo, frameAlone, onFrame, deliverOf, refusedDelivery, deliveryNumber}
 use Rattle.survey.proofs.Flags.{flagsFrom, setOf, seen-acting, seen-replying, seen-ranged, repliers-are, actors-turn}
 use Rattle.survey.proofs.Visiting.{visit-none}
+use Rattle.survey.proofs.Touching.{touched-all}
 use Rattle.survey.proofs.Meaning.{none-one, replier-below}
 
 -- what a decision comes to, on the nodes ns
@@ -54,7 +55,7 @@ getD-any (x ∷ l) (suc i) d e p = getD-any l i d e (le-of-suc-le-suc p)
 refused-all : (why : Refusal) (n : Node) (ns : List Node) (out : List ℕ) → came (decidePlan (Refuse why) n out) ns ≡ refusedDelivery why ns out
 refused-all why n ns out = rw (visit-none (toBoth Other) ns)
 
-module _ (to : Address) (h : Messages) (ns : List Node) (out : List ℕ) (acting : ℕ) (acted : actAll h acting ns ≡ after to h ns) where
+module _ (to : Address) (h : Messages) (ns : List Node) (out : List ℕ) (acting : ℕ) (acted : actAll h (touchedOf h acting) ns ≡ after to h ns) where
   by-built : (b : Built) (left : List ℕ) → came (record { answer = decideBuilt b acting h; left = left }) ns ≡ onBuilt b to h ns left
   by-built (built.Bytes n) left = rw acted
   by-built (built.Refused why) left = rw (visit-none (toBoth Other) ns)
@@ -88,9 +89,9 @@ said-is : (to : Address) (h : Messages) (ns : List Node) (out : List ℕ) → on
 unfolding said deliveredTo
 said-is to h ns out = ap (λ (x : Said). onSaid x to h ns out) (sym (answered h ns (isAnswered (h .gate)) (replierIn to ns)))
 
-actors-after : (to : Address) (h : Messages) (ns : List Node) → actAll h (setOf (flagsFrom (doesAct to) true ns)) ns ≡ after to h ns
+actors-after : (to : Address) (h : Messages) (ns : List Node) → actAll h (touchedOf h (setOf (flagsFrom (doesAct to) true ns))) ns ≡ after to h ns
 unfolding after
-actors-after to h ns = actors-turn to h true ns
+actors-after to h ns = touched-all h (setOf (flagsFrom (doesAct to) true ns)) ns ∙ actors-turn to h true ns
 
 -- a packet that was read, to a valid table
 read-plan : (to : Address) (h : Messages) (ns : List Node) (out : List ℕ) → length ns ≤ mostNodes

@@ -2,6 +2,7 @@ mod Ones
 pub mod Members
 mod Searching
 pub mod Visiting
+pub mod Touching
 mod Deciding
 pub mod Repliers
 pub mod Meaning

@@ -1,6 +1,6 @@
 -- Serves inner calls: how a delivery is done, which comes to what Delivery says. How it is decided by its plan, and how those that act are gone through.
 use Prim.Native.Nat.{ℕ, _/_, _%_}
-use mathlib.Core.Bool.{cond}
+use mathlib.Core.Bool.{Bool, true, false, cond, not}
 use mathlib.Core.List.{List, [], _∷_}
 use lib.Dec.{eqb, ltb}
 use Rattle.wire.specs.Promise.{Outcome}
@@ -9,7 +9,11 @@ use Rattle.wire.specs.declared.refusal.Refusal.{Refusal}
 use Rattle.buffer.specs.declared.Built.{Built}
 use Rattle.buffer.specs.declared.Built.the-variants as built
 use Rattle.node.specs.declared.state.Node.{Node}
-use Rattle.message.specs.declared.Message.the-variants.{Other}
+use Rattle.command.specs.declared.Role.{Role}
+use Rattle.command.specs.declared.Role.the-variants.{Plain, Places, Masks, Captures, Zeroes, Idles, Resets}
+use Rattle.command.specs.Role.{roleOf}
+use Rattle.message.specs.declared.Message.{Message}
+use Rattle.message.specs.declared.Message.the-variants.{Intact, Other, Spoilt}
 use Rattle.message.specs.declared.Messages.{Messages}
 use Rattle.survey.specs.declared.sets.Replier.{Replier}
 use Rattle.survey.specs.declared.sets.Replier.the-variants.{None, One, Several}
@@ -23,13 +27,33 @@ use Rattle.survey.specs.One.{toBoth, takeFor}
 use Rattle.survey.specs.Chain.{replyFor}
 use Rattle.survey.specs.Sets.{setWidth}
 
+-- "Nop, Read Status": they change nothing in a node
+abbrev pub isIdle : Role → Bool
+isIdle Plain = false
+isIdle (Places p) = false
+isIdle (Masks m) = true
+isIdle Captures = false
+isIdle Zeroes = false
+isIdle Idles = true
+isIdle Resets = false
+
+-- nor do another command and a wrong sum
+abbrev pub doesTouch : Message → Bool
+doesTouch (Intact c) = not (isIdle (roleOf c))
+doesTouch Other = false
+doesTouch Spoilt = false
+
+-- of those that act, those to go through: none, where neither kind's can change
+unfoldable pub touchedOf : Messages → ℕ → ℕ
+touchedOf h s = cond (doesTouch (h .gate)) s (cond (doesTouch (h .drive)) s 0)
+
 -- a refusal: nobody acts
 abbrev pub decideRefusal : Refusal → Decided
 decideRefusal why = record { answer = Refused why; acting = 0; messages = toBoth Other }
 
 -- no refusal: those that are to act do
 abbrev pub decideAnswer : Delivery → ℕ → Messages → Decided
-decideAnswer answer acting h = record { answer = answer; acting = acting; messages = h }
+decideAnswer answer acting h = record { answer = answer; acting = touchedOf h acting; messages = h }
 
 abbrev pub decideBuilt : Built → ℕ → Messages → Decided
 decideBuilt (built.Bytes n) acting h = decideAnswer (Replied n) acting h

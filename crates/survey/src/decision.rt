@@ -3,13 +3,14 @@ use crate::plan::Plan;
 use crate::plan::Survey;
 use crate::sets::Replier;
 use buffer::Built;
+use command::Role;
 use message::Message;
 use message::Messages;
 use node::Node;
 use wire::Refusal;
 ghost use mathlib.Core.Path.{_≡_};
 ghost use Rattle.survey.specs.Delivery.{deliveryNumber};
-ghost use Rattle.survey.specs.Decision.{decideRefusal, decideAnswer, decideOne, decideBy, decideOf};
+ghost use Rattle.survey.specs.Decision.{isIdle, doesTouch, touchedOf, decideRefusal, decideAnswer, decideOne, decideBy, decideOf};
 
 // What a packet to the chain comes to: nobody replied; one node did, with so many bytes; several did at once; or the refusal.
 pub enum Delivery {
@@ -33,11 +34,52 @@ impl Delivery {
     }
 }
 
-// The answer, who acts, and on what.
+// The answer, who is to be gone through, and what the packet says to either kind.
 pub struct Decided {
     pub answer: Delivery,
     pub acting: u32,
     pub messages: Messages,
+}
+
+// Whether a command changes nothing in any node.
+fn is_idle(role: Role) -> bool
+    ensures { λ r. ⌜ r ≡ isIdle role ⌝ }
+{
+    match role {
+        Role::Masks(_) => true,
+        Role::Idles => true,
+        Role::Plain => false,
+        Role::Places(_) => false,
+        Role::Captures => false,
+        Role::Zeroes => false,
+        Role::Resets => false,
+    }
+}
+
+// Whether a packet may change a node of the kind that it says this to.
+fn does_touch(message: Message) -> bool
+    ensures { λ r. ⌜ r ≡ doesTouch message ⌝ }
+{
+    match message {
+        Message::Intact(c) => !is_idle(c.role()),
+        Message::Other => false,
+        Message::Spoilt => false,
+    }
+}
+
+// Of those that act, those that are to be gone through: none, where the packet changes no node.
+fn touched(messages: Messages, acting: u32) -> u32
+    ensures { λ r. ⌜ r ≡ touchedOf messages acting ⌝ }
+{
+    let gate = messages.gate;
+    if does_touch(gate) {
+        return acting;
+    }
+    let drive = messages.drive;
+    if does_touch(drive) {
+        return acting;
+    }
+    0
 }
 
 // A refusal: nobody acts.
@@ -60,7 +102,7 @@ fn decide_answer(answer: Delivery, acting: u32, messages: Messages) -> Decided
 {
     Decided {
         answer,
-        acting,
+        acting: touched(messages, acting),
         messages,
     }
 }

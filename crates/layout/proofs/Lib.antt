@@ -1,4 +1,3 @@
 mod Fields
-mod Turns
 mod Answers
 pub mod Unique

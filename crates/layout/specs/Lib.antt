@@ -1,4 +1,2 @@
-pub mod Record
 pub mod Settings
 pub mod Nodes
-pub mod Entries

@@ -21,9 +21,9 @@ use Rattle.command.specs.declared.Reading.the-variants as reading
 use Rattle.command.specs.declared.Role.{Role}
 use Rattle.command.specs.declared.Role.the-variants.{Plain, Places, Masks, Captures, Idles, Resets}
 use Rattle.command.specs.Role.{roleOf, isPlacing}
-use Rattle.command.specs.Command.{commandRead}
-use Rattle.command.specs.Build.{typedBy, Typed, packetFor}
-use Rattle.command.proofs.Commands.{built-few, built-reads, reads-in-range}
+use Rattle.codec.specs.Reading.{codecRead}
+use Rattle.codec.specs.Build.{Typed, packetFor}
+use Rattle.codec.proofs.Commands.{built-few, built-reads, reads-in-range}
 use Rattle.session.specs.declared.Session.{Session}
 use Rattle.session.specs.declared.Step.{Step}
 use Rattle.session.specs.declared.End.{End}
@@ -207,7 +207,7 @@ late-typed to c Captures t = tt
 late-typed to c Idles t = tt
 late-typed to c Resets t = tt
 
-by-reading : (r : Reading) (p : List ℕ) (a to : Address) (c : Command) (k n : ℕ) → readOf p ≡ framed.Whole a k n → commandRead k (dataPart p) ≡ r
+by-reading : (r : Reading) (p : List ℕ) (a to : Address) (c : Command) (k n : ℕ) → readOf p ≡ framed.Whole a k n → codecRead k (dataPart p) ≡ r
     → spokenTo a r ≡ spoken.Command to c → Typed c
 by-reading (reading.Known d) p a to c k n e f h =
     let i : d ≡ c = spoken-command h in
@@ -216,7 +216,7 @@ by-reading reading.Other p a to c k n e f h = impossible cc
 
 by-framed : (f : Framed) (p : List ℕ) (to : Address) (c : Command) → readOf p ≡ f → spokenAs p f ≡ spoken.Command to c → Typed c
 by-framed (framed.Whole a k n) p to c e h =
-    by-reading (commandRead k (dataPart p)) p a to c k n e refl (chose-second (ltb n (length p)) h (λ i. impossible cc) .1)
+    by-reading (codecRead k (dataPart p)) p a to c k n e refl (chose-second (ltb n (length p)) h (λ i. impossible cc) .1)
 by-framed (framed.Refused why) p to c e h = impossible cc
 
 spoken-typed : (p : List ℕ) (to : Address) (c : Command) → understandOf p ≡ spoken.Command to c → Typed c

@@ -21,7 +21,7 @@ use Rattle.command.specs.declared.Reading.the-variants as reading
 use Rattle.command.specs.declared.Role.{Role}
 use Rattle.command.specs.declared.Role.the-variants.{Plain, Places, Masks, Captures, Idles, Resets}
 use Rattle.command.specs.Role.{roleOf}
-use Rattle.command.specs.Command.{commandRead}
+use Rattle.codec.specs.Reading.{codecRead}
 use Rattle.session.specs.declared.Session.{Session}
 use Rattle.session.specs.declared.Step.{Step}
 use Rattle.session.specs.declared.End.the-variants as end
@@ -68,7 +68,7 @@ module _ (p : List ℕ) (f : Framed) (by : Promise framedNumber f (readOf p)) wh
   understood-long to k end e h = promised (rw (← (by .answer), e, lt-ltb _ _ h))
 
   pub understood : (to : Address) (k end : ℕ) (d : List ℕ) (r : Reading) (x : Spoken) → f ≡ framed.Whole to k end → length p ≤ end → d ≡ dataPart p
-      → r ≡ commandRead k d → x ≡ spokenTo to r → Promise spokenNumber x (understandOf p)
+      → r ≡ codecRead k d → x ≡ spokenTo to r → Promise spokenNumber x (understandOf p)
   unfolding understandOf
   understood to k end d r x e h i j l = promised (rw (← (by .answer), e, le-ltb _ _ h, ← i, ← j) l)
 

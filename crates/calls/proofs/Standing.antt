@@ -13,7 +13,8 @@ use Rattle.wire.specs.declared.address.Address.the-variants as address
 use Rattle.command.specs.declared.Command.{Command}
 use Rattle.command.specs.declared.Command.the-variants.{SetAddress, Nop}
 use Rattle.command.specs.Role.{roleOf, isReset}
-use Rattle.command.specs.Build.{fitsOf, Typed}
+use Rattle.command.specs.Ranges.{fitsOf}
+use Rattle.codec.specs.Build.{Typed}
 use Rattle.command.proofs.Roles.{ordinary-fits}
 use Rattle.node.specs.Effect.{addressUp}
 use Rattle.session.specs.declared.Session.{Session}

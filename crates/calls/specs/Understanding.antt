@@ -12,7 +12,7 @@ use Rattle.packet.specs.declared.Framed.{Framed}
 use Rattle.packet.specs.declared.Framed.the-variants as framed
 use Rattle.command.specs.declared.Reading.{Reading}
 use Rattle.command.specs.declared.Reading.the-variants as reading
-use Rattle.command.specs.Command.{commandRead}
+use Rattle.codec.specs.Reading.{codecRead}
 use Rattle.calls.specs.declared.Spoken.{Spoken}
 use Rattle.calls.specs.declared.Spoken.the-variants.{Command, Other, Refused}
 
@@ -23,7 +23,7 @@ spokenTo to reading.Other = Other
 
 -- a packet that reads is all of the bytes, or some are left over, 3
 abbrev pub spokenAs : List ℕ → Framed → Spoken
-spokenAs p (framed.Whole to k end) = cond (ltb end (length p)) (Refused Long) (spokenTo to (commandRead k (dataPart p)))
+spokenAs p (framed.Whole to k end) = cond (ltb end (length p)) (Refused Long) (spokenTo to (codecRead k (dataPart p)))
 spokenAs p (framed.Refused why) = Refused why
 
 -- what bytes between two gaps say, all of them

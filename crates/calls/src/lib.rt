@@ -107,7 +107,7 @@ pub fn understand(bytes: &[u8]) -> Spoken
             if end < bytes.len() {
                 return Spoken::Refused(Refusal::Long);
             }
-            spoken_to(address, command::read(command, packet::data_part(bytes)))
+            spoken_to(address, codec::read(command, packet::data_part(bytes)))
         }
         Framed::Refused(why) => Spoken::Refused(why),
     }

@@ -9,7 +9,7 @@ use Rattle.node.specs.Effect.{Effect, keeps, stores, copies, effect, applied, s
 use Rattle.entry.specs.declared.Known.{Known}
 use Rattle.entry.specs.declared.Entry.{Entry}
 use Rattle.entry.specs.Entry.{flag, shows, newFlag, newValue, markOf, confirmOf}
-use Rattle.entry.specs.Blending.{blendOf}
+use Rattle.entry.specs.Parts.{blendOf}
 
 picked : {s : Setting} (f : Effect s) (e : Entry) → cond (newFlag true f (e .known)) (applied f (e .settings)) (shows e s) ≡ newValue f e
 picked {s} keeps e = same (flag (e .known) s) (shows e s)
@@ -28,5 +28,5 @@ module _ (c : Command) (e : Entry) where
 
   -- as the code gives it
   pub blended : (known : Known) (new s : Settings) → known ≡ markOf c true (e .known) → new ≡ settingsAfter c (e .settings)
-      → s ≡ blendOf known new (e .settings) → record { settings = s; known = known } ≡ confirmOf c e
-  blended known new s p q h = rw (h, q, p) (ap (λ (x : Settings). record { settings = x; known = markOf c true (e .known) }) all-picked)
+      → s ≡ blendOf known new (e .settings) → record { settings = s; known = known; kind = e .kind } ≡ confirmOf c e
+  blended known new s p q h = rw (h, q, p) (ap (λ (x : Settings). record { settings = x; known = markOf c true (e .known); kind = e .kind }) all-picked)

@@ -1,3 +1,5 @@
+mod Marking
+mod Blending
 mod Confirming
 pub mod Entries
 pub mod Unique

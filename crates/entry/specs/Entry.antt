@@ -1,38 +1,58 @@
 -- Document 01, "The host session": what the host's record of one node makes of a command and its answer, read off the table of effects, setting by setting.
 use mathlib.Core.Bool.{Bool, true, false, cond, _&&_}
 use mathlib.Core.Path.{_≡_}
+use Rattle.wire.specs.declared.kind.Kind.{Kind}
 use Rattle.command.specs.declared.Command.{Command}
 use Rattle.status.specs.declared.Answer.{Answer}
 use Rattle.status.specs.declared.Answer.the-variants.{Clear, Marked, Silent}
-use Rattle.node.specs.Setting.{GateSetting, outputs, pwm, held, timer, Setting, place, mask, gate, Value, get, make}
+use Rattle.node.specs.Setting.{GateSetting, outputs, pwm, held, timer, MotionPart, control, position, velocity, acceleration, power, DriveSetting, gains, stop, waiting, inForce, Setting, place, mask, gate, drive, Value, get, make}
 use Rattle.node.specs.Effect.{Effect, keeps, stores, copies, effect, writes, settingsPowerUp}
+use Rattle.entry.specs.declared.gate.GateKnown.{GateKnown}
+use Rattle.entry.specs.declared.drive.MotionKnown.{MotionKnown}
+use Rattle.entry.specs.declared.drive.DriveKnown.{DriveKnown}
 use Rattle.entry.specs.declared.Known.{Known}
 use Rattle.entry.specs.declared.Entry.{Entry}
 use Rattle.entry.specs.declared.Reach.{Reach}
 use Rattle.entry.specs.declared.Reach.the-variants.{Misses, Hits, May}
 
--- one of the six flags
-abbrev pub gateFlag : Known → GateSetting → Bool
+-- one flag, in the groups that settings have
+abbrev pub gateFlag : GateKnown → GateSetting → Bool
 gateFlag k outputs = k .outputs
 gateFlag k pwm = k .pwm
 gateFlag k held = k .held
 gateFlag k timer = k .timer
 
+abbrev pub motionFlag : MotionKnown → MotionPart → Bool
+motionFlag k control = k .control
+motionFlag k position = k .position
+motionFlag k velocity = k .velocity
+motionFlag k acceleration = k .acceleration
+motionFlag k power = k .pwm
+
+abbrev pub driveFlag : DriveKnown → DriveSetting → Bool
+driveFlag k gains = k .gains
+driveFlag k stop = k .stop
+driveFlag k (waiting m) = motionFlag (k .waiting) m
+driveFlag k (inForce m) = motionFlag (k .in_force) m
+
 abbrev pub flag : Known → Setting → Bool
 flag k place = k .place
 flag k mask = k .mask
-flag k (gate g) = gateFlag k g
+flag k (gate g) = gateFlag (k .gate) g
+flag k (drive d) = driveFlag (k .drive) d
 
--- all six, setting by setting
+-- all of them, setting by setting
+abbrev pub gateFlags : (GateSetting → Bool) → GateKnown
+gateFlags f = record { outputs = f outputs; pwm = f pwm; held = f held; timer = f timer }
+
+abbrev pub motionFlags : (MotionPart → Bool) → MotionKnown
+motionFlags f = record { control = f control; position = f position; velocity = f velocity; acceleration = f acceleration; pwm = f power }
+
+abbrev pub driveFlags : (DriveSetting → Bool) → DriveKnown
+driveFlags f = record { gains = f gains; stop = f stop; waiting = motionFlags (λ m. f (waiting m)); in_force = motionFlags (λ m. f (inForce m)) }
+
 abbrev pub flags : (Setting → Bool) → Known
-flags f = record {
-  place = f place;
-  mask = f mask;
-  outputs = f (gate outputs);
-  pwm = f (gate pwm);
-  held = f (gate held);
-  timer = f (gate timer);
-}
+flags f = record { place = f place; mask = f mask; gate = gateFlags (λ g. f (gate g)); drive = driveFlags (λ d. f (drive d)) }
 
 -- what the host calls known, and the value that it shows
 abbrev pub knows : Entry → Setting → Bool
@@ -41,12 +61,12 @@ knows e s = flag (e .known) s
 abbrev pub shows : Entry → (s : Setting) → Value s
 shows e s = get (e .settings) s
 
--- "makes all settings known as power-up has them"
-abbrev pub entryPowerUp : Entry
-entryPowerUp = record { settings = settingsPowerUp; known = flags (λ s. true) }
+-- "makes all settings known as power-up has them"; document 02, request 6: "Each node gets a kind, told to the host at power-up"
+abbrev pub entryPowerUp : Kind → Entry
+entryPowerUp k = record { settings = settingsPowerUp; known = flags (λ s. true); kind = k }
 
 -- the flag of a setting after a command, confirmed or not: "A confirmed command makes what it writes known and new, .. except copies of a held set
--- in doubt: those go into doubt. Unconfirmed: all that it may write goes into doubt"
+-- in doubt: those go into doubt. Unconfirmed: all that it may write goes into doubt"; "Start Motion copies the waiting ones as Synch Output does"
 abbrev pub newFlag : {s : Setting} → Bool → Effect s → Known → Bool
 newFlag {s} sure keeps k = flag k s
 newFlag sure (stores v) k = sure
@@ -62,11 +82,11 @@ newValue (stores v) e = v
 newValue {s} (copies t f) e = cond (knows e t) (f (shows e t)) (shows e s)
 
 abbrev pub confirmOf : Command → Entry → Entry
-confirmOf c e = record { settings = make (λ s. newValue (effect c s) e); known = markOf c true (e .known) }
+confirmOf c e = record { settings = make (λ s. newValue (effect c s) e); known = markOf c true (e .known); kind = e .kind }
 
 -- unconfirmed: no value changes
 abbrev pub doubtOf : Command → Entry → Entry
-doubtOf c e = record { settings = e .settings; known = markOf c false (e .known) }
+doubtOf c e = record { settings = e .settings; known = markOf c false (e .known); kind = e .kind }
 
 -- "Good and clear confirms the command. Good and not clear: the record stays as before. All else counts as silence: unconfirmed";
 -- document 02, request 4: of a group command it "confirms only the leader, if known; every other node that may be written goes into doubt"

@@ -1,31 +1,35 @@
-// One node's entry in the host's record: its settings as last known, which of them are known, and what an answer makes of it.
-// Promised: only what the command writes changes, by the node's own table of effects; doubt changes no value.
+// One node's entry in the host's record: its kind, its settings as last known, which of them are known, and what an answer makes of it.
+// Promised: only what the command writes changes, by the node's own table of effects; doubt changes no value; the kind stays.
 // Left to others: which nodes a command goes to (ledger), and how a reply is judged (status).
+mod drive;
+mod gate;
+mod pick;
+
 use command::Command;
-use command::Held;
-use command::Place;
-use command::Pwm;
+use command::Role;
+pub use drive::DriveKnown;
+pub use drive::MotionKnown;
+pub use gate::GateKnown;
 use node::Settings;
 use status::Answer;
+use wire::Kind;
 ghost use mathlib.Core.Path.{_≡_};
-ghost use mathlib.Core.Bool.{cond, _&&_};
 ghost use Rattle.entry.specs.Entry.{entryPowerUp, markOf, confirmOf, doubtOf, noteOf};
-ghost use Rattle.entry.specs.Blending.{blendOf};
+ghost use Rattle.entry.specs.Parts.{markPlace, markMask, blendOf};
 
-// Which of the six settings are known; the others are in doubt.
+// Which of the settings are known, in the parts that settings have; the others are in doubt.
 pub struct Known {
     pub place: bool,
     pub mask: bool,
-    pub outputs: bool,
-    pub pwm: bool,
-    pub held: bool,
-    pub timer: bool,
+    pub gate: GateKnown,
+    pub drive: DriveKnown,
 }
 
-// A setting in doubt shows its last known value.
+// A setting in doubt shows its last known value. The settings of the other kind are of no use, and are not shown.
 pub struct Entry {
     pub settings: Settings,
     pub known: Known,
+    pub kind: Kind,
 }
 
 // What a command is to the node. Misses: it doesn't go there. Hits: it goes there, and a reply to it is this node's own.
@@ -36,126 +40,87 @@ pub enum Reach {
     May,
 }
 
-// Whether both hold. A function, since `&&` would part the arm of `mark` that needs it in two.
-fn both(a: bool, b: bool) -> bool
-    ensures { λ r. ⌜ r ≡ (a && b) ⌝ }
+// The flag of the place after a command: known if it is written and the command is sure, that is confirmed.
+fn mark_place(known: bool, role: Role, sure: bool) -> bool
+    ensures { λ r. ⌜ r ≡ markPlace role sure known ⌝ }
 {
-    if a {
-        return b;
+    match role {
+        Role::Places(_) => sure,
+        Role::Resets => sure,
+        Role::Plain => known,
+        Role::Masks(_) => known,
+        Role::Captures => known,
+        Role::Zeroes => known,
+        Role::Idles => known,
     }
-    false
 }
 
-// The flags after a command: what it stores is known if the command is sure, that is confirmed; what it copies, if the original is known too.
+// The flag of the mask.
+fn mark_mask(known: bool, c: Command, sure: bool) -> bool
+    ensures { λ r. ⌜ r ≡ markMask c sure known ⌝ }
+{
+    match c {
+        Command::DefineStatus(_) => sure,
+        Command::HardReset => sure,
+        Command::SetAddress(_) => known,
+        Command::ReadStatus(_) => known,
+        Command::SetPwm(_) => known,
+        Command::SynchOutput => known,
+        Command::SetOutputs(_) => known,
+        Command::SetSynchOutput(_) => known,
+        Command::SetTimerMode(_) => known,
+        Command::SynchInput => known,
+        Command::Nop => known,
+        Command::ResetPosition => known,
+        Command::LoadTrajectory(_) => known,
+        Command::StartMotion => known,
+        Command::SetGain(_) => known,
+        Command::StopMotor(_) => known,
+    }
+}
+
+// The flags after a command: what it stores is known if the command is sure; what it copies, if the original is known too.
 fn mark(known: Known, c: Command, sure: bool) -> Known
     ensures { λ r. ⌜ r ≡ markOf c sure known ⌝ }
 {
-    let mut k = known;
-    match c {
-        Command::SetAddress(_) => {
-            k.place = sure;
-            k
-        }
-        Command::DefineStatus(_) => {
-            k.mask = sure;
-            k
-        }
-        Command::SetPwm(_) => {
-            k.pwm = sure;
-            k
-        }
-        Command::SynchOutput => {
-            let copied = both(sure, known.held);
-            k.outputs = copied;
-            k.pwm = copied;
-            k
-        }
-        Command::SetOutputs(_) => {
-            k.outputs = sure;
-            k
-        }
-        Command::SetSynchOutput(_) => {
-            k.held = sure;
-            k
-        }
-        Command::SetTimerMode(_) => {
-            k.timer = sure;
-            k
-        }
-        Command::HardReset => Known {
-            place: sure,
-            mask: sure,
-            outputs: sure,
-            pwm: sure,
-            held: sure,
-            timer: sure,
-        },
-        Command::ReadStatus(_) => k,
-        Command::SynchInput => k,
-        Command::Nop => k,
+    let gate = known.gate;
+    let drive = known.drive;
+    Known {
+        place: mark_place(known.place, c.role(), sure),
+        mask: mark_mask(known.mask, c, sure),
+        gate: gate.mark(c, sure),
+        drive: drive.mark(c, sure),
     }
-}
-
-// One of two values, by a flag: a function for each type that a setting has, since the language has no generics.
-fn pick_place(flag: bool, new: Place, old: Place) -> Place
-    ensures { λ r. ⌜ r ≡ cond flag new old ⌝ }
-{
-    if flag { new } else { old }
-}
-
-fn pick_pwm(flag: bool, new: Pwm, old: Pwm) -> Pwm
-    ensures { λ r. ⌜ r ≡ cond flag new old ⌝ }
-{
-    if flag { new } else { old }
-}
-
-fn pick_held(flag: bool, new: Held, old: Held) -> Held
-    ensures { λ r. ⌜ r ≡ cond flag new old ⌝ }
-{
-    if flag { new } else { old }
-}
-
-fn pick_word(flag: bool, new: u16, old: u16) -> u16
-    ensures { λ r. ⌜ r ≡ cond flag new old ⌝ }
-{
-    if flag { new } else { old }
-}
-
-fn pick_byte(flag: bool, new: u8, old: u8) -> u8
-    ensures { λ r. ⌜ r ≡ cond flag new old ⌝ }
-{
-    if flag { new } else { old }
 }
 
 // Each value by its flag: the new one where it is known, else the old one, which is the last known.
 fn blend(known: Known, new: Settings, old: Settings) -> Settings
     ensures { λ r. ⌜ r ≡ blendOf known new old ⌝ }
 {
+    let gate = known.gate;
+    let drive = known.drive;
     Settings {
-        place: pick_place(known.place, new.place, old.place),
-        mask: pick_byte(known.mask, new.mask, old.mask),
-        outputs: pick_word(known.outputs, new.outputs, old.outputs),
-        pwm: pick_pwm(known.pwm, new.pwm, old.pwm),
-        held: pick_held(known.held, new.held, old.held),
-        timer: pick_byte(known.timer, new.timer, old.timer),
+        drive: drive.blend(new.drive, old.drive),
+        gate: gate.blend(new.gate, old.gate),
+        place: pick::pick_place(known.place, new.place, old.place),
+        mask: pick::pick_byte(known.mask, new.mask, old.mask),
     }
 }
 
 impl Entry {
     // At power-up every setting is known.
-    pub fn power_up() -> Entry
-        ensures { λ r. ⌜ r ≡ entryPowerUp ⌝ }
+    pub fn power_up(kind: Kind) -> Entry
+        ensures { λ r. ⌜ r ≡ entryPowerUp kind ⌝ }
     {
         Entry {
             settings: Settings::power_up(),
             known: Known {
                 place: true,
                 mask: true,
-                outputs: true,
-                pwm: true,
-                held: true,
-                timer: true,
+                gate: GateKnown::all(true),
+                drive: DriveKnown::all(true),
             },
+            kind,
         }
     }
 
@@ -169,17 +134,17 @@ impl Entry {
         e
     }
 
-    // A confirmed command makes what it writes known and new; a copy of a held set in doubt goes into doubt.
+    // A confirmed command makes what it writes known and new; a copy of what is in doubt, held or waiting, goes into doubt.
     fn confirm(self, c: Command) -> Entry
         ensures { λ r. ⌜ r ≡ confirmOf c self ⌝ }
     {
         let before = self.known;
         let known = mark(before, c, true);
         let old = self.settings;
-        Entry {
-            settings: blend(known, old.after(c), old),
-            known,
-        }
+        let mut e = self;
+        e.settings = blend(known, old.after(c), old);
+        e.known = known;
+        e
     }
 
     // The entry after an exchange: the command, whether it went to the node, and how it was answered.

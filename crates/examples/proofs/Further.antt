@@ -9,7 +9,7 @@ use Rattle.wire.specs.declared.refusal.Refusal.the-variants.{NotDue, Led}
 use Rattle.packet.specs.Packet.{frameOf, isIntact, readOf}
 use Rattle.command.specs.declared.Command.{Command}
 use Rattle.command.specs.declared.Command.the-variants.{SetAddress, SynchOutput, SetSynchOutput, Nop}
-use Rattle.command.specs.Build.{buildFor, commandBuild}
+use Rattle.codec.specs.Build.{buildFor, codecBuild}
 use Rattle.status.specs.declared.Answer.the-variants as answer
 use Rattle.entry.specs.declared.Entry.{Entry}
 use Rattle.ledger.specs.Ledger.{ledgerLeast, eachFrom, settleOf, ledFrom, isLed}
@@ -43,7 +43,7 @@ module _ (rest : List Entry) where
   waiting k c r = pair (r .walk) (Waiting (nodeAt k) c) (r .first) (r .second) rest
 
   sent-held : stepOf (order (nodeAt 2) (SetSynchOutput someHeld)) (shown fresh rest) ≡ record { end = Sent 8; session = waiting 2 (SetSynchOutput someHeld) fresh }
-  unfolding total written buildFor commandBuild isValid isClosed isWaiting freeCheck orderCheck openExchange transmitOf orderOf
+  unfolding total written buildFor codecBuild isValid isClosed isWaiting freeCheck orderCheck openExchange transmitOf orderOf
   sent-held = refl
 
   lost-held : finishOf (waiting 2 (SetSynchOutput someHeld) fresh) answer.Silent ≡ record { end = Done; session = shown unheld rest }
@@ -51,7 +51,7 @@ module _ (rest : List Entry) where
   lost-held = refl
 
   sent-copy : stepOf (order (nodeAt 2) SynchOutput) (shown unheld rest) ≡ record { end = Sent 4; session = waiting 2 SynchOutput unheld }
-  unfolding total written buildFor commandBuild isValid isClosed isWaiting freeCheck orderCheck openExchange transmitOf orderOf
+  unfolding total written buildFor codecBuild isValid isClosed isWaiting freeCheck orderCheck openExchange transmitOf orderOf
   sent-copy = refl
 
   copied : finishOf (waiting 2 SynchOutput unheld) answer.Clear ≡ record { end = Done; session = shown uncopied rest }
@@ -60,7 +60,7 @@ module _ (rest : List Entry) where
 
   sent-join : stepOf (regroup (record { 0 = 2 }) (record { 0 = 0x80 }) false) (shown (ready leads80 (addressed 2)) rest)
       ≡ record { end = Sent 6; session = waiting 2 joins (ready leads80 (addressed 2)) }
-  unfolding total written buildFor commandBuild isValid isClosed isWaiting hasRival ledgerLeast ledFrom isLed freeCheck regroupCheck openExchange transmitOf regroupOf
+  unfolding total written buildFor codecBuild isValid isClosed isWaiting hasRival ledgerLeast ledFrom isLed freeCheck regroupCheck openExchange transmitOf regroupOf
   sent-join = refl
 
   joined : finishOf (waiting 2 joins (ready leads80 (addressed 2))) answer.Clear ≡ record { end = Done; session = shown (ready leads80 joined80) rest }
@@ -74,7 +74,7 @@ module _ (rest : List Entry) where
 
   -- the walk's first Set Address
   sent-first : stepOf next (shown up rest) ≡ record { end = Sent 6; session = waiting 1 (SetAddress (givenPlace 1)) up }
-  unfolding total written buildFor commandBuild isValid isClosed isWaiting isAskDue freeCheck nextCheck openExchange transmitOf nextOf
+  unfolding total written buildFor codecBuild isValid isClosed isWaiting isAskDue freeCheck nextCheck openExchange transmitOf nextOf
   sent-first = refl
 
   lost-first : finishOf (waiting 1 (SetAddress (givenPlace 1)) up) answer.Silent ≡ record { end = Done; session = shown unplaced rest }
@@ -86,7 +86,7 @@ module _ (rest : List Entry) where
   not-next = refl
 
   asked : stepOf ask (shown unplaced rest) ≡ record { end = Sent 4; session = waiting 1 Nop unplaced }
-  unfolding total written buildFor commandBuild isValid isClosed isWaiting isAskDue freeCheck askCheck openExchange transmitOf askOf
+  unfolding total written buildFor codecBuild isValid isClosed isWaiting isAskDue freeCheck askCheck openExchange transmitOf askOf
   asked = refl
 
   confirmed : finishOf (waiting 1 Nop unplaced) answer.Clear ≡ record { end = Done; session = shown confirmed1 rest }

@@ -14,8 +14,8 @@ use Rattle.packet.specs.Packet.{readOf, framedNumber}
 use Rattle.packet.specs.Build.{buildOf}
 use Rattle.command.specs.declared.Place.{Place}
 use Rattle.command.specs.declared.Command.{Command}
-use Rattle.command.specs.Command.{ReadsAs}
-use Rattle.command.specs.Build.{codeOf, ownData, commandBuild}
+use Rattle.codec.specs.Reading.{ReadsAs}
+use Rattle.codec.specs.Build.{codeOf, ownData, codecBuild}
 use Rattle.status.specs.declared.Answer.the-variants.{Silent}
 use Rattle.node.specs.declared.state.Settings.{Settings}
 use Rattle.node.specs.Effect.{settingsPowerUp}
@@ -110,7 +110,7 @@ pub data Example : Type 0 where
 
 -- a packet is built, from the command and from its parts, at the start of whatever buffer is lent, and reads as that command, to its last byte
 pub record Packets (to : Address) (c : Command) (bytes : List ℕ) : Type 0 where
-  pub built : (out : List ℕ) → commandBuild to c out ≡ written bytes out
+  pub built : (out : List ℕ) → codecBuild to c out ≡ written bytes out
   pub packed : (out : List ℕ) → buildOf (byteOf to) (codeOf c) (ownData c) out ≡ written bytes out
   pub reads : ReadsAs bytes to c (length bytes)
 

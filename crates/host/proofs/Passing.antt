@@ -9,9 +9,10 @@ use Rattle.wire.specs.declared.address.Individual.{Individual}
 use Rattle.wire.specs.declared.address.Group.{Group}
 use Rattle.wire.specs.declared.address.Address.{Address}
 use Rattle.wire.specs.declared.address.Address.the-variants as address
-use Rattle.wire.specs.declared.refusal.Refusal.the-variants.{Range, NotDue, NoNode, Led}
+use Rattle.wire.specs.declared.refusal.Refusal.the-variants.{Range, NotDue, NoNode, Led, Lacked}
 use Rattle.command.specs.declared.Command.{Command}
-use Rattle.ledger.specs.Ledger.{isLed}
+use Rattle.command.specs.Ranges.{fitsOf}
+use Rattle.ledger.specs.Ledger.{isLed, isLacked}
 use Rattle.session.specs.declared.Session.{Session}
 use Rattle.command.specs.Role.{roleOf, isPlacing}
 use Rattle.session.specs.Session.{offChain}
@@ -22,27 +23,33 @@ use Rattle.sending.specs.Sending.{refuseIf, freeCheck}
 use Rattle.host.specs.Calls.{isBadGroup, hasRival, orderCheck, regroupCheck}
 use Rattle.sending.proofs.Passing.{passed, Free, free-says}
 
--- a command of a ready session: not a Set Address, to a node 1 to n or to a group
+-- a command of a ready session: not a Set Address, of its ranges, to a node 1 to n or to a group, and no node that it may reach lacks it
 pub record OrderPasses (s : Session) (to : Address) (c : Command) : Type 0 where
   pub session : Free s
   pub ended : s .walk ≡ s .n
   pub ordinary : isPlacing (roleOf c) ≡ false
+  pub fits : fitsOf c ≡ true
   pub group : isBadGroup to ≡ false
   pub node : offChain (s .n) to ≡ false
+  pub suits : isLacked to c (s .n) (s .entries) ≡ false
 
 pub order-says : (s : Session) (to : Address) (c : Command) → orderCheck s to c ≡ Passed → OrderPasses s to c
 unfolding orderCheck
 order-says s to c h =
     let k2 : Check = refuseIf (freeCheck s) (isPlacing (roleOf c)) Range in
-    let k3 : Check = refuseIf k2 (isBadGroup to) Range in
-    let t = passed (refuseIf k3 (offChain (s .n) to) NoNode) (ltb (s .walk) (s .n)) NotDue h in
-    let u = passed k3 (offChain (s .n) to) NoNode (t .before) in
-    let v = passed k2 (isBadGroup to) Range (u .before) in
-    let w = passed (freeCheck s) (isPlacing (roleOf c)) Range (v .before) in
+    let k3 : Check = refuseIf k2 (not (fitsOf c)) Range in
+    let k4 : Check = refuseIf k3 (isBadGroup to) Range in
+    let k5 : Check = refuseIf k4 (offChain (s .n) to) NoNode in
+    let t = passed (refuseIf k5 (isLacked to c (s .n) (s .entries)) Lacked) (ltb (s .walk) (s .n)) NotDue h in
+    let l = passed k5 (isLacked to c (s .n) (s .entries)) Lacked (t .before) in
+    let u = passed k4 (offChain (s .n) to) NoNode (l .before) in
+    let v = passed k3 (isBadGroup to) Range (u .before) in
+    let x = passed k2 (not (fitsOf c)) Range (v .before) in
+    let w = passed (freeCheck s) (isPlacing (roleOf c)) Range (x .before) in
     let r = free-says s (w .before) in
     let b = r .valid in
     let e = ltb-false (s .walk) (s .n) (t .failed) in
-    record { session = r; ended = omega arith; ordinary = w .failed; group = v .failed; node = u .failed }
+    record { session = r; ended = omega arith; ordinary = w .failed; fits = not-false (fitsOf c) (x .failed); group = v .failed; node = u .failed; suits = l .failed }
 
 -- regroup: a node 1 to n of a ready session, a group of its range, and no leader wish that another node stands in the way of
 pub record RegroupPasses (s : Session) (i : Individual) (g : Group) (leader : Bool) : Type 0 where

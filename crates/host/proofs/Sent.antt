@@ -12,7 +12,6 @@ use Rattle.wire.specs.declared.address.Address.the-variants as address
 use Rattle.wire.specs.Numbers.{done}
 use Rattle.command.specs.declared.Command.{Command}
 use Rattle.command.specs.declared.Command.the-variants.{SetAddress}
-use Rattle.command.proofs.Roles.{ordinary-fits}
 use Rattle.session.specs.declared.Session.{Session}
 use Rattle.session.specs.Session.{offChain, stepNumber}
 use Rattle.session.proofs.Sessions.{on-chain}
@@ -31,7 +30,7 @@ unfolding orderOf
 order-sent s to c out h =
     let t = order-says s to c h in
     by-passed (orderCheck s to c) s to to c out _ h
-    (transmitted-sends s to to c out (to-fits (s .n) to (t .session .valid .few) (t .group) (t .node)) (ordinary-fits c (t .ordinary) .0))
+    (transmitted-sends s to to c out (to-fits (s .n) to (t .session .valid .few) (t .group) (t .node)) (t .fits))
 
 pub regroup-sent : (s : Session) (i : Individual) (g : Group) (leader : Bool) (out : List ℕ) → regroupCheck s i g leader ≡ Passed
     → Sends s (address.Individual i) (address.Individual i) (SetAddress (record { address = i; group = g; leader = leader })) out (regroupOf s i g leader out)

@@ -30,14 +30,17 @@ fn is_bad_group(to: Address) -> bool
     }
 }
 
-// 12, 7, then 6, 10, 9.
+// 12, 7, then 6, 10, 17, 9.
 fn order_check(s: Session, to: Address, c: Command) -> Check
     ensures { λ r. ⌜ Promise checkNumber r (orderCheck s to c) ⌝ }
 {
+    let entries = s.entries;
     free_check(s)
         .refuse_if(c.role().is_placing(), Refusal::Range)
+        .refuse_if(!c.fits(), Refusal::Range)
         .refuse_if(is_bad_group(to), Refusal::Range)
         .refuse_if(off_chain(s.n, to), Refusal::NoNode)
+        .refuse_if(ledger::is_lacked(entries, s.n, to, c), Refusal::Lacked)
         .refuse_if(s.walk < s.n, Refusal::NotDue)
 }
 

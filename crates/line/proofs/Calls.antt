@@ -14,12 +14,12 @@ use Rattle.packet.specs.declared.Framed.{Framed}
 use Rattle.packet.specs.declared.Framed.the-variants as framed
 use Rattle.status.specs.Status.{T}
 use Rattle.node.specs.declared.state.Node.{Node}
-use Rattle.message.specs.declared.Message.{Message}
+use Rattle.message.specs.declared.Messages.{Messages}
 use Rattle.reply.specs.Reply.{maskFor}
 use Rattle.mask.proofs.Counts.{size-range}
 use Rattle.reply.proofs.Replies.{reply-length}
 use Rattle.survey.specs.declared.decision.Delivery.{Delivery}
-use Rattle.survey.specs.One.{messageAs, isRanged}
+use Rattle.survey.specs.One.{messagesAs, isRanged}
 use Rattle.survey.specs.Chain.{after, Said, silence, reply, collided, said, allRanged}
 use Rattle.survey.specs.Delivery.{Lent, valid, onSaid, deliveredTo, frameAlone, onFrame, deliverOf}
 use Rattle.survey.proofs.Meaning.{length-after, said-says}
@@ -38,12 +38,13 @@ record Does (o : Outcome Delivery Lent) (ns : List Node) (s : Said) : Type 0 whe
   says : saidIn (o .answer) (o .left .reply) ≡ s
 
 module _ (ns : List Node) (out : List ℕ) (room : T + 2 ≤ length out) where
-  does : (to : Address) (h : Message) (s : Said) → said to h ns ≡ s → Does (onSaid s to h ns out) (after to h ns) s
+  does : (to : Address) (h : Messages) (s : Said) → said to h ns ≡ s → Does (onSaid s to h ns out) (after to h ns) s
   unfolding written
   does to h silence e = record { nodes = refl; says = refl }
   does to h (reply r) e =
       let p = said-says to h ns r e in
-      let n : length r ≤ T + 2 = omega (arith, ap length (p .bytes), reply-length h (at ns (p .at)), size-range (maskFor h (at ns (p .at))) .1) in
+      let m = messageTo (at ns (p .at) .kind) h in
+      let n : length r ≤ T + 2 = omega (arith, ap length (p .bytes), reply-length m (at ns (p .at)), size-range (at ns (p .at) .kind) (maskFor m (at ns (p .at))) .1) in
       rw (le-ltb (length out) (length r) (omega arith)) (record { nodes = refl; says = ap reply (take-append-seam r (drop (length r) out)) })
   does to h collided e = record { nodes = refl; says = refl }
 
@@ -51,8 +52,8 @@ module _ (ns : List Node) (out : List ℕ) (room : T + 2 ≤ length out) where
   does-frame : (f : Framed) (q : List ℕ) → Does (onFrame f q ns out) (parted (λ i. true) ns (takenBy f q ns)) (spokenBy (λ i. true) f q ns)
   unfolding deliveredTo
   does-frame (framed.Whole to k n) q =
-      rw (parted-all ns (after to (messageAs k q) ns) (length-after to (messageAs k q) ns), among-all to (messageAs k q) ns)
-      (does to (messageAs k q) (said to (messageAs k q) ns) refl)
+      rw (parted-all ns (after to (messagesAs k q) ns) (length-after to (messagesAs k q) ns), among-all to (messagesAs k q) ns)
+      (does to (messagesAs k q) (said to (messagesAs k q) ns) refl)
   does-frame (framed.Refused why) q = record { nodes = sym (parted-same (λ i. true) ns); says = refl }
 
   pub delivers : 1 ≤ length ns → length ns ≤ 31 → ((i : ℕ) → i < length ns → isRanged (at ns i .settings .place) ≡ true) → (q : List ℕ) → Delivers ns q out

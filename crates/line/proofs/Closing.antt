@@ -69,10 +69,10 @@ pub record Concluded (h : Session) (a : Answer) (to : Address) (c : Command) (w 
 
 -- ---- the exchange is open
 
-due-waits : {h : Session} {what : Sending} {called to : Address} {c : Command} → Due h what called to c → isReset (roleOf c) ≡ false
+pub due-waits : {h : Session} {what : Sending} {called to : Address} {c : Command} → Due h what called to c → isReset (roleOf c) ≡ false
 due-waits (next l k) = refl
 due-waits (ask l k) = refl
-due-waits {c = c} (order w o e) = not-reset c e
+due-waits {c = c} (order w o e y) = not-reset c e
 due-waits (regroup w o f) = refl
 
 pub due-opens : {h : Session} {what : Sending} {called to : Address} {c : Command} → Due h what called to c → openExchange h to c ≡ waitingAt h to c
@@ -84,7 +84,7 @@ on-chain n k l m = rw (le-ltb k 1 l, le-ltb n k m) refl
 due-on-chain : {h : Session} {what : Sending} {called to : Address} {c : Command} → Due h what called to c → offChain (h .n) to ≡ false
 due-on-chain {h = h} (next l k) = on-chain (h .n) (h .walk + 1) (omega arith) (omega arith)
 due-on-chain {h = h} (ask l k) = on-chain (h .n) (h .walk + 1) (omega arith) (omega arith)
-due-on-chain (order w o e) = o
+due-on-chain (order w o e y) = o
 due-on-chain {h = h} (regroup {i = i} w o f) = on-chain (h .n) (i .0) (o .low) (o .high)
 
 waiting-valid : (h : Session) (to : Address) (c : Command) → h .n ≤ 31 → h .walk ≤ h .n → length (h .entries) ≡ 31 → offChain (h .n) to ≡ false
@@ -136,9 +136,9 @@ module _ (h : Session) (few : h .n ≤ 31) where
   settled-is (ask l k) Clear = rw (gives-not h few l, asks-it h few l k) refl
   settled-is (ask l k) Marked = refl
   settled-is (ask l k) Silent = refl
-  settled-is {to = to} {c = c} (order w o e) Clear = rw (never-gives h w c to, never-asks h w c to) refl
-  settled-is (order w o e) Marked = refl
-  settled-is (order w o e) Silent = refl
+  settled-is {to = to} {c = c} (order w o e y) Clear = rw (never-gives h w c to, never-asks h w c to) refl
+  settled-is (order w o e y) Marked = refl
+  settled-is (order w o e y) Silent = refl
   settled-is {to = to} {c = c} (regroup w o f) Clear = rw (never-gives h w c to, never-asks h w c to) refl
   settled-is (regroup w o f) Marked = refl
   settled-is (regroup w o f) Silent = refl
@@ -150,9 +150,9 @@ module _ (h : Session) (few : h .n ≤ 31) where
   walked-is (ask l k) Clear = rw (gives-not h few l, asks-it h few l k) refl
   walked-is (ask l k) Marked = refl
   walked-is (ask l k) Silent = refl
-  walked-is {to = to} {c = c} (order w o e) Clear = rw (never-gives h w c to, never-asks h w c to) refl
-  walked-is (order w o e) Marked = refl
-  walked-is (order w o e) Silent = refl
+  walked-is {to = to} {c = c} (order w o e y) Clear = rw (never-gives h w c to, never-asks h w c to) refl
+  walked-is (order w o e y) Marked = refl
+  walked-is (order w o e y) Silent = refl
   walked-is {to = to} {c = c} (regroup w o f) Clear = rw (never-gives h w c to, never-asks h w c to) refl
   walked-is (regroup w o f) Marked = refl
   walked-is (regroup w o f) Silent = refl

@@ -4,12 +4,14 @@ use mathlib.Core.Bool.{Bool, true, false, cond, true≢false, false≢true}
 use mathlib.Core.List.{List, _∷_}
 use mathlib.Core.Option.{Option, none}
 use mathlib.Core.Path.{_≡_, refl, sym, ap, subst, _∙_}
+use native.Mathlib.Omega.{arith}
 use lib.ListN.{length, take}
 use Rattle.wire.specs.Address.{inRange}
 use Rattle.wire.specs.declared.address.Address.{Address}
 use Rattle.command.specs.declared.Command.{Command}
-use Rattle.command.specs.Build.{fitsOf, packetFor}
-use Rattle.command.specs.Build as build
+use Rattle.command.specs.Ranges.{fitsOf}
+use Rattle.codec.specs.Build.{packetFor}
+use Rattle.codec.specs.Build as build
 use Rattle.status.specs.declared.Answer.{Answer}
 use Rattle.status.specs.declared.Answer.the-variants.{Silent}
 use Rattle.node.specs.declared.state.Node.{Node}
@@ -31,12 +33,13 @@ use Rattle.line.specs.Line as line
 use Rattle.line.specs.World.{World, hosting, callEnded, callMade, Comes, start, power, unpowered, call, deliver, report, hurry, delay, stray, bench}
 use Rattle.line.proofs.Refusing.{refused-power, refused-call, refused-report}
 use Rattle.line.proofs.Due.{Due, CallSends, call-sends}
-use Rattle.line.proofs.Closing.{waitingAt, due-opens, reported-finished, reported-concludes, conclusion}
+use Rattle.line.proofs.Closing.{waitingAt, due-waits, due-opens, reported-finished, reported-concludes, conclusion}
 use Rattle.line.proofs.Exactly.{Exactly, exactly-step}
 use Rattle.line.proofs.Invariant.{at, Invariant, Exchanged}
 use Rattle.line.proofs.Getting.{parted-none}
 use Rattle.line.proofs.Peace.{none-collided}
 use Rattle.line.proofs.Delivery.{nothing-silent, exchanged}
+use Rattle.line.proofs.Suits.{suits}
 use Rattle.line.proofs.Exchange.{exchange-step}
 use Rattle.line.proofs.Benching.{Benched, set-benched, benched-exchange, benched-invariant}
 use Rattle.line.proofs.Powering.{accepted-power, powered-invariant, powered-exactly}
@@ -120,7 +123,7 @@ arrives h ns past what p g q r a b =
     record {
       old = ns;
       opened = o;
-      exchange = exchanged (o .called) (o .command) ns (o .range) (o .fits) (o .typed) (none-collided (o .before) ns (o .inv)) (rw (g .packet) at a) b;
+      exchange = exchanged (o .called) (o .command) ns (o .range) (o .fits) (o .typed) (due-waits (o .due)) (λ i l. suits (o .due) ns (o .inv) i (omega (arith, o .inv .long))) (none-collided (o .before) ns (o .inv)) (rw (g .packet) at a) b;
     }
 
 settles-again : (h : Session) (ns : List Node) (past : List Sent) (what : Sending) (r : Option (List ℕ)) → Coming h ns past what r
@@ -237,10 +240,10 @@ call-holds w holds k typed out = go (callPerform k (w .host) out .answer .end) r
 
 pub holds : {w : World} → Comes w → Upholds w
 holds (start ns) up = absurd (false≢true up)
-holds (power {w = w} c bs e) up =
-    let p = accepted-power (w .host) (length bs) e in
-    rw (p .session) (record { free = refl; inv = powered-invariant bs (p .some) (p .few); exactly = powered-exactly bs (p .some) (p .few) })
-holds (unpowered {w = w} c n why e) up = rw (refused-power (w .host) n why e) (holds c up)
+holds (power {w = w} c ds ks t e) up =
+    let p = accepted-power (w .host) (length ds) ks e in
+    rw (p .session) (record { free = refl; inv = powered-invariant ds ks t (p .some) (p .few); exactly = powered-exactly ds ks t (p .some) (p .few) })
+holds (unpowered {w = w} c n ks why e) up = rw (refused-power (w .host) n ks why e) (holds c up)
 holds (call {w = w} c k typed out) up = call-holds w (λ u. holds c u) k typed out up
 holds (deliver {w = w} c what p e q r a b) up =
     arrives (w .host) (w .nodes) (w .past) what p (subst (λ (l : Line). LineHolds (w .host) (w .nodes) (w .past) l) e (holds c up)) q r a b
@@ -250,7 +253,7 @@ holds (hurry {w = w} c what p e r n) up =
     hurries (w .host) (w .nodes) (w .past) what p (subst (λ (l : Line). LineHolds (w .host) (w .nodes) (w .past) l) e (holds c up)) r n
 holds (delay {w = w} c p e q a) up = lingering-settles (subst (λ (l : Line). LineHolds (w .host) (w .nodes) (w .past) l) e (holds c up)) q a
 holds (stray {w = w} c r why e) up = rw (refused-report (w .host) r why e) (holds c up)
-holds (bench {w = w} c i b) up = bench-holds (w .host) (w .nodes) _ (w .past) (w .line) (set-benched (w .nodes) i b) (holds c up)
+holds (bench {w = w} c i b p) up = bench-holds (w .host) (w .nodes) _ (w .past) (w .line) (set-benched (w .nodes) i b p) (holds c up)
 
 -- also in the middle of an exchange the nodes are such as some settled session has them
 pub record Steady (n : ℕ) (ns : List Node) : Type 0 where

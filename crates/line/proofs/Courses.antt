@@ -9,8 +9,8 @@ use Rattle.buffer.specs.Buffer.{written}
 use Rattle.packet.specs.Packet.{dataPart, frameOf, isIntact}
 use Rattle.command.specs.declared.Place.{Place}
 use Rattle.command.specs.declared.Command.the-variants.{SetOutputs, Nop}
-use Rattle.command.specs.Command.{listedOf, commandRead}
-use Rattle.command.specs.Build.{buildFor, commandBuild}
+use Rattle.codec.specs.Reading.{sharedRows, gateRows, driveRows, motionOf, codecRead}
+use Rattle.codec.specs.Build.{buildFor, codecBuild}
 use Rattle.status.specs.Status.{judgeOf}
 use Rattle.node.specs.declared.state.Node.{Node}
 use Rattle.node.specs.Setting.{Setting, get}
@@ -54,8 +54,8 @@ unanswered = round powers next-1 (unheard refl)
 
 ask-1 : Round Ask (asks 1) nop1 (λ i. true) (pair 0 Idle placeInDoubt entryPowerUp rest) (pair 0 (Waiting (nodeAt 1) Nop) placeInDoubt entryPowerUp rest)
     (placed 1 0 ∷ up ∷ []) (placed 1 0 ∷ up ∷ [])
-unfolding askOf askCheck freeCheck isClosed isValid isWaiting isAskDue transmitOf openExchange commandBuild buildFor written total
-    frameOf frameAlone dataPart isIntact endsInSum commandRead listedOf after turned doesAct doesReply replyOf replyItems
+unfolding askOf askCheck freeCheck isClosed isValid isWaiting isAskDue transmitOf openExchange codecBuild buildFor written total
+    frameOf frameAlone dataPart isIntact endsInSum codecRead sharedRows gateRows driveRows motionOf after turned doesAct doesReply replyOf replyItems
 ask-1 = record { typed = tt; sends = λ past. refl; nodes = refl; says = refl }
 
 answered : Comes (worldAt (pair 1 Idle (addressed 1) entryPowerUp rest) (placed 1 0 ∷ up ∷ []) quiet asked)
@@ -65,8 +65,8 @@ answered = round unanswered ask-1 (replied refl)
 -- Set Outputs 5 to node 2, whatever its outputs are and its entry is
 set-outputs : (old : ℕ) (e : Entry) → Round (Order (nodeAt 2) (SetOutputs 5)) (sends (nodeAt 2) (SetOutputs 5)) set5 (λ i. true) (pair 2 Idle (addressed 1) e rest)
     (pair 2 (Waiting (nodeAt 2) (SetOutputs 5)) (addressed 1) e rest) (placed 1 0 ∷ placed 2 old ∷ []) (placed 1 0 ∷ placed 2 5 ∷ [])
-unfolding orderOf orderCheck freeCheck isClosed isValid isWaiting transmitOf openExchange commandBuild buildFor written total
-    frameOf frameAlone dataPart isIntact endsInSum commandRead listedOf after turned doesAct doesReply replyOf replyItems
+unfolding orderOf orderCheck isLacked anyFrom ledgerLeast freeCheck isClosed isValid isWaiting transmitOf openExchange codecBuild buildFor written total
+    frameOf frameAlone dataPart isIntact endsInSum codecRead sharedRows gateRows driveRows motionOf after turned doesAct doesReply replyOf replyItems
 set-outputs old e = record { typed = tt; sends = λ past. refl; nodes = refl; says = refl }
 
 -- the reply is lost

@@ -9,69 +9,83 @@ use lib.ListN.{length, getD}
 use lib.Seq.{take-length}
 use Rattle.wire.specs.Address.{inRange, addressOf}
 use Rattle.buffer.specs.Change.{Altered, Damaged}
+use Rattle.wire.specs.declared.kind.Kind.{Kind}
+use Rattle.wire.specs.declared.kind.Kind.the-variants.{Gate, Drive}
 use Rattle.wire.specs.declared.address.Address.{Address}
 use Rattle.wire.specs.declared.address.Address.the-variants as address
 use Rattle.wire.proofs.Choice.{both}
-use Rattle.packet.specs.Packet.{frameOf, isIntact}
+use Rattle.packet.specs.Packet.{readOf, dataPart, frameOf, isIntact}
 use Rattle.packet.specs.declared.Framed.the-variants.{Whole}
 use Rattle.buffer.proofs.Sums.{changed-length}
 use Rattle.packet.proofs.Packets.{read-says, damaged-frames, damaged-spoilt}
 use Rattle.command.specs.declared.Command.{Command}
-use Rattle.command.specs.Command.{ReadsAs}
-use Rattle.command.specs.Build.{fitsOf, Typed, packetFor}
-use Rattle.command.proofs.Commands.{built-reads}
-use Rattle.command.specs.Role.{roleOf}
+use Rattle.command.specs.declared.Reading.{Reading}
+use Rattle.command.specs.declared.Reading.the-variants as reading
+use Rattle.command.specs.Ranges.{fitsOf}
+use Rattle.command.specs.Owner.{has}
+use Rattle.codec.specs.Reading.{codecRead}
+use Rattle.codec.specs.Build.{codeOf, ownData, Typed, packetFor}
+use Rattle.codec.proofs.Commands.{Frames, built-frames, read-back}
+use Rattle.command.specs.Role.{roleOf, isReset}
 use Rattle.status.specs.Status.{judgeOf, cleared}
 use Rattle.status.specs.declared.Answer.{Answer}
 use Rattle.status.specs.declared.Answer.the-variants.{Clear, Marked, Silent}
 use Rattle.node.specs.declared.state.Node.{Node}
 use Rattle.message.specs.declared.Message.{Message}
 use Rattle.message.specs.declared.Message.the-variants.{Intact, Spoilt}
+use Rattle.message.specs.declared.Messages.{Messages}
+use Rattle.message.specs.Message.{messageOf, messagesOf, messageTo}
 use Rattle.node.specs.Effect.{settingsAfter}
-use Rattle.node.specs.Node.{actOf, addressedAfter}
+use Rattle.node.specs.Node.{doesHeed, addressedAfter, takeOf}
+use Rattle.node.proofs.Laws.{acted-settings, acted-addressed, kind-stays}
 use Rattle.reply.specs.Reply.{statusByte}
 use Rattle.reply.proofs.Replies.{reply-judged, altered-silent}
-use Rattle.survey.specs.One.{messageAs, isMeant, isAnswering}
+use Rattle.survey.specs.One.{messagesAs, isMeant, isAnswering, toBoth, takeFor}
 use Rattle.survey.specs.Chain.{after, Said, collided, hearsAt, repliesAt}
 use Rattle.survey.specs.Delivery.{frameAlone}
 use Rattle.survey.proofs.Lengths.{stands-alone}
 use Rattle.survey.proofs.Repliers.{Speaks}
-use Rattle.survey.proofs.Meaning.{length-after, after-at, spoilt-stays}
+use Rattle.survey.proofs.Meaning.{length-after, after-at, said-alike, spoilt-stays}
 use Rattle.line.specs.Line.{Arrival, Arrives, Nothing, Returns, parted, nodesAfter, saidAmong, saidAfter, answerIn}
 use Rattle.line.specs.Line as line
 use Rattle.line.proofs.Invariant.{at, acts, Answered, Exchanged}
 use Rattle.line.proofs.Getting.{Calling, length-parted, parted-at, parted-same, among-says}
 
--- what is said: nothing, or the reply of a node that gets the message
-data Voice (gets : ℕ → Bool) (to : Address) (message : Message) (ns : List Node) : Answer → Type 0 where
-  silent : Voice gets to message ns Silent
-  spoke : (r : List ℕ) → Speaks (Calling gets to ns) message ns r → Voice gets to message ns (cleared (statusByte message))
+-- whatever kind a node is, its reply has this status byte
+abbrev Shows : Messages → ℕ → Type 0
+Shows m b = (k : Kind) → statusByte (messageTo k m) ≡ b
+
+-- what is said: nothing, or the reply of a node that gets the packet
+data Voice (gets : ℕ → Bool) (to : Address) (m : Messages) (ns : List Node) (b : ℕ) : Answer → Type 0 where
+  silent : Voice gets to m ns b Silent
+  spoke : (r : List ℕ) → Speaks (Calling gets to ns) m ns r → Voice gets to m ns b (cleared b)
 
 pub nothing-silent : {t : Option (List ℕ)} → Nothing t → answerIn t ≡ Silent
 unfolding judgeOf
 nothing-silent line.absent = refl
 nothing-silent line.empty = refl
 
-voice : (gets : ℕ → Bool) (to : Address) (message : Message) (ns : List Node) → (saidAmong gets to message ns ≡ collided → ⊥) → {s : Said} {r : Option (List ℕ)}
-    → saidAmong gets to message ns ≡ s → Returns s r → Voice gets to message ns (answerIn r)
-voice gets to message ns n e (line.quietly o) = rw (nothing-silent o) silent
-voice gets to message ns n e (line.whole {r = r}) =
-    let p = among-says gets to message ns r e in
-    let j : judgeOf r ≡ cleared (statusByte message) = ap judgeOf (p .bytes) ∙ reply-judged message (at ns (p .at)) in
+voice : (gets : ℕ → Bool) (to : Address) (m : Messages) (ns : List Node) (b : ℕ) → Shows m b → (saidAmong gets to m ns ≡ collided → ⊥) → {s : Said} {r : Option (List ℕ)}
+    → saidAmong gets to m ns ≡ s → Returns s r → Voice gets to m ns b (answerIn r)
+voice gets to m ns b h n e (line.quietly o) = rw (nothing-silent o) silent
+voice gets to m ns b h n e (line.whole {r = r}) =
+    let p = among-says gets to m ns r e in
+    let k = at ns (p .at) .kind in
+    let j : judgeOf r ≡ cleared b = ap judgeOf (p .bytes) ∙ reply-judged (messageTo k m) (at ns (p .at)) ∙ ap cleared (h k) in
     rw j (spoke r p)
-voice gets to message ns n e (line.altered {r = r} {t = t} a) =
-    let p = among-says gets to message ns r e in
-    let j : judgeOf t ≡ Silent = altered-silent message (at ns (p .at)) t (subst (λ (l : List ℕ). Altered l t) (p .bytes) a) in
+voice gets to m ns b h n e (line.altered {r = r} {t = t} a) =
+    let p = among-says gets to m ns r e in
+    let j : judgeOf t ≡ Silent = altered-silent (messageTo (at ns (p .at) .kind) m) (at ns (p .at)) t (subst (λ (l : List ℕ). Altered l t) (p .bytes) a) in
     rw j silent
-voice gets to message ns n e (line.lost o) = rw (nothing-silent o) silent
-voice gets to message ns n e line.mixed = absurd (n e)
+voice gets to m ns b h n e (line.lost o) = rw (nothing-silent o) silent
+voice gets to m ns b h n e line.mixed = absurd (n e)
 
 -- bytes that are a whole packet, and the nodes that get them
-module _ (ns : List Node) (q : List ℕ) (gets : ℕ → Bool) (to : Address) (k n : ℕ) (message : Message) (f : frameAlone q ≡ Whole to k n) (e : messageAs k q ≡ message) where
-  nodes-are : nodesAfter (record { bytes = q; gets = gets }) ns ≡ parted gets ns (after to message ns)
+module _ (ns : List Node) (q : List ℕ) (gets : ℕ → Bool) (to : Address) (k n : ℕ) (m : Messages) (f : frameAlone q ≡ Whole to k n) (e : messagesAs k q ≡ m) where
+  nodes-are : nodesAfter (record { bytes = q; gets = gets }) ns ≡ parted gets ns (after to m ns)
   nodes-are = rw (f, e) refl
 
-  said-is : saidAfter (record { bytes = q; gets = gets }) ns ≡ saidAmong gets to message ns
+  said-is : saidAfter (record { bytes = q; gets = gets }) ns ≡ saidAmong gets to m ns
   said-is = rw (f, e) refl
 
 -- whoever replies to an address is one that acts on it
@@ -81,44 +95,81 @@ replies-acts (address.Group g) ns i e =
     let p = both (hearsAt ns i) (isAnswering (address.Group g) (at ns i .settings .place)) e in
     rw (p .0) (both (at ns i .settings .place .leader) (isMeant (address.Group g) (at ns i .settings .place)) (p .1) .1)
 
--- what a node that gets a command, if it does, and acts on it, if it does, holds afterwards
-settings-if : (c : Command) (got b : Bool) (x : Node) → cond got (cond b (actOf c x) x) x .settings ≡ cond (got && b) (settingsAfter c (x .settings)) (x .settings)
-settings-if c true true x = refl
-settings-if c true false x = refl
-settings-if c false b x = refl
+-- what the packet of command c says to either kind
+abbrev pub spoken : Command → Messages
+spoken c = messagesOf (codecRead Gate (codeOf c) (ownData c)) (codecRead Drive (codeOf c) (ownData c)) true
 
-addressed-if : (c : Command) (got b : Bool) (x : Node)
-    → cond got (cond b (actOf c x) x) x .addressed ≡ cond (got && b) (addressedAfter (roleOf c) (x .addressed)) (x .addressed)
-addressed-if c true true x = refl
-addressed-if c true false x = refl
-addressed-if c false b x = refl
+-- its sum is right, so bit 1 of the status byte is clear
+intact-zero : (r : Reading) → statusByte (messageOf r true) ≡ 0
+intact-zero (reading.Known c) = refl
+intact-zero reading.Other = refl
+
+spoken-clear : (c : Command) → Shows (spoken c) 0
+spoken-clear c Gate = intact-zero (codecRead Gate (codeOf c) (ownData c))
+spoken-clear c Drive = intact-zero (codecRead Drive (codeOf c) (ownData c))
+
+spoilt-marked : Shows (toBoth Spoilt) 2
+spoilt-marked k = ap statusByte (said-alike Spoilt k)
+
+-- to a kind that has it, it is the command
+spoken-own : (k : Kind) (c : Command) → fitsOf c ≡ true → Typed c → has k c ≡ true → messageTo k (spoken c) ≡ Intact c
+spoken-own Gate c f t h = rw (read-back Gate c h f t)
+spoken-own Drive c f t h = rw (read-back Drive c h f t)
+
+-- a node that has a command and heeds it
+abbrev pub Suits : Command → Node → Type 0
+Suits c n = (has (n .kind) c ≡ true) × (doesHeed (n .kind) (roleOf c) ≡ true)
+
+module _ (c : Command) (fits : fitsOf c ≡ true) (typed : Typed c) (unreset : isReset (roleOf c) ≡ false) where
+  taken-own : (x : Node) → Suits c x → takeFor (spoken c) x ≡ takeOf (Intact c) x
+  taken-own x u = ap (λ (m : Message). takeOf m x) (spoken-own (x .kind) c fits typed (u .0))
+
+  -- what a node that gets a command, if it does, and acts on it, if it does, holds afterwards
+  settings-if : (got b : Bool) (x : Node) → (b ≡ true → Suits c x)
+      → cond got (cond b (takeFor (spoken c) x) x) x .settings ≡ cond (got && b) (settingsAfter c (x .settings)) (x .settings)
+  settings-if true true x u = ap (λ (n : Node). n .settings) (taken-own x (u refl)) ∙ acted-settings c x (u refl .0) (u refl .1) unreset
+  settings-if true false x u = refl
+  settings-if false b x u = refl
+
+  addressed-if : (got b : Bool) (x : Node) → (b ≡ true → Suits c x)
+      → cond got (cond b (takeFor (spoken c) x) x) x .addressed ≡ cond (got && b) (addressedAfter (roleOf c) (x .addressed)) (x .addressed)
+  addressed-if true true x u = ap (λ (n : Node). n .addressed) (taken-own x (u refl)) ∙ acted-addressed c x (u refl .1)
+  addressed-if true false x u = refl
+  addressed-if false b x u = refl
+
+kind-if : (m : Messages) (got b : Bool) (x : Node) → cond got (cond b (takeFor m x) x) x .kind ≡ x .kind
+kind-if m true true x = kind-stays (messageTo (x .kind) m) x
+kind-if m true false x = refl
+kind-if m false b x = refl
 
 module _ (to : Address) (c : Command) (ns : List Node) where
   -- it came whole
   module _ (gets : ℕ → Bool) where
-    not-marked : {a : Answer} → Voice gets to (Intact c) ns a → a ≡ Marked → ⊥
+    not-marked : {a : Answer} → Voice gets to (spoken c) ns 0 a → a ≡ Marked → ⊥
     not-marked silent e = true≢false (cc e)
     not-marked (spoke r p) e = true≢false (cc e)
 
-    answered : {a : Answer} → Voice gets to (Intact c) ns a → a ≡ Clear → Answered to ns (λ i. gets i && acts to ns i)
+    answered : {a : Answer} → Voice gets to (spoken c) ns 0 a → a ≡ Clear → Answered to ns (λ i. gets i && acts to ns i)
     answered silent e = absurd (true≢false (cc e))
     answered (spoke r p) e =
         let o = p .is in
         record { index = p .at; inside = o .0 .0; replies = o .0 .1; acted = rw (o .1) (replies-acts to ns (p .at) (o .0 .1)) }
 
     came-at : (i : ℕ) → i < length ns
-        → at (parted gets ns (after to (Intact c) ns)) i ≡ cond (gets i) (cond (acts to ns i) (actOf c (at ns i)) (at ns i)) (at ns i)
+        → at (parted gets ns (after to (spoken c) ns)) i ≡ cond (gets i) (cond (acts to ns i) (takeFor (spoken c) (at ns i)) (at ns i)) (at ns i)
     came-at i l =
-        parted-at gets ns (after to (Intact c) ns) i (length-after to (Intact c) ns) l
-        ∙ ap (λ (x : Node). cond (gets i) x (at ns i)) (after-at to (Intact c) ns i l)
+        parted-at gets ns (after to (spoken c) ns) i (length-after to (spoken c) ns) l
+        ∙ ap (λ (x : Node). cond (gets i) x (at ns i)) (after-at to (spoken c) ns i l)
 
-    came-whole : {a : Answer} → Voice gets to (Intact c) ns a → Exchanged to c ns (parted gets ns (after to (Intact c) ns)) a
-    came-whole v = record {
+    came-whole : fitsOf c ≡ true → Typed c → isReset (roleOf c) ≡ false → ((i : ℕ) → i < length ns → acts to ns i ≡ true → Suits c (at ns i))
+        → {a : Answer} → Voice gets to (spoken c) ns 0 a → Exchanged to c ns (parted gets ns (after to (spoken c) ns)) a
+    came-whole fits typed unreset u v = record {
       did = λ i. gets i && acts to ns i;
       acting = λ i e. both (gets i) (acts to ns i) e .1;
-      long = length-parted gets ns (after to (Intact c) ns);
-      settings = λ i l. ap (λ (x : Node). x .settings) (came-at i l) ∙ settings-if c (gets i) (acts to ns i) (at ns i);
-      addressed = λ i l. ap (λ (x : Node). x .addressed) (came-at i l) ∙ addressed-if c (gets i) (acts to ns i) (at ns i);
+      long = length-parted gets ns (after to (spoken c) ns);
+      settings = λ i l. ap (λ (x : Node). x .settings) (came-at i l) ∙ settings-if c fits typed unreset (gets i) (acts to ns i) (at ns i) (u i l);
+      addressed = λ i l. ap (λ (x : Node). x .addressed) (came-at i l) ∙ addressed-if c fits typed unreset (gets i) (acts to ns i) (at ns i) (u i l);
+      kind = λ i l. ap (λ (x : Node). x .kind) (came-at i l) ∙ kind-if (spoken c) (gets i) (acts to ns i) (at ns i);
       marked = λ e i. absurd (not-marked v e);
       clear = answered v;
     }
@@ -131,57 +182,60 @@ module _ (to : Address) (c : Command) (ns : List Node) where
     long = refl;
     settings = λ i l. refl;
     addressed = λ i l. refl;
+    kind = λ i l. refl;
     marked = λ e i. refl;
     clear = λ e. absurd (n e);
   }
 
-  spoilt-not-clear : {gets : ℕ → Bool} {b : Address} {a : Answer} → Voice gets b Spoilt ns a → a ≡ Clear → ⊥
+  spoilt-not-clear : {gets : ℕ → Bool} {b : Address} {a : Answer} → Voice gets b (toBoth Spoilt) ns 2 a → a ≡ Clear → ⊥
   spoilt-not-clear silent e = true≢false (cc e)
   spoilt-not-clear (spoke r p) e = true≢false (cc e)
 
-  module _ (range : inRange to ≡ true) (fits : fitsOf c ≡ true) (typed : Typed c) where
+  module _ (range : inRange to ≡ true) where
     -- what a packet of ours says, as it was sent and damaged
-    pub record Means (q : List ℕ) (gets : ℕ → Bool) (a : Address) (message : Message) : Type 0 where
-      pub nodes : nodesAfter (record { bytes = q; gets = gets }) ns ≡ parted gets ns (after a message ns)
-      pub speaks : saidAfter (record { bytes = q; gets = gets }) ns ≡ saidAmong gets a message ns
+    pub record Means (q : List ℕ) (gets : ℕ → Bool) (a : Address) (m : Messages) : Type 0 where
+      pub nodes : nodesAfter (record { bytes = q; gets = gets }) ns ≡ parted gets ns (after a m ns)
+      pub speaks : saidAfter (record { bytes = q; gets = gets }) ns ≡ saidAmong gets a m ns
 
     abbrev long : ℕ
     long = length (packetFor to c)
 
-    reads : ReadsAs (packetFor to c) to c long
-    reads = subst (λ (s : List ℕ). ReadsAs s to c long) (append-nil (packetFor to c)) (built-reads to c range fits typed [])
+    framed : Frames (packetFor to c) to c long
+    framed = subst (λ (s : List ℕ). Frames s to c long) (append-nil (packetFor to c)) (built-frames to c range [])
 
-    own : (frameOf (packetFor to c) ≡ Whole to (reads .command) long) × (isIntact (packetFor to c) ≡ true)
+    own : (frameOf (packetFor to c) ≡ Whole to (codeOf c) long) × (isIntact (packetFor to c) ≡ true)
     own =
-        let s = read-says (packetFor to c) to (reads .command) long (reads .whole) in
+        let s = read-says (packetFor to c) to (codeOf c) long (framed .whole) in
         (s .0, ap isIntact (sym (take-length (packetFor to c))) ∙ s .1)
 
-    pub whole-means : (gets : ℕ → Bool) → Means (packetFor to c) gets to (Intact c)
+    pub whole-means : (gets : ℕ → Bool) → Means (packetFor to c) gets to (spoken c)
     whole-means gets =
-        let f = stands-alone (packetFor to c) to (reads .command) long (own .0) (le-refl long) in
-        let h : messageAs (reads .command) (packetFor to c) ≡ Intact c = rw (own .1, reads .known) refl in
+        let f = stands-alone (packetFor to c) to (codeOf c) long (own .0) (le-refl long) in
+        let h : messagesAs (codeOf c) (packetFor to c) ≡ spoken c = rw (own .1, framed .bytes) refl in
         record {
-          nodes = nodes-are ns (packetFor to c) gets to (reads .command) long (Intact c) f h;
-          speaks = said-is ns (packetFor to c) gets to (reads .command) long (Intact c) f h;
+          nodes = nodes-are ns (packetFor to c) gets to (codeOf c) long (spoken c) f h;
+          speaks = said-is ns (packetFor to c) gets to (codeOf c) long (spoken c) f h;
         }
 
-    pub damaged-means : (q : List ℕ) (gets : ℕ → Bool) → Damaged (packetFor to c) q → Means q gets (addressOf (getD q 1 0)) Spoilt
+    pub damaged-means : (q : List ℕ) (gets : ℕ → Bool) → Damaged (packetFor to c) q → Means q gets (addressOf (getD q 1 0)) (toBoth Spoilt)
     damaged-means q gets d =
-        let g = damaged-frames (packetFor to c) q to (reads .command) long (reads .whole) d (d .change .inside) in
-        let f = stands-alone q (addressOf (getD q 1 0)) (reads .command) long g (le-of-eq (changed-length (d .change))) in
-        let h : messageAs (reads .command) q ≡ Spoilt = rw (damaged-spoilt (packetFor to c) q (own .1) d) refl in
+        let g = damaged-frames (packetFor to c) q to (codeOf c) long (framed .whole) d (d .change .inside) in
+        let f = stands-alone q (addressOf (getD q 1 0)) (codeOf c) long g (le-of-eq (changed-length (d .change))) in
+        let h : messagesAs (codeOf c) q ≡ toBoth Spoilt = rw (damaged-spoilt (packetFor to c) q (own .1) d) refl in
         record {
-          nodes = nodes-are ns q gets _ (reads .command) long Spoilt f h;
-          speaks = said-is ns q gets _ (reads .command) long Spoilt f h;
+          nodes = nodes-are ns q gets _ (codeOf c) long (toBoth Spoilt) f h;
+          speaks = said-is ns q gets _ (codeOf c) long (toBoth Spoilt) f h;
         }
 
     -- from the sending to the report
-    pub exchanged : ((gets : ℕ → Bool) (b : Address) (message : Message) → saidAmong gets b message ns ≡ collided → ⊥) → {q : Arrival} {r : Option (List ℕ)}
+    pub exchanged : fitsOf c ≡ true → Typed c → isReset (roleOf c) ≡ false → ((i : ℕ) → i < length ns → acts to ns i ≡ true → Suits c (at ns i))
+        → ((gets : ℕ → Bool) (b : Address) (m : Messages) → saidAmong gets b m ns ≡ collided → ⊥) → {q : Arrival} {r : Option (List ℕ)}
         → Arrives (packetFor to c) q → Returns (saidAfter q ns) r → Exchanged to c ns (nodesAfter q ns) (answerIn r)
-    exchanged n (line.whole {gets = gets}) b =
+    exchanged fits typed unreset u n (line.whole {gets = gets}) b =
         let m = whole-means gets in
-        rw (m .nodes) (came-whole gets (voice gets to (Intact c) ns (n gets to (Intact c)) (sym (m .speaks)) b))
-    exchanged n (line.damaged {q = q} {gets = gets} d) b =
+        rw (m .nodes) (came-whole gets fits typed unreset u (voice gets to (spoken c) ns 0 (spoken-clear c) (n gets to (spoken c)) (sym (m .speaks)) b))
+    exchanged fits typed unreset u n (line.damaged {q = q} {gets = gets} d) b =
         let m = damaged-means q gets d in
         let a : Address = addressOf (getD q 1 0) in
-        rw (m .nodes, spoilt-stays a ns, parted-same gets ns) (unchanged (spoilt-not-clear (voice gets a Spoilt ns (n gets a Spoilt) (sym (m .speaks)) b)))
+        rw (m .nodes, spoilt-stays a ns, parted-same gets ns)
+        (unchanged (spoilt-not-clear (voice gets a (toBoth Spoilt) ns 2 spoilt-marked (n gets a (toBoth Spoilt)) (sym (m .speaks)) b)))

@@ -8,11 +8,11 @@ use native.Mathlib.Omega.{arith}
 use borrow.Author.Tests.{not-false}
 use lib.ListN.{getD}
 use Rattle.wire.specs.Address.{addressOf}
-use Rattle.command.specs.Build.{packetFor}
-use Rattle.message.specs.declared.Message.the-variants.{Intact, Spoilt}
+use Rattle.codec.specs.Build.{packetFor}
+use Rattle.message.specs.declared.Message.the-variants.{Spoilt}
 use Rattle.node.specs.declared.state.Node.{Node}
 use Rattle.node.specs.Setting.{Setting}
-use Rattle.survey.specs.One.{isRanged}
+use Rattle.survey.specs.One.{toBoth, isRanged}
 use Rattle.survey.specs.Chain.{collided}
 use Rattle.entry.specs.Entry.{knows}
 use Rattle.session.specs.declared.Session.{Session}
@@ -25,7 +25,7 @@ use Rattle.line.proofs.Words.{same-words}
 use Rattle.line.proofs.Exact.{Exact}
 use Rattle.line.proofs.Closing.{entryAt}
 use Rattle.line.proofs.Peace.{none-collided}
-use Rattle.line.proofs.Delivery.{whole-means, damaged-means}
+use Rattle.line.proofs.Delivery.{spoken, whole-means, damaged-means}
 use Rattle.line.proofs.Calls.{delivers}
 use Rattle.line.proofs.Course.{Opened, Going, LineHolds, when-idle, holds, steady}
 
@@ -67,9 +67,9 @@ peace h ns past what p g q a c = go (rw (g .packet) at a) c
 
     go : {q : Arrival} → Arrives (packetFor (o .called) (o .command)) q → saidAfter q ns ≡ collided → ⊥
     go (line.whole {gets = gets}) c =
-        none-collided (o .before) ns (o .inv) gets (o .called) (Intact (o .command)) (sym (whole-means (o .called) (o .command) ns (o .range) (o .fits) (o .typed) gets .speaks) ∙ c)
+        none-collided (o .before) ns (o .inv) gets (o .called) (spoken (o .command)) (sym (whole-means (o .called) (o .command) ns (o .range) gets .speaks) ∙ c)
     go (line.damaged {q = q} {gets = gets} d) c =
-        none-collided (o .before) ns (o .inv) gets (addressOf (getD q 1 0)) Spoilt (sym (damaged-means (o .called) (o .command) ns (o .range) (o .fits) (o .typed) q gets d .speaks) ∙ c)
+        none-collided (o .before) ns (o .inv) gets (addressOf (getD q 1 0)) (toBoth Spoilt) (sym (damaged-means (o .called) (o .command) ns (o .range) q gets d .speaks) ∙ c)
 
 pub no-collision : promised.NoCollision
 no-collision w comes up p o = go o (holds comes up)

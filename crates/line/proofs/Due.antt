@@ -15,13 +15,14 @@ use Rattle.wire.specs.declared.address.Address.the-variants as address
 use Rattle.command.specs.declared.Command.{Command}
 use Rattle.command.specs.declared.Command.the-variants.{SetAddress, Nop}
 use Rattle.command.specs.Role.{roleOf, isPlacing, isReset}
-use Rattle.command.proofs.Roles.{ordinary-fits}
-use Rattle.command.specs.Build.{fitsOf, Typed, packetFor}
+use Rattle.codec.proofs.Commands.{unplaced-typed}
+use Rattle.command.specs.Ranges.{fitsOf}
+use Rattle.codec.specs.Build.{Typed, packetFor}
 use Rattle.node.specs.Setting.{place}
 use Rattle.node.specs.Effect.{addressUp, effect, writes}
 use Rattle.node.proofs.Laws.{place-writes}
 use Rattle.entry.specs.Entry.{knows}
-use Rattle.ledger.specs.Ledger.{isLed}
+use Rattle.ledger.specs.Ledger.{isLed, isLacked}
 use Rattle.session.specs.declared.Session.{Session}
 use Rattle.session.specs.declared.End.the-variants.{Sent}
 use Rattle.session.specs.declared.Step.{Step}
@@ -46,15 +47,16 @@ pub data Due (h : Session) : Sending → Address → Address → Command → Typ
       → Due h (gives (h .walk + 1)) (nodeAt addressUp) (nodeAt (h .walk + 1)) (SetAddress (givenPlace (h .walk + 1)))
   ask : h .walk < h .n → knows (entryOf h (h .walk + 1)) place ≡ false
       → Due h (asks (h .walk + 1)) (nodeAt (h .walk + 1)) (nodeAt (h .walk + 1)) Nop
-  order : {to : Address} {c : Command} → h .walk ≡ h .n → offChain (h .n) to ≡ false → writes (effect c place) ≡ false → Due h (sends to c) to to c
+  order : {to : Address} {c : Command} → h .walk ≡ h .n → offChain (h .n) to ≡ false → writes (effect c place) ≡ false → isLacked to c (h .n) (h .entries) ≡ false
+      → Due h (sends to c) to to c
   regroup : {i : Individual} {g : Group} {leader : Bool} → h .walk ≡ h .n → OnChain (h .n) i
       → (leader ≡ true → isLed (i .0) g (h .n) (h .entries) ≡ false)
       → Due h (sends (address.Individual i) (SetAddress (record { address = i; group = g; leader = leader }))) (address.Individual i) (address.Individual i)
       (SetAddress (record { address = i; group = g; leader = leader }))
 
--- what an order sends writes no place, unless it is a Hard Reset; and its values are of their range
-order-sends : (c : Command) → isPlacing (roleOf c) ≡ false → isReset (roleOf c) ≡ false → (writes (effect c place) ≡ false) × (fitsOf c ≡ true) × Typed c
-order-sends c e f = let t = ordinary-fits c e in (place-writes c ∙ rw (e, f), t .0, t .1)
+-- what an order sends writes no place, unless it is a Hard Reset
+order-sends : (c : Command) → isPlacing (roleOf c) ≡ false → isReset (roleOf c) ≡ false → writes (effect c place) ≡ false
+order-sends c e f = place-writes c ∙ rw (e, f)
 
 -- a command was put on the line
 pub record Goes (s : Session) (called to : Address) (c : Command) (p : List ℕ) (t : Session) : Type 0 where
@@ -116,15 +118,14 @@ call-sends Ask t o s out n e =
 call-sends (Order to c) t o s out n e =
     let w = order-went s out to c (ap endNumber e) in
     let k = order-says s to c (w .passed) in
-    let r = order-sends c (k .ordinary) o in
     record {
       called = to;
       to = to;
       command = c;
       free = k .session;
-      due = order (k .ended) (k .node) (r .0);
-      typed = r .2;
-      goes = goes s to to c out _ n (w .result) e (to-fits (s .n) to (k .session .valid .few) (k .group) (k .node)) (r .1);
+      due = order (k .ended) (k .node) (order-sends c (k .ordinary) o) (k .suits);
+      typed = unplaced-typed c (k .ordinary);
+      goes = goes s to to c out _ n (w .result) e (to-fits (s .n) to (k .session .valid .few) (k .group) (k .node)) (k .fits);
     }
 call-sends (Regroup i g leader) t o s out n e =
     let w = regroup-went s out i g leader (ap endNumber e) in

@@ -55,5 +55,5 @@ exactly-step {h} (next l n) t past x Silent k = counts h t past x _ _ _ Silent t
 exactly-step {h} (ask l n) t past x Clear k = counts h t past x _ _ _ Clear tt tt k
 exactly-step {h} (ask l n) t past x Marked k = unsent h t past x _ _ _ Marked (λ i. refl) k
 exactly-step {h} {to = to} (ask l n) t past x Silent k = unsent h t past x to Nop _ Silent (λ i. quiet-noted Nop nop-writes Silent (reachOf to (suc i) (entryAt h i)) (entryAt h i)) k
-exactly-step {h} {to = to} {c = c} (order w o e) t past x a k = answered h t past x to c (h .walk) a (sendable to c e) k
+exactly-step {h} {to = to} {c = c} (order w o e y) t past x a k = answered h t past x to c (h .walk) a (sendable to c e) k
 exactly-step {h} {to = to} {c = c} (regroup w o f) t past x a k = answered h t past x to c (h .walk) a tt k

@@ -7,7 +7,7 @@ use native.Mathlib.Omega.{arith}
 use lib.ListN.{getD}
 use Rattle.wire.specs.declared.address.Address.{Address}
 use Rattle.command.specs.declared.Command.{Command}
-use Rattle.command.specs.Build.{fitsOf}
+use Rattle.command.specs.Ranges.{fitsOf}
 use Rattle.status.specs.declared.Answer.{Answer}
 use Rattle.node.specs.declared.state.Node.{Node}
 use Rattle.ledger.specs.Ledger.{blankEntry}
@@ -28,5 +28,5 @@ pub exchange-step : {h : Session} {what : Sending} {called to : Address} {c : Co
     → Concluded h a to (settles what a c) (walkOn what a (h .walk)) t → Invariant t ms
 exchange-step {h} (next l k) fits t ns ms inv a x = next-step h t ns ms inv l (rw (next-entry h) at k) a x fits
 exchange-step {h} (ask l k) fits t ns ms inv a x = ask-step h t ns ms inv l a x
-exchange-step {h} {to = to} {c = c} (order w o e) fits t ns ms inv a x = λ k. order-step h ns inv w ms t to c a x k fits e
+exchange-step {h} {to = to} {c = c} (order w o e y) fits t ns ms inv a x = λ k. order-step h ns inv w ms t to c a x k fits e
 exchange-step {h} (regroup {i = i} {g = g} {leader = leader} w o f) fits t ns ms inv a x = regroup-step h ns ms inv w t i g leader a f x fits

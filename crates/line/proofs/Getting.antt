@@ -9,7 +9,7 @@ use Rattle.wire.specs.declared.address.Address.{Address}
 use Rattle.wire.proofs.Choice.{same, chose-first}
 use Rattle.wire.proofs.Impossible.{impossible}
 use Rattle.node.specs.declared.state.Node.{Node}
-use Rattle.message.specs.declared.Message.{Message}
+use Rattle.message.specs.declared.Messages.{Messages}
 use Rattle.message.specs.Message.{isAnswered}
 use Rattle.survey.specs.Chain.{repliersFrom, replierIn, reply, collided, said}
 use Rattle.survey.proofs.Repliers.{Rising, lower, Replies, repliers-rise, Speaks, one-speaks, Two, two-speak}
@@ -51,7 +51,7 @@ getting-all : (is : List ℕ) → getting (λ i. true) is ≡ is
 getting-all [] = refl
 getting-all (i ∷ is) = ap (λ (js : List ℕ). i ∷ js) (getting-all is)
 
-pub among-all : (to : Address) (m : Message) (ns : List Node) → saidAmong (λ i. true) to m ns ≡ said to m ns
+pub among-all : (to : Address) (m : Messages) (ns : List Node) → saidAmong (λ i. true) to m ns ≡ said to m ns
 unfolding said replierIn
 among-all to m ns = rw (getting-all (repliersFrom to 0 true ns)) refl
 
@@ -68,14 +68,14 @@ getting-rises gets P low (i ∷ is) u = go (gets i) refl (getting-rises gets P (
     go true e rest = (u .0, (u .1, e), rest)
     go false e rest = lower (λ j. P j × (gets j ≡ true)) low (suc i) (getting gets is) (omega (arith, u .0)) rest
 
-module _ (gets : ℕ → Bool) (to : Address) (m : Message) (ns : List Node) where
+module _ (gets : ℕ → Bool) (to : Address) (m : Messages) (ns : List Node) where
   rises : Rising (Calling gets to ns) 0 (getting gets (repliersFrom to 0 true ns))
   rises = getting-rises gets (Replies to ns) 0 (repliersFrom to 0 true ns) (repliers-rise to ns)
 
   -- the one reply is that of a node that gets the packet, hears and answers
   pub among-says : (r : List ℕ) → saidAmong gets to m ns ≡ reply r → Speaks (Calling gets to ns) m ns r
-  among-says r e = one-speaks (Calling gets to ns) m ns (getting gets (repliersFrom to 0 true ns)) r rises (chose-first (isAnswered m) e (λ z. impossible cc) .1)
+  among-says r e = one-speaks (Calling gets to ns) m ns (getting gets (repliersFrom to 0 true ns)) r rises (chose-first (isAnswered (m .gate)) e (λ z. impossible cc) .1)
 
   -- several are those of two such nodes
   pub among-two : saidAmong gets to m ns ≡ collided → Two (Calling gets to ns)
-  among-two e = two-speak (Calling gets to ns) m ns (getting gets (repliersFrom to 0 true ns)) rises (chose-first (isAnswered m) e (λ z. impossible cc) .1)
+  among-two e = two-speak (Calling gets to ns) m ns (getting gets (repliersFrom to 0 true ns)) rises (chose-first (isAnswered (m .gate)) e (λ z. impossible cc) .1)

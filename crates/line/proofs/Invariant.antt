@@ -8,7 +8,7 @@ use lib.Dec.{eqb}
 use lib.ListN.{length, getD}
 use Rattle.wire.specs.declared.address.Address.{Address}
 use Rattle.command.specs.declared.Command.{Command}
-use Rattle.command.specs.Build.{placeFits}
+use Rattle.command.specs.Ranges.{placeFits}
 use Rattle.command.specs.Role.{roleOf}
 use Rattle.status.specs.declared.Answer.{Answer}
 use Rattle.status.specs.declared.Answer.the-variants.{Clear, Marked}
@@ -75,6 +75,8 @@ pub record Invariant (h : Session) (ns : List Node) : Type 0 where
   pub alone : Alone (h .n) ns
   -- every place is of its range
   pub fit : (i : ℕ) → i < h .n → placeFits (at ns i .settings .place) ≡ true
+  -- the kinds told are the nodes' own
+  pub kinds : (i : ℕ) → i < h .n → entryAt h i .kind ≡ at ns i .kind
 
 -- the node of index i acts on a command to this address, if it comes to it whole
 abbrev pub acts : Address → List Node → ℕ → Bool
@@ -99,6 +101,7 @@ pub record Exchanged (called : Address) (c : Command) (ns ms : List Node) (a : A
   pub long : length ms ≡ length ns
   pub settings : (i : ℕ) → i < length ns → at ms i .settings ≡ cond (did i) (settingsAfter c (at ns i .settings)) (at ns i .settings)
   pub addressed : (i : ℕ) → i < length ns → at ms i .addressed ≡ cond (did i) (addressedAfter (roleOf c) (at ns i .addressed)) (at ns i .addressed)
+  pub kind : (i : ℕ) → i < length ns → at ms i .kind ≡ at ns i .kind
   -- what the answer tells
   pub marked : a ≡ Marked → (i : ℕ) → did i ≡ false
   pub clear : a ≡ Clear → Answered called ns did

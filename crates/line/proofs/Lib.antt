@@ -12,6 +12,7 @@ mod Peace
 mod Delivery
 mod Step
 mod Ready
+mod Suits
 mod Walk
 mod Exchange
 mod Benching

@@ -36,11 +36,12 @@ use Rattle.line.specs.Call.{whatOf}
 use Rattle.line.specs.Line.{reportedOf, answerIn}
 use Rattle.line.specs.Missed.{Left, OnlyPowerUp}
 use Rattle.line.proofs.Due.{Due, next, ask, order, regroup, call-sends}
-use Rattle.line.proofs.Closing.{waitingAt, entryAt, due-opens, reported-concludes}
+use Rattle.line.proofs.Closing.{waitingAt, entryAt, due-opens, reported-concludes, due-waits}
 use Rattle.line.proofs.Returning.{marked-returns, quiet-returns}
 use Rattle.line.proofs.Invariant.{at, EdgeAt, Invariant, Answered, Exchanged}
 use Rattle.line.proofs.Peace.{none-collided}
 use Rattle.line.proofs.Walk.{nobody-answers}
+use Rattle.line.proofs.Suits.{suits}
 use Rattle.line.proofs.Delivery.{exchanged}
 use Rattle.line.proofs.Course.{when-idle, holds}
 
@@ -84,7 +85,7 @@ asked s t ns ms p inv idle u d f r x = go d refl f x
         let g : t ≡ waitingAt s (nodeAt (s .walk + 1)) Nop = f ∙ due-opens d in
         (rw g (reported-concludes d (inv .few) (inv .walked) (inv .full) (inv .begun) r ∙ unconfirmed s idle (answerIn r) (o .0)), o .1)
     go (next l k) e f x = absurd (true≢false (cc e))
-    go (order w o n) e f x = absurd (true≢false (cc e))
+    go (order w o n y) e f x = absurd (true≢false (cc e))
     go (regroup w o n) e f x = absurd (true≢false (cc e))
 
 -- no other call sends
@@ -107,7 +108,8 @@ only-power-up w comes up idle m =
       alone = alone (w .host) (m .walking) (m .unconfirmed);
       same = λ out n e q r arrives returns.
           let a = call-sends Ask tt refl (w .host) out n e in
-          let x = exchanged (a .called) (a .command) (w .nodes) (a .goes .range) (a .goes .fits) (a .typed) (none-collided (w .host) (w .nodes) i)
+          let x = exchanged (a .called) (a .command) (w .nodes) (a .goes .range) (a .goes .fits) (a .typed) (due-waits (a .due))
+          (λ j l. suits (a .due) (w .nodes) i j (omega (arith, i .long))) (none-collided (w .host) (w .nodes) i)
           (rw (a .goes .packet) at arrives) returns in
           rw (index (w .host .walk)) (asked (w .host) _ (w .nodes) _ (take n (callPerform Ask (w .host) out .left)) i idle u (a .due) (a .goes .after) r x);
     }

@@ -9,12 +9,12 @@ use Rattle.buffer.specs.Sum.{total, endsInSum}
 use Rattle.buffer.specs.Buffer.{written}
 use Rattle.packet.specs.Packet.{dataPart, frameOf, isIntact}
 use Rattle.command.specs.declared.Command.the-variants.{SetAddress, SynchOutput, SetOutputs, SetSynchOutput}
-use Rattle.command.specs.Command.{listedOf, commandRead}
-use Rattle.command.specs.Build.{buildFor, commandBuild}
+use Rattle.codec.specs.Reading.{sharedRows, gateRows, driveRows, motionOf, codecRead}
+use Rattle.codec.specs.Build.{buildFor, codecBuild}
 use Rattle.status.specs.Status.{judgeOf}
 use Rattle.status.specs.declared.Answer.the-variants.{Silent}
 use Rattle.node.specs.declared.state.Node.{Node}
-use Rattle.node.specs.Node.{actOf}
+use Rattle.node.specs.Node.{actAs}
 use Rattle.reply.specs.Items.{replyItems}
 use Rattle.reply.specs.Reply.{replyOf}
 use Rattle.survey.specs.One.{doesAct, doesReply, turned}
@@ -22,7 +22,7 @@ use Rattle.survey.specs.Chain.{after}
 use Rattle.survey.specs.Delivery.{frameAlone}
 use Rattle.entry.specs.declared.Entry.{Entry}
 use Rattle.entry.specs.Entry.{confirmOf, doubtOf}
-use Rattle.ledger.specs.Ledger.{ledgerLeast, eachFrom, settleOf, ledFrom, isLed}
+use Rattle.ledger.specs.Ledger.{ledgerLeast, eachFrom, settleOf, anyFrom, isLed}
 use Rattle.session.specs.declared.Exchange.{Exchange}
 use Rattle.session.specs.declared.Exchange.the-variants.{Idle, Waiting}
 use Rattle.session.specs.declared.Session.{Session}
@@ -44,13 +44,13 @@ session x e f = pair 2 x e f rest
 
 -- a node and its entry, with a place in the group, and with the set to hold too
 abbrev grouped : ℕ → Bool → Node
-grouped k leader = actOf (SetAddress (inGroup k leader)) (placed k 0)
+grouped k leader = actAs Gate (SetAddress (inGroup k leader)) (placed k 0)
 
 abbrev groupedEntry : ℕ → Bool → Entry
 groupedEntry k leader = confirmOf (SetAddress (inGroup k leader)) (addressed k)
 
 abbrev holding : ℕ → Bool → Node
-holding k leader = actOf (SetSynchOutput opened) (grouped k leader)
+holding k leader = actAs Gate (SetSynchOutput opened) (grouped k leader)
 
 abbrev holdingEntry : ℕ → Bool → Entry
 holdingEntry k leader = confirmOf (SetSynchOutput opened) (groupedEntry k leader)
@@ -71,29 +71,29 @@ sets = 0xAA ∷ 0x80 ∷ 0x26 ∷ 0x05 ∷ 0x00 ∷ 0xAB ∷ []
 leads : Round (Regroup (record { 0 = 1 }) (record { 0 = 0x80 }) true) (sends (nodeAt 1) (SetAddress (inGroup 1 true))) (joins 1 0x00) (λ i. true)
     (session Idle (addressed 1) (addressed 2)) (session (Waiting (nodeAt 1) (SetAddress (inGroup 1 true))) (addressed 1) (addressed 2))
     (placed 1 0 ∷ placed 2 0 ∷ []) (grouped 1 true ∷ placed 2 0 ∷ [])
-unfolding regroupOf regroupCheck hasRival isLed ledFrom ledgerLeast freeCheck isClosed isValid isWaiting isAskDue transmitOf openExchange commandBuild buildFor written total
-    frameOf frameAlone dataPart isIntact endsInSum commandRead listedOf after turned doesAct doesReply replyOf replyItems
+unfolding regroupOf regroupCheck hasRival isLed anyFrom ledgerLeast freeCheck isClosed isValid isWaiting isAskDue transmitOf openExchange codecBuild buildFor written total
+    frameOf frameAlone dataPart isIntact endsInSum codecRead sharedRows gateRows driveRows motionOf after turned doesAct doesReply replyOf replyItems
 leads = record { typed = omega arith; sends = λ past. refl; nodes = refl; says = refl }
 
 follows : Round (Regroup (record { 0 = 2 }) (record { 0 = 0x80 }) false) (sends (nodeAt 2) (SetAddress (inGroup 2 false))) (joins 2 0x80) (λ i. true)
     (session Idle (groupedEntry 1 true) (addressed 2)) (session (Waiting (nodeAt 2) (SetAddress (inGroup 2 false))) (groupedEntry 1 true) (addressed 2))
     (grouped 1 true ∷ placed 2 0 ∷ []) (grouped 1 true ∷ grouped 2 false ∷ [])
-unfolding regroupOf regroupCheck hasRival isLed ledFrom ledgerLeast freeCheck isClosed isValid isWaiting isAskDue transmitOf openExchange commandBuild buildFor written total
-    frameOf frameAlone dataPart isIntact endsInSum commandRead listedOf after turned doesAct doesReply replyOf replyItems
+unfolding regroupOf regroupCheck hasRival isLed anyFrom ledgerLeast freeCheck isClosed isValid isWaiting isAskDue transmitOf openExchange codecBuild buildFor written total
+    frameOf frameAlone dataPart isIntact endsInSum codecRead sharedRows gateRows driveRows motionOf after turned doesAct doesReply replyOf replyItems
 follows = record { typed = omega arith; sends = λ past. refl; nodes = refl; says = refl }
 
 hold-1 : Round (Order (nodeAt 1) (SetSynchOutput opened)) (sends (nodeAt 1) (SetSynchOutput opened)) (holds 1) (λ i. true)
     (session Idle (groupedEntry 1 true) (groupedEntry 2 false)) (session (Waiting (nodeAt 1) (SetSynchOutput opened)) (groupedEntry 1 true) (groupedEntry 2 false))
     (grouped 1 true ∷ grouped 2 false ∷ []) (holding 1 true ∷ grouped 2 false ∷ [])
-unfolding orderOf orderCheck freeCheck isClosed isValid isWaiting transmitOf openExchange commandBuild buildFor written total
-    frameOf frameAlone dataPart isIntact endsInSum commandRead listedOf after turned doesAct doesReply replyOf replyItems
+unfolding orderOf orderCheck isLacked anyFrom ledgerLeast freeCheck isClosed isValid isWaiting transmitOf openExchange codecBuild buildFor written total
+    frameOf frameAlone dataPart isIntact endsInSum codecRead sharedRows gateRows driveRows motionOf after turned doesAct doesReply replyOf replyItems
 hold-1 = record { typed = tt; sends = λ past. refl; nodes = refl; says = refl }
 
 hold-2 : Round (Order (nodeAt 2) (SetSynchOutput opened)) (sends (nodeAt 2) (SetSynchOutput opened)) (holds 2) (λ i. true)
     (session Idle (holdingEntry 1 true) (groupedEntry 2 false)) (session (Waiting (nodeAt 2) (SetSynchOutput opened)) (holdingEntry 1 true) (groupedEntry 2 false))
     (holding 1 true ∷ grouped 2 false ∷ []) (holding 1 true ∷ holding 2 false ∷ [])
-unfolding orderOf orderCheck freeCheck isClosed isValid isWaiting transmitOf openExchange commandBuild buildFor written total
-    frameOf frameAlone dataPart isIntact endsInSum commandRead listedOf after turned doesAct doesReply replyOf replyItems
+unfolding orderOf orderCheck isLacked anyFrom ledgerLeast freeCheck isClosed isValid isWaiting transmitOf openExchange codecBuild buildFor written total
+    frameOf frameAlone dataPart isIntact endsInSum codecRead sharedRows gateRows driveRows motionOf after turned doesAct doesReply replyOf replyItems
 hold-2 = record { typed = tt; sends = λ past. refl; nodes = refl; says = refl }
 
 -- the group is made, and both hold their set
@@ -104,18 +104,18 @@ ready = round (round (round (round walks leads (replied refl)) follows (replied 
 -- Synch Output to the group: node 1 gets it and replies, whether node 2 does or not
 module _ (got : Bool) where
   abbrev second : Node
-  second = cond got (actOf SynchOutput (holding 2 false)) (holding 2 false)
+  second = cond got (actAs Gate SynchOutput (holding 2 false)) (holding 2 false)
 
   pass : Round (Order group80 SynchOutput) (sends group80 SynchOutput) (synch 0x80) (λ i. eqb i 0 || got)
       (session Idle (holdingEntry 1 true) (holdingEntry 2 false)) (session (Waiting group80 SynchOutput) (holdingEntry 1 true) (holdingEntry 2 false))
-      (holding 1 true ∷ holding 2 false ∷ []) (actOf SynchOutput (holding 1 true) ∷ second ∷ [])
-  unfolding orderOf orderCheck freeCheck isClosed isValid isWaiting transmitOf openExchange commandBuild buildFor written total
-      frameOf frameAlone dataPart isIntact endsInSum commandRead listedOf after turned doesAct doesReply replyOf replyItems
+      (holding 1 true ∷ holding 2 false ∷ []) (actAs Gate SynchOutput (holding 1 true) ∷ second ∷ [])
+  unfolding orderOf orderCheck isLacked anyFrom ledgerLeast freeCheck isClosed isValid isWaiting transmitOf openExchange codecBuild buildFor written total
+      frameOf frameAlone dataPart isIntact endsInSum codecRead sharedRows gateRows driveRows motionOf after turned doesAct doesReply replyOf replyItems
   pass = record { typed = omega arith; sends = λ past. refl; nodes = refl; says = refl }
 
   -- its clear reply confirms it at node 1, the leader, and puts node 2 in doubt
   pub group-passed : Comes (worldAt (session Idle (confirmOf SynchOutput (holdingEntry 1 true)) (doubtOf SynchOutput (holdingEntry 2 false)))
-      (actOf SynchOutput (holding 1 true) ∷ second ∷ []) quiet passed)
+      (actAs Gate SynchOutput (holding 1 true) ∷ second ∷ []) quiet passed)
   unfolding reportOf finishOf isClosed isValid concludeOf isGiving isAsking settleOf eachFrom ledgerLeast judgeOf endsInSum total
   group-passed = round ready pass (replied refl)
 
@@ -123,13 +123,13 @@ module _ (got : Bool) where
 hand : Round (Order (nodeAt 2) SynchOutput) (sends (nodeAt 2) SynchOutput) (synch 0x02) (λ i. true)
     (session Idle (confirmOf SynchOutput (holdingEntry 1 true)) (doubtOf SynchOutput (holdingEntry 2 false)))
     (session (Waiting (nodeAt 2) SynchOutput) (confirmOf SynchOutput (holdingEntry 1 true)) (doubtOf SynchOutput (holdingEntry 2 false)))
-    (actOf SynchOutput (holding 1 true) ∷ holding 2 false ∷ []) (actOf SynchOutput (holding 1 true) ∷ actOf SynchOutput (holding 2 false) ∷ [])
-unfolding orderOf orderCheck freeCheck isClosed isValid isWaiting transmitOf openExchange commandBuild buildFor written total
-    frameOf frameAlone dataPart isIntact endsInSum commandRead listedOf after turned doesAct doesReply replyOf replyItems
+    (actAs Gate SynchOutput (holding 1 true) ∷ holding 2 false ∷ []) (actAs Gate SynchOutput (holding 1 true) ∷ actAs Gate SynchOutput (holding 2 false) ∷ [])
+unfolding orderOf orderCheck isLacked anyFrom ledgerLeast freeCheck isClosed isValid isWaiting transmitOf openExchange codecBuild buildFor written total
+    frameOf frameAlone dataPart isIntact endsInSum codecRead sharedRows gateRows driveRows motionOf after turned doesAct doesReply replyOf replyItems
 hand = record { typed = tt; sends = λ past. refl; nodes = refl; says = refl }
 
 pub by-itself : Comes (worldAt (session Idle (confirmOf SynchOutput (holdingEntry 1 true)) (confirmOf SynchOutput (doubtOf SynchOutput (holdingEntry 2 false))))
-    (actOf SynchOutput (holding 1 true) ∷ actOf SynchOutput (holding 2 false) ∷ []) quiet handed)
+    (actAs Gate SynchOutput (holding 1 true) ∷ actAs Gate SynchOutput (holding 2 false) ∷ []) quiet handed)
 unfolding reportOf finishOf isClosed isValid concludeOf isGiving isAsking settleOf eachFrom ledgerLeast judgeOf endsInSum total
 by-itself = round (group-passed false) hand (replied refl)
 
@@ -142,12 +142,12 @@ leader-in-doubt = round walks leads (unheard refl)
 command : Round (Order group80 (SetOutputs 5)) (sends group80 (SetOutputs 5)) sets (λ i. true)
     (session Idle (doubtOf (SetAddress (inGroup 1 true)) (addressed 1)) (addressed 2))
     (session (Waiting group80 (SetOutputs 5)) (doubtOf (SetAddress (inGroup 1 true)) (addressed 1)) (addressed 2))
-    (grouped 1 true ∷ placed 2 0 ∷ []) (actOf (SetOutputs 5) (grouped 1 true) ∷ placed 2 0 ∷ [])
-unfolding orderOf orderCheck freeCheck isClosed isValid isWaiting transmitOf openExchange commandBuild buildFor written total
-    frameOf frameAlone dataPart isIntact endsInSum commandRead listedOf after turned doesAct doesReply replyOf replyItems
+    (grouped 1 true ∷ placed 2 0 ∷ []) (actAs Gate (SetOutputs 5) (grouped 1 true) ∷ placed 2 0 ∷ [])
+unfolding orderOf orderCheck isLacked anyFrom ledgerLeast freeCheck isClosed isValid isWaiting transmitOf openExchange codecBuild buildFor written total
+    frameOf frameAlone dataPart isIntact endsInSum codecRead sharedRows gateRows driveRows motionOf after turned doesAct doesReply replyOf replyItems
 command = record { typed = omega arith; sends = λ past. refl; nodes = refl; says = refl }
 
 pub leader-unknown : Comes (worldAt (session Idle (doubtOf (SetOutputs 5) (doubtOf (SetAddress (inGroup 1 true)) (addressed 1))) (addressed 2))
-    (actOf (SetOutputs 5) (grouped 1 true) ∷ placed 2 0 ∷ []) quiet leaderInDoubt)
+    (actAs Gate (SetOutputs 5) (grouped 1 true) ∷ placed 2 0 ∷ []) quiet leaderInDoubt)
 unfolding reportOf finishOf isClosed isValid concludeOf isGiving isAsking settleOf eachFrom ledgerLeast judgeOf endsInSum total
 leader-unknown = round leader-in-doubt command (replied refl)

@@ -11,7 +11,7 @@ use Rattle.wire.specs.declared.address.Address.{Address}
 use Rattle.wire.specs.declared.address.Address.the-variants as address
 use Rattle.wire.proofs.Choice.{both}
 use Rattle.node.specs.declared.state.Node.{Node}
-use Rattle.message.specs.declared.Message.{Message}
+use Rattle.message.specs.declared.Messages.{Messages}
 use Rattle.survey.specs.One.{isAnswering}
 use Rattle.survey.specs.Chain.{collided, hearsAt, repliesAt}
 use Rattle.session.specs.declared.Session.{Session}
@@ -73,7 +73,7 @@ module _ (h : Session) (ns : List Node) (inv : Invariant h ns) where
       let y = both (hearsAt ns j) (isAnswering (address.Group g) (at ns j .settings .place)) q in
       inv .alone (g .0) i j l m (x .1) (y .1)
 
-  pub none-collided : (gets : ℕ → Bool) (to : Address) (message : Message) → saidAmong gets to message ns ≡ collided → ⊥
+  pub none-collided : (gets : ℕ → Bool) (to : Address) (message : Messages) → saidAmong gets to message ns ≡ collided → ⊥
   none-collided gets to message e =
       let t = among-two gets to message ns e in
       let n = inv .long in

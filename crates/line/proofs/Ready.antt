@@ -15,14 +15,14 @@ use Rattle.wire.proofs.Choice.{chose-first, both}
 use Rattle.command.specs.declared.Place.{Place}
 use Rattle.command.specs.declared.Command.{Command}
 use Rattle.command.specs.declared.Command.the-variants.{SetAddress}
-use Rattle.command.specs.Build.{fitsOf}
+use Rattle.command.specs.Ranges.{fitsOf}
 use Rattle.command.specs.Role.{roleOf}
 use Rattle.status.specs.declared.Answer.{Answer}
 use Rattle.node.specs.declared.state.Node.{Node}
 use Rattle.node.specs.Setting.{place}
 use Rattle.node.specs.Effect.{effect, writes, settingsAfter}
 use Rattle.node.specs.Node.{addressedAfter}
-use Rattle.node.proofs.Laws.{addressed-stays, unwritten-stays}
+use Rattle.node.proofs.Laws.{addressed-after, unwritten-stays}
 use Rattle.survey.specs.One.{isMeant}
 use Rattle.survey.specs.Chain.{hearsAt, repliesAt}
 use Rattle.entry.specs.declared.Reach.the-variants.{Misses, Hits, May}
@@ -62,7 +62,7 @@ module _ (h : Session) (ns : List Node) (inv : Invariant h ns) (ended : h .walk 
   fits-group g i l b f false k = tt
 
   -- b: any fact that makes the node one that acts
-  fits-ready : (to : Address) (i : ℕ) → i < h .n → (b : Bool) → (b ≡ true → acts to ns i ≡ true) → Fits (reachOf to (suc i) (entryAt h i)) b
+  pub fits-ready : (to : Address) (i : ℕ) → i < h .n → (b : Bool) → (b ≡ true → acts to ns i ≡ true) → Fits (reachOf to (suc i) (entryAt h i)) b
   fits-ready (address.Individual j) i l b f = fits-test (eqb (j .0) (suc i)) b (λ e. eq-eqb (j .0) (suc i) (acts-node j i l (f e)))
   fits-ready (address.Group g) i l b f = fits-group g i l b f (knows (entryAt h i) place) refl
 
@@ -109,7 +109,7 @@ module _ (h : Session) (ns : List Node) (inv : Invariant h ns) (ended : h .walk 
     pub order-step : fitsOf c ≡ true → writes (effect c place) ≡ false → Invariant t ms
     order-step fits w =
         ready-step fits
-        (λ i l e. rw (unwritten-stays c (at ns i .settings) place w, addressed-stays c (at ns i) w) (inv .front i (omega arith)))
+        (λ i l e. rw (unwritten-stays c (at ns i .settings) place w, addressed-after c (at ns i .addressed) w) (inv .front i (omega arith)))
         (shrinks h ns ms inv to c a x (λ g i e. rw (unwritten-stays c (at ns i .settings) place w) at e))
 
 -- "regroup": a node that leads group g afterwards led it before, or is the one that was sent to, and g the group that it was given

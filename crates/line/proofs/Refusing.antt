@@ -4,6 +4,7 @@ use mathlib.Core.List.{List}
 use mathlib.Core.Option.{Option, none, some}
 use mathlib.Core.Path.{_≡_, sym, ap, _∙_}
 use Rattle.wire.specs.Numbers.{done}
+use Rattle.wire.specs.declared.kind.Kind.{Kind}
 use Rattle.wire.specs.declared.refusal.Refusal.{Refusal}
 use Rattle.wire.proofs.Numbers.{not-done}
 use Rattle.status.specs.declared.Answer.the-variants.{Silent}
@@ -22,8 +23,8 @@ use Rattle.line.specs.Line.{reportedOf}
 refused-not-done : (t : Step) (why : Refusal) → t .end ≡ Refused why → stepNumber t ≡ done → ⊥
 refused-not-done t why e f = not-done why (sym (ap endNumber e) ∙ f)
 
-pub refused-power : (s : Session) (n : ℕ) (why : Refusal) → startPowerUp s n .end ≡ Refused why → startPowerUp s n .session ≡ s
-refused-power s n why e = power-up-stays s n (refused-not-done (startPowerUp s n) why e)
+pub refused-power : (s : Session) (n : ℕ) (ks : List Kind) (why : Refusal) → startPowerUp s n ks .end ≡ Refused why → startPowerUp s n ks .session ≡ s
+refused-power s n ks why e = power-up-stays s n ks (refused-not-done (startPowerUp s n ks) why e)
 
 pub refused-call : (k : Call) (s : Session) (out : List ℕ) (why : Refusal) → callPerform k s out .answer .end ≡ Refused why → callPerform k s out .answer .session ≡ s
 refused-call k s out why e = call-stays k s out (refused-not-done (callPerform k s out .answer) why e)

@@ -9,14 +9,13 @@ use Rattle.buffer.specs.Sum.{total, endsInSum}
 use Rattle.buffer.specs.Buffer.{written}
 use Rattle.packet.specs.Packet.{dataPart, frameOf, isIntact}
 use Rattle.command.specs.declared.Command.the-variants.{SetAddress, SetOutputs}
-use Rattle.command.specs.Command.{listedOf, commandRead}
-use Rattle.command.specs.Build.{buildFor, commandBuild}
+use Rattle.codec.specs.Reading.{sharedRows, gateRows, driveRows, motionOf, codecRead}
+use Rattle.codec.specs.Build.{buildFor, codecBuild}
 use Rattle.status.specs.Status.{judgeOf}
 use Rattle.status.specs.declared.Answer.{Answer}
 use Rattle.status.specs.declared.Answer.the-variants.{Clear, Silent}
-use Rattle.node.specs.declared.state.Bench.{Bench}
 use Rattle.node.specs.declared.state.Node.{Node}
-use Rattle.node.specs.Node.{powerUp, actOf}
+use Rattle.node.specs.Node.{powerUp, actAs}
 use Rattle.reply.specs.Items.{replyItems}
 use Rattle.reply.specs.Reply.{replyOf}
 use Rattle.survey.specs.One.{doesAct, doesReply, turned}
@@ -96,7 +95,7 @@ powers = power (start []) (zeros ∷ zeros ∷ []) refl
 
 -- node k with its address and its outputs
 abbrev pub placed : ℕ → ℕ → Node
-placed k outputs = actOf (SetOutputs outputs) (actOf (SetAddress (givenPlace k)) up)
+placed k outputs = actAs Gate (SetOutputs outputs) (actAs Gate (SetAddress (givenPlace k)) up)
 
 -- "next", for the first node and for the second: AA 00 21 01 FF 21, AA 00 21 02 FF 22
 abbrev pub given : ℕ → List ℕ
@@ -106,8 +105,8 @@ abbrev pub opened1 : Session
 opened1 = pair 0 (Waiting (nodeAt 1) (SetAddress (givenPlace 1))) entryPowerUp entryPowerUp rest
 
 pub next-1 : Round Next (gives 1) (given 1) (λ i. true) (pair 0 Idle entryPowerUp entryPowerUp rest) opened1 (up ∷ up ∷ []) (placed 1 0 ∷ up ∷ [])
-unfolding nextOf nextCheck freeCheck isClosed isValid isWaiting isAskDue transmitOf openExchange commandBuild buildFor written total
-    frameOf frameAlone dataPart isIntact endsInSum commandRead listedOf after turned doesAct doesReply replyOf replyItems
+unfolding nextOf nextCheck freeCheck isClosed isValid isWaiting isAskDue transmitOf openExchange codecBuild buildFor written total
+    frameOf frameAlone dataPart isIntact endsInSum codecRead sharedRows gateRows driveRows motionOf after turned doesAct doesReply replyOf replyItems
 next-1 = record { typed = tt; sends = λ past. refl; nodes = refl; says = refl }
 
 first : Comes (worldAt (pair 1 Idle (addressed 1) entryPowerUp rest) (placed 1 0 ∷ up ∷ []) quiet (record { what = gives 1; answer = Clear } ∷ []))
@@ -116,8 +115,8 @@ first = round powers next-1 (replied refl)
 
 next-2 : Round Next (gives 2) (given 2) (λ i. true) (pair 1 Idle (addressed 1) entryPowerUp rest)
     (pair 1 (Waiting (nodeAt 2) (SetAddress (givenPlace 2))) (addressed 1) entryPowerUp rest) (placed 1 0 ∷ up ∷ []) (placed 1 0 ∷ placed 2 0 ∷ [])
-unfolding nextOf nextCheck freeCheck isClosed isValid isWaiting isAskDue transmitOf openExchange commandBuild buildFor written total
-    frameOf frameAlone dataPart isIntact endsInSum commandRead listedOf after turned doesAct doesReply replyOf replyItems
+unfolding nextOf nextCheck freeCheck isClosed isValid isWaiting isAskDue transmitOf openExchange codecBuild buildFor written total
+    frameOf frameAlone dataPart isIntact endsInSum codecRead sharedRows gateRows driveRows motionOf after turned doesAct doesReply replyOf replyItems
 next-2 = record { typed = tt; sends = λ past. refl; nodes = refl; says = refl }
 
 -- the walk, each step of it replied to

@@ -2,18 +2,20 @@
 use Prim.Native.Nat.{ℕ, suc, _≤_, _<_}
 use mathlib.Core.Bool.{Bool, true, false, cond}
 use mathlib.Core.List.{List}
-use mathlib.Core.Path.{_≡_, sym, _∙_}
+use mathlib.Core.Path.{_≡_, sym, ap, _∙_}
 use native.Mathlib.Omega.{arith}
 use Rattle.wire.specs.declared.address.Address.{Address}
 use Rattle.command.specs.declared.Command.{Command}
-use Rattle.command.specs.Build.{placeFits, fitsOf}
+use Rattle.command.specs.Ranges.{placeFits, fitsOf}
 use Rattle.status.specs.declared.Answer.{Answer}
 use Rattle.status.specs.declared.Answer.the-variants.{Clear}
 use Rattle.node.specs.declared.state.Node.{Node}
 use Rattle.node.specs.Effect.{settingsAfter}
 use Rattle.node.proofs.Laws.{fit-after}
 use Rattle.entry.specs.declared.Reach.the-variants.{Hits}
+use Rattle.entry.specs.declared.Entry.{Entry}
 use Rattle.entry.specs.Entry.{noteOf}
+use Rattle.entry.proofs.Entries.{kind-noted}
 use Rattle.ledger.specs.Ledger.{reachOf}
 use Rattle.session.specs.declared.Session.{Session}
 use Rattle.line.proofs.Closing.{entryAt, Concluded}
@@ -72,4 +74,7 @@ module _ (h : Session) (ns ms : List Node) (inv : Invariant h ns) (called : Addr
           edge = λ l. rw (k .walk, k .entry w (omega (arith, k .walk))) (edge (omega (arith, k .walk)));
           alone = λ g i j l e. alone g i j (omega arith) (omega arith);
           fit = λ i l. rw (x .settings i (omega (arith, inv .long))) (fit-if fits (x .did i) i (omega arith));
+          kinds = λ i l.
+              ap (λ (e : Entry). e .kind) (k .entry i (omega arith)) ∙ kind-noted a (reachOf to (suc i) (entryAt h i)) m (entryAt h i) ∙ inv .kinds i (omega arith)
+              ∙ sym (x .kind i (omega (arith, inv .long)));
         }

@@ -12,7 +12,7 @@ use Rattle.wire.proofs.Choice.{both, same}
 use Rattle.command.specs.declared.Place.{Place}
 use Rattle.command.specs.declared.Command.{Command}
 use Rattle.command.specs.declared.Command.the-variants.{SetAddress, Nop}
-use Rattle.command.specs.Build.{fitsOf}
+use Rattle.command.specs.Ranges.{fitsOf}
 use Rattle.status.specs.declared.Answer.{Answer}
 use Rattle.status.specs.declared.Answer.the-variants.{Clear, Marked, Silent}
 use Rattle.node.specs.declared.state.Settings.{Settings}

@@ -4,16 +4,15 @@ use mathlib.Core.Bool.{true}
 use mathlib.Core.List.{List, map}
 use mathlib.Core.Path.{_≡_}
 use lib.ListN.{length}
-use Rattle.node.specs.declared.state.Bench.{Bench}
+use Rattle.wire.specs.declared.kind.Kind.{Kind}
 use Rattle.node.specs.Setting.{place, get}
-use Rattle.node.specs.Node.{powerUp}
 use Rattle.entry.specs.Entry.{knows, shows}
 use Rattle.session.specs.declared.End.the-variants.{Done}
 use Rattle.session.specs.Session.{entryOf}
 use Rattle.start.specs.Start.{startPowerUp}
 use Rattle.line.specs.History.{gives}
 use Rattle.line.specs.Line.{going, toAll, nodesAfter}
-use Rattle.line.specs.World.{World, Comes}
+use Rattle.line.specs.World.{World, Device, poweredUp, Told, Comes}
 use Rattle.line.specs.Demand3.{nodeOf}
 
 -- the first "next" is on its way when the host is told of a power-up
@@ -22,9 +21,11 @@ pub record Late : Type 0 where
   pub comes : Comes world
   pub packet : List ℕ
   pub sent : world .line ≡ going (gives 1) packet
-  pub bench : List Bench
-  pub told : startPowerUp (world .host) (length bench) .end ≡ Done
+  pub devices : List Device
+  pub kinds : List Kind
+  pub told : Told kinds devices
+  pub accepted : startPowerUp (world .host) (length devices) kinds .end ≡ Done
   -- the place of node 1 is known; were the packet to arrive now, the node would hold another
-  pub known : knows (entryOf (startPowerUp (world .host) (length bench) .session) 1) place ≡ true
-  pub differs : shows (entryOf (startPowerUp (world .host) (length bench) .session) 1) place
-      ≡ get (nodeOf (nodesAfter (toAll packet) (map powerUp bench)) 1 .settings) place → ⊥
+  pub known : knows (entryOf (startPowerUp (world .host) (length devices) kinds .session) 1) place ≡ true
+  pub differs : shows (entryOf (startPowerUp (world .host) (length devices) kinds .session) 1) place
+      ≡ get (nodeOf (nodesAfter (toAll packet) (map poweredUp devices)) 1 .settings) place → ⊥

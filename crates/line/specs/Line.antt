@@ -11,9 +11,9 @@ use Rattle.status.specs.Status.{judgeOf}
 use Rattle.status.specs.declared.Answer.{Answer}
 use Rattle.status.specs.declared.Answer.the-variants.{Silent}
 use Rattle.node.specs.declared.state.Node.{Node}
-use Rattle.message.specs.declared.Message.{Message}
+use Rattle.message.specs.declared.Messages.{Messages}
 use Rattle.message.specs.Message.{isAnswered}
-use Rattle.survey.specs.One.{messageAs}
+use Rattle.survey.specs.One.{messagesAs}
 use Rattle.survey.specs.Chain.{after, repliersFrom, searchOf, Said, silence, reply, collided, saidBy}
 use Rattle.survey.specs.Delivery.{frameAlone}
 use Rattle.session.specs.declared.Session.{Session}
@@ -50,7 +50,7 @@ pub data Arrives (p : List ℕ) : Arrival → Type 0 where
 
 -- the nodes after the bytes q, as the chain delivers them
 abbrev pub takenBy : Framed → List ℕ → List Node → List Node
-takenBy (framed.Whole to k n) q ns = after to (messageAs k q) ns
+takenBy (framed.Whole to k n) q ns = after to (messagesAs k q) ns
 takenBy (framed.Refused why) q ns = ns
 
 -- a node that gets them is as in the second list, one that misses them as in the first
@@ -69,12 +69,12 @@ getting gets [] = []
 getting gets (i ∷ is) = cond (gets i) (i ∷ getting gets is) (getting gets is)
 
 -- what is said: as on the chain, by these alone
-abbrev pub saidAmong : (ℕ → Bool) → Address → Message → List Node → Said
-saidAmong gets to m ns = cond (isAnswered m) (saidBy m ns (searchOf (getting gets (repliersFrom to 0 true ns)))) silence
+abbrev pub saidAmong : (ℕ → Bool) → Address → Messages → List Node → Said
+saidAmong gets to m ns = cond (isAnswered (m .gate)) (saidBy m ns (searchOf (getting gets (repliersFrom to 0 true ns)))) silence
 
 -- by whoever gets the bytes q
 abbrev pub spokenBy : (ℕ → Bool) → Framed → List ℕ → List Node → Said
-spokenBy gets (framed.Whole to k n) q ns = saidAmong gets to (messageAs k q) ns
+spokenBy gets (framed.Whole to k n) q ns = saidAmong gets to (messagesAs k q) ns
 spokenBy gets (framed.Refused why) q ns = silence
 
 -- what the nodes say to an arrival

@@ -1,10 +1,12 @@
--- Demand 3's course of events, with document 02, request 4: whatever can come about under its premises.
-use Prim.Native.Nat.{ℕ}
+-- Demand 3's course of events, with document 02, requests 4 and 6: whatever can come about under its premises.
+use Prim.Native.Nat.{ℕ, _<_}
 use mathlib.Core.Bool.{Bool, true, false, cond}
 use mathlib.Core.List.{List, [], _∷_, map}
 use mathlib.Core.Option.{Option}
 use mathlib.Core.Path.{_≡_}
 use lib.ListN.{length, getD, set, take}
+use Rattle.wire.specs.declared.kind.Kind.{Kind}
+use Rattle.wire.specs.declared.kind.Kind.the-variants.{Gate}
 use Rattle.wire.specs.declared.refusal.Refusal.{Refusal}
 use Rattle.node.specs.declared.state.Bench.{Bench}
 use Rattle.node.specs.declared.state.Node.{Node}
@@ -37,9 +39,21 @@ started ns = record { host = freshOf; nodes = ns; line = quiet; past = []; up = 
 abbrev pub hosting : Session → World → World
 hosting s w = record { host = s; nodes = w .nodes; line = w .line; past = w .past; up = w .up }
 
--- all nodes in power-up state, each with the bench values that it has; what was on the line comes to no node any more (Late says why this is asked)
-abbrev pub powered : List Bench → Session → World
-powered bs s = record { host = s; nodes = map powerUp bs; line = quiet; past = []; up = true }
+-- what a node of the chain is before it powers up: its kind, and the bench values that it has
+pub record Device : Type 0 where
+  pub kind : Kind
+  pub bench : Bench
+
+abbrev pub poweredUp : Device → Node
+poweredUp d = powerUp (d .kind) (d .bench)
+
+-- "demand 3 takes the kinds told as the nodes' own"
+abbrev pub Told : List Kind → List Device → Type 0
+Told ks ds = (i : ℕ) → i < length ds → getD ks i Gate ≡ getD (map (λ (d : Device). d .kind) ds) i Gate
+
+-- all nodes in power-up state; what was on the line comes to no node any more (Late says why this is asked)
+abbrev pub powered : List Device → Session → World
+powered ds s = record { host = s; nodes = map poweredUp ds; line = quiet; past = []; up = true }
 
 -- a call that sends puts the first n bytes of its buffer on the line; any other leaves the line as it is
 abbrev pub callEnded : End → Call → Session → List ℕ → World → World
@@ -80,17 +94,19 @@ hurried what p r w = record {
 abbrev pub delayed : Arrival → World → World
 delayed q w = record { host = w .host; nodes = nodesAfter q (w .nodes); line = quiet; past = w .past; up = w .up }
 
--- a node with other bench values
-abbrev pub benched : Bench → Node → Node
-benched b n = record { settings = n .settings; addressed = n .addressed; bench = b; captured = n .captured }
+-- a node with other bench values, and another position
+abbrev pub benched : Bench → ℕ → Node → Node
+benched b p n = record { settings = n .settings; bench = b; captured = n .captured; position = p; addressed = n .addressed; kind = n .kind }
 
 pub data Comes : World → Type 0 where
   -- before any power-up there may be any nodes
   start : (ns : List Node) → Comes (started ns)
   -- "when the host is told of a power-up of n nodes, the chain has n nodes and all power up then", at any time
-  power : {w : World} → Comes w → (bs : List Bench) → startPowerUp (w .host) (length bs) .end ≡ Done → Comes (powered bs (startPowerUp (w .host) (length bs) .session))
+  power : {w : World} → Comes w → (ds : List Device) (ks : List Kind) → Told ks ds → startPowerUp (w .host) (length ds) ks .end ≡ Done
+      → Comes (powered ds (startPowerUp (w .host) (length ds) ks .session))
   -- a power-up that is refused
-  unpowered : {w : World} → Comes w → (n : ℕ) (why : Refusal) → startPowerUp (w .host) n .end ≡ Refused why → Comes (hosting (startPowerUp (w .host) n .session) w)
+  unpowered : {w : World} → Comes w → (n : ℕ) (ks : List Kind) (why : Refusal) → startPowerUp (w .host) n ks .end ≡ Refused why
+      → Comes (hosting (startPowerUp (w .host) n ks .session) w)
   -- a call, accepted or refused, with any buffer, at any time
   call : {w : World} → Comes w → (c : Call) → TypedCall c → (out : List ℕ) → Comes (callMade c out w)
   -- its packet comes to all nodes, to some or to none, and what those say comes back
@@ -104,5 +120,5 @@ pub data Comes : World → Type 0 where
   -- a report that is refused: "a reply nobody waits for"
   stray : {w : World} → Comes w → (r : Option (List ℕ)) (why : Refusal) → reportedOf (w .host) r .end ≡ Refused why → Comes (hosting (reportedOf (w .host) r .session) w)
   -- the bench sets the values of a node, at any time
-  bench : {w : World} → Comes w → (i : ℕ) (b : Bench)
-      → Comes (record { host = w .host; nodes = set (w .nodes) i (benched b (getD (w .nodes) i blankNode)); line = w .line; past = w .past; up = w .up })
+  bench : {w : World} → Comes w → (i : ℕ) (b : Bench) (p : ℕ)
+      → Comes (record { host = w .host; nodes = set (w .nodes) i (benched b p (getD (w .nodes) i blankNode)); line = w .line; past = w .past; up = w .up })

@@ -26,7 +26,7 @@ use Rattle.node.specs.declared.state.Captured.{Captured}
 use Rattle.node.specs.declared.state.Node.{Node}
 use Rattle.node.specs.declared.state.Shown.{Shown}
 use Rattle.node.specs.Setting.{MotionPart, Setting, place, mask, gate, drive, DriveSetting, waiting, inForce, Value, getMotion, makeMotion, makeDrive, makeGate, get}
-use Rattle.node.specs.Effect.{Effect, keeps, stores, copies, settingsPowerUp, gatePowerUp, drivePowerUp, brings, starting, effect, applied, settingsAfter, ownAfter}
+use Rattle.node.specs.Effect.{Effect, keeps, stores, copies, settingsPowerUp, placePowerUp, gatePowerUp, drivePowerUp, brings, starting, effect, applied, settingsAfter, ownAfter}
 use Rattle.node.specs.Node.{powerUp, nothing, doesHeed, addressedAfter, capturedAfter, positionAfter, actAs, takeAs, takeOf, maskAfter, shownOf}
 use Rattle.node.specs.Parts.{messageRole, withDrive, gateAfter, driveAfter, loadOf, loadedOf, placeBy, maskBy}
 use Rattle.node.proofs.Laws.{placeEffect, place-effect}
@@ -165,15 +165,15 @@ module _ (c : Command) (x : Settings) (role : Role) (p : Place) (k : ℕ) (er : 
   pub drive-own : (d : DriveSettings) → d ≡ driveAfter c (x .drive) → record { drive = d; gate = x .gate; place = p; mask = k } ≡ ownAfter Drive c x
   drive-own d ed = λ i. record { drive = (ed ∙ drive-part c x) i; gate = x .gate; place = placed i; mask = masked i }
 
-pub settings-up : (d : DriveSettings) (g : GateSettings) → d ≡ drivePowerUp → g ≡ gatePowerUp
-    → record { drive = d; gate = g; place = settingsPowerUp .place; mask = 0 } ≡ settingsPowerUp
-settings-up d g ed eg = rw (ed, eg)
+pub settings-up : (d : DriveSettings) (g : GateSettings) (p : Place) → d ≡ drivePowerUp → g ≡ gatePowerUp → p ≡ placePowerUp
+    → record { drive = d; gate = g; place = p; mask = 0 } ≡ settingsPowerUp
+settings-up d g p ed eg ep = rw (ed, eg, ep)
 
 -- ---- the node
 
-pub node-up : (k : Kind) (b : Bench) (s : Settings) → s ≡ settingsPowerUp
-    → record { settings = s; bench = b; captured = nothing; position = 0; addressed = false; kind = k } ≡ powerUp k b
-node-up k b s e = rw e
+pub node-up : (k : Kind) (b : Bench) (s : Settings) (c : Captured) → s ≡ settingsPowerUp → c ≡ nothing
+    → record { settings = s; bench = b; captured = c; position = 0; addressed = false; kind = k } ≡ powerUp k b
+node-up k b s c e f = rw (e, f)
 
 module _ (c : Command) (n : Node) (role : Role) (s : Settings) (a : Bool) (er : role ≡ roleOf c) (ea : a ≡ addressedAfter role (n .addressed)) where
   pub gate-acted : (k : Captured) → s ≡ ownAfter Gate c (n .settings) → k ≡ capturedAfter role (n .bench) (n .captured)

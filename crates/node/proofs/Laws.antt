@@ -1,5 +1,6 @@
 -- What packets do to a node, and what they leave.
-use mathlib.Core.Bool.{Bool, true, false, cond, _||_, true≢false, false≢true}
+use Prim.Native.Nat.{_≤_}
+use mathlib.Core.Bool.{Bool, true, false, cond, _||_, or-true, true≢false, false≢true}
 use mathlib.Core.Path.{_≡_, refl, sym, _∙_}
 use Rattle.command.specs.declared.Place.{Place}
 use Rattle.command.specs.declared.Command.{Command}
@@ -9,6 +10,7 @@ use Rattle.command.specs.declared.Role.the-variants.{Plain, Places, Masks, Capt
 use Rattle.command.specs.Role.{roleOf, isPlacing, isReset}
 use Rattle.command.specs.Ranges.{placeFits, fitsOf}
 use Rattle.command.specs.Owner.{has, hasBy, ownerOf}
+use borrow.Author.Tests.{le-leb}
 use Rattle.wire.specs.Kind.{isGate}
 use Rattle.wire.specs.declared.kind.Kind.{Kind}
 use Rattle.command.specs.declared.Owner.{Owner}
@@ -173,9 +175,29 @@ role-stays Idles b h = refl
 role-stays Resets b h = absurd (true≢false h)
 
 -- a command that leaves the place leaves that too
-pub addressed-stays : (c : Command) (n : Node) → writes (effect c place) ≡ false → takeOf (Intact c) n .addressed ≡ n .addressed
-addressed-stays c n h =
-    stays-by (λ (m : Node). m .addressed) (doesHeed (n .kind) (roleOf c)) (actAs (n .kind) c n) n (role-stays (roleOf c) (n .addressed) (rw (place-effect c) at h))
+pub addressed-after : (c : Command) (b : Bool) → writes (effect c place) ≡ false → addressedAfter (roleOf c) b ≡ b
+addressed-after c b h = role-stays (roleOf c) b (rw (place-effect c) at h)
+
+-- and is heeded by either kind
+role-heeds : (k : Kind) (r : Role) → writes (placeEffect r) ≡ false → doesHeed k r ≡ true
+role-heeds k Plain h = refl
+role-heeds k (Places p) h = absurd (true≢false h)
+role-heeds k (Masks m) h = refl
+role-heeds k Captures h = refl
+role-heeds k Zeroes h = refl
+role-heeds k Idles h = refl
+role-heeds k Resets h = refl
+
+pub unplaced-heeds : (k : Kind) (c : Command) → writes (effect c place) ≡ false → doesHeed k (roleOf c) ≡ true
+unplaced-heeds k c h = role-heeds k (roleOf c) (rw (place-effect c) at h)
+
+-- so is every place but that of address 0x00
+pub placed-heeds : (k : Kind) (p : Place) → 1 ≤ p .address .0 → doesHeed k (Places p) ≡ true
+placed-heeds k p l = rw (le-leb 1 (p .address .0) l) (or-true (isGate k))
+
+-- whether it acts is all that counts then
+pub acted-addressed : (c : Command) (n : Node) → doesHeed (n .kind) (roleOf c) ≡ true → takeOf (Intact c) n .addressed ≡ addressedAfter (roleOf c) (n .addressed)
+acted-addressed c n h = rw h
 
 -- ---- a node's own
 

@@ -3,6 +3,7 @@ use Prim.Native.Nat.{ℕ}
 use mathlib.Core.Bool.{Bool, true, false, cond}
 use mathlib.Core.Path.{_≡_}
 use Rattle.wire.specs.declared.kind.Kind.{Kind}
+use Rattle.command.specs.declared.Place.{Place}
 use Rattle.command.specs.declared.Gains.{Gains}
 use Rattle.command.specs.declared.Motion.{Motion}
 use Rattle.command.specs.declared.Command.{Command}
@@ -26,6 +27,9 @@ addressUp = 0x00
 abbrev pub groupUp : ℕ
 groupUp = 0xFF
 
+abbrev pub placePowerUp : Place
+placePowerUp = record { address = record { 0 = addressUp }; group = record { 0 = groupUp }; leader = false }
+
 -- "all else 0"
 abbrev pub gatePowerUp : GateSettings
 gatePowerUp = record { outputs = 0; held = record { outputs = 0; pwm = record { first = 0; second = 0 } }; pwm = record { first = 0; second = 0 }; timer = 0 }
@@ -44,7 +48,7 @@ abbrev pub settingsPowerUp : Settings
 settingsPowerUp = record {
   drive = drivePowerUp;
   gate = gatePowerUp;
-  place = record { address = record { 0 = addressUp }; group = record { 0 = groupUp }; leader = false };
+  place = placePowerUp;
   mask = 0;
 }
 

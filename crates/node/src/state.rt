@@ -10,8 +10,8 @@ use wire::Individual;
 use wire::Kind;
 ghost use mathlib.Core.Path.{_≡_};
 ghost use Rattle.wire.specs.declared.kind.Kind.the-variants.{Gate, Drive};
-ghost use Rattle.node.specs.Effect.{settingsPowerUp, settingsAfter, ownAfter};
-ghost use Rattle.node.specs.Node.{powerUp, doesHeed, addressedAfter, capturedAfter, positionAfter, actAs, takeAs, takeOf, shownOf, maskAfter};
+ghost use Rattle.node.specs.Effect.{placePowerUp, settingsPowerUp, settingsAfter, ownAfter};
+ghost use Rattle.node.specs.Node.{nothing, powerUp, doesHeed, addressedAfter, capturedAfter, positionAfter, actAs, takeAs, takeOf, shownOf, maskAfter};
 ghost use Rattle.node.specs.Parts.{messageRole, placeBy, maskBy};
 
 // The settings: every node's place and mask, and what its kind has of its own. A node has no use for the other kind's, and leaves them as they are.
@@ -93,6 +93,16 @@ fn addressed_after(role: Role, addressed: bool) -> bool
     }
 }
 
+// Captured at power-up.
+fn nothing() -> Captured
+    ensures { λ r. ⌜ r ≡ nothing ⌝ }
+{
+    Captured {
+        counter: 0,
+        inputs: 0,
+    }
+}
+
 // What a gate has captured after a command.
 fn captured_after(role: Role, bench: Bench, captured: Captured) -> Captured
     ensures { λ r. ⌜ r ≡ capturedAfter role bench captured ⌝ }
@@ -102,10 +112,7 @@ fn captured_after(role: Role, bench: Bench, captured: Captured) -> Captured
             counter: bench.counter,
             inputs: bench.inputs,
         },
-        Role::Resets => Captured {
-            counter: 0,
-            inputs: 0,
-        },
+        Role::Resets => nothing(),
         Role::Plain => captured,
         Role::Places(_) => captured,
         Role::Masks(_) => captured,
@@ -146,10 +153,7 @@ impl Node {
         Node {
             settings: Settings::power_up(),
             bench,
-            captured: Captured {
-                counter: 0,
-                inputs: 0,
-            },
+            captured: nothing(),
             position: 0,
             addressed: Node::ADDRESSED,
             kind,
@@ -269,17 +273,24 @@ fn mask_by(c: Command, mask: u8) -> u8
     }
 }
 
+// The place at power-up.
+fn place_power_up() -> Place
+    ensures { λ r. ⌜ r ≡ placePowerUp ⌝ }
+{
+    Place {
+        address: Individual(Node::ADDRESS),
+        group: Group(Node::GROUP),
+        leader: Node::LEADER,
+    }
+}
+
 // The place after a command.
 fn place_by(role: Role, place: Place) -> Place
     ensures { λ r. ⌜ r ≡ placeBy role place ⌝ }
 {
     match role {
         Role::Places(new) => new,
-        Role::Resets => Place {
-            address: Individual(Node::ADDRESS),
-            group: Group(Node::GROUP),
-            leader: Node::LEADER,
-        },
+        Role::Resets => place_power_up(),
         Role::Plain => place,
         Role::Masks(_) => place,
         Role::Captures => place,
@@ -335,11 +346,7 @@ impl Settings {
         Settings {
             drive: DriveSettings::power_up(),
             gate: GateSettings::power_up(),
-            place: Place {
-                address: Individual(Node::ADDRESS),
-                group: Group(Node::GROUP),
-                leader: Node::LEADER,
-            },
+            place: place_power_up(),
             mask: 0,
         }
     }

@@ -7,19 +7,18 @@ use native.Mathlib.Omega.{arith}
 use native.Mathlib.Nat.{add-zero}
 use native.Mathlib.Numerals.{add-one}
 use lib.Dec.{eqb}
-use lib.ListN.{length, length-append, length-set, getD, set, drop}
+use lib.ListN.{length, length-append, length-set, getD, set, drop, drop-of-length-le}
 use lib.Seq.{sets, length-sets, set-getD, set-set, getD-set-same, drop-cons}
 use Rattle.wire.specs.Promise.{Outcome, Lending}
 use Rattle.buffer.specs.Sum.{total}
 use Rattle.buffer.specs.Buffer.{builtNumber, written}
 use Rattle.buffer.specs.declared.Built.the-variants.{Bytes}
 use Rattle.buffer.proofs.Writing.{sets-start, has-room}
-use Rattle.status.specs.Status.{counts, statusPacket}
+use Rattle.status.specs.Status.{statusPacket}
 use Rattle.status.proofs.Replies.{status-length}
-use Rattle.node.specs.declared.state.Node.{Node}
 use Rattle.mask.proofs.Sizes.{bits-first, bits-next}
-use Rattle.reply.specs.Items.{bytesOf, valuesOf, itemOf, askedFrom, replyItems}
-use Rattle.reply.specs.Grown.{itemValue, replyBegin, carriedOn, Grown}
+use Rattle.reply.specs.Items.{bytesOf, itemOf, askedFrom}
+use Rattle.reply.specs.Grown.{replyBegin, carriedOn, Grown}
 use Rattle.reply.proofs.Bytes.{bytes-length}
 
 -- ---- one item, byte by byte
@@ -73,42 +72,40 @@ carried-then [] x o end s k e h =
 carried-then (y ∷ d) x o end s k e h =
     carried-then d x (set o end y) (suc end) ((s + y) % 256) k (omega arith) (rw (length-set o end y) h)
 
--- ---- the items of a node, from bit 0 of the mask on
+-- ---- the items, by their counts t and values w, from bit 0 of the mask on
 
 -- the bytes of those from bit i on
-abbrev pub still : ℕ → Node → ℕ → List ℕ
-still m n i = askedFrom i m (drop i counts) (drop i (valuesOf n))
-
--- the bytes of item i, as the loop has them: the bits that are left, and its value
-abbrev itemAt : ℕ → ℕ → ℕ → List ℕ
-itemAt bits v i = itemOf (eqb (bits % 2) 1) (bytesOf (getD counts i 0) v)
+abbrev pub still : ℕ → List ℕ → List ℕ → ℕ → List ℕ
+still m t w i = askedFrom i m (drop i t) (drop i w)
 
 -- i items are passed: those from bit i on are still to be added, and have room; then all were added from `end` on, over o
-pub record Passed (m : ℕ) (n : Node) (end : ℕ) (o out : List ℕ) (bits at i : ℕ) : Type 0 where
+pub record Passed (m : ℕ) (t w : List ℕ) (end : ℕ) (o out : List ℕ) (bits at i : ℕ) : Type 0 where
+  pub counted : length t ≡ 8
+  pub valued : length w ≡ 8
   pub left : bits ≡ m / 2 ^ i
-  pub ends : at + length (still m n i) ≡ end + length (replyItems m n)
-  pub room : at + length (still m n i) < length out
+  pub ends : at + length (still m t w i) ≡ end + length (askedFrom 0 m t w)
+  pub room : at + length (still m t w i) < length out
   pub long : length out ≡ length o
-  pub bytes : sets out at (carriedOn (getD out at 0) (still m n i)) ≡ sets o end (carriedOn (getD o end 0) (replyItems m n))
+  pub bytes : sets out at (carriedOn (getD out at 0) (still m t w i)) ≡ sets o end (carriedOn (getD o end 0) (askedFrom 0 m t w))
 
-pub passed-none : (m : ℕ) (n : Node) (end : ℕ) (o : List ℕ) → end + length (replyItems m n) < length o → Passed m n end o o m end 0
-unfolding replyItems
-passed-none m n end o h = record { left = bits-first m; ends = refl; room = h; long = refl; bytes = refl }
+pub passed-none : (m : ℕ) (t w : List ℕ) (end : ℕ) (o : List ℕ) → length t ≡ 8 → length w ≡ 8 → end + length (askedFrom 0 m t w) < length o → Passed m t w end o o m end 0
+passed-none m t w end o ht hw h = record { counted = ht; valued = hw; left = bits-first m; ends = refl; room = h; long = refl; bytes = refl }
 
-module _ (m : ℕ) (n : Node) (end : ℕ) (o out : List ℕ) (bits at i v : ℕ) (h : i < 8) (e : v ≡ itemValue n i) (p : Passed m n end o out bits at i) where
+module _ (m : ℕ) (t w : List ℕ) (end : ℕ) (o out : List ℕ) (bits at i : ℕ) (h : i < 8) (p : Passed m t w end o out bits at i) where
+  -- the bytes of item i, as the loop has them: by the bits that are left
   abbrev x : List ℕ
-  x = itemAt bits v i
+  x = itemOf (eqb (bits % 2) 1) (bytesOf (getD t i 0) (getD w i 0))
 
   abbrev d : List ℕ
-  d = still m n (suc i)
+  d = still m t w (suc i)
 
-  next : still m n i ≡ x ++ d
+  next : still m t w i ≡ x ++ d
   next =
-      ap (λ (l : List ℕ). askedFrom i m l (drop i (valuesOf n))) (drop-cons counts i 0 h)
-      ∙ ap (askedFrom i m (getD counts i 0 ∷ drop (suc i) counts)) (drop-cons (valuesOf n) i 0 h)
-      ∙ rw (e, p .left)
+      ap (λ (l : List ℕ). askedFrom i m l (drop i w)) (drop-cons t i 0 (omega (arith, p .counted)))
+      ∙ ap (askedFrom i m (getD t i 0 ∷ drop (suc i) t)) (drop-cons w i 0 (omega (arith, p .valued)))
+      ∙ rw (p .left)
 
-  long : length (still m n i) ≡ length x + length d
+  long : length (still m t w i) ≡ length x + length d
   long = ap (λ (l : List ℕ). length l) next ∙ length-append x d
 
   -- the next has room
@@ -116,12 +113,14 @@ module _ (m : ℕ) (n : Node) (end : ℕ) (o out : List ℕ) (bits at i v : ℕ)
   passed-room = omega (arith, p .room, long)
 
   -- and is added
-  pub passed-one : (left : List ℕ) (r : ℕ) → Grown x at out r left → Passed m n end o left (bits / 2) r (i + 1)
+  pub passed-one : (left : List ℕ) (r : ℕ) → Grown x at out r left → Passed m t w end o left (bits / 2) r (i + 1)
   passed-one left r g =
       let k : length left ≡ length out = ap (λ (l : List ℕ). length l) (g .bytes) ∙ length-sets out at (carriedOn (getD out at 0) x) in
       let b : sets left r (carriedOn (getD left r 0) d) ≡ sets out at (carriedOn (getD out at 0) (x ++ d)) =
       rw (g .bytes) (carried-then x d out at (getD out at 0) r (g .behind) (omega (arith, p .room, long, g .behind))) in
       rw (add-one i) (record {
+        counted = p .counted;
+        valued = p .valued;
         left = bits-next m bits i (p .left);
         ends = omega (arith, p .ends, long, g .behind);
         room = omega (arith, p .room, long, g .behind);
@@ -130,9 +129,9 @@ module _ (m : ℕ) (n : Node) (end : ℕ) (o out : List ℕ) (bits at i v : ℕ)
       })
 
 -- all are passed
-pub passed-all : (m : ℕ) (n : Node) (end : ℕ) (o out : List ℕ) (bits at i : ℕ) → i ≡ 8 → Passed m n end o out bits at i → Grown (replyItems m n) end o at out
-passed-all m n end o out bits at i e p =
-    let none : still m n i ≡ [] = rw e in
+pub passed-all : (m : ℕ) (t w : List ℕ) (end : ℕ) (o out : List ℕ) (bits at i : ℕ) → i ≡ 8 → Passed m t w end o out bits at i → Grown (askedFrom 0 m t w) end o at out
+passed-all m t w end o out bits at i e p =
+    let none : still m t w i ≡ [] = ap (λ (l : List ℕ). askedFrom i m l (drop i w)) (drop-of-length-le t {i = i} (omega (arith, p .counted))) in
     record { behind = omega (arith, p .ends, ap (λ (l : List ℕ). length l) none); bytes = sym (set-getD out at 0) ∙ rw none at (p .bytes) }
 
 -- ---- the whole packet

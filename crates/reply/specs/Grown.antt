@@ -7,17 +7,12 @@ use lib.Dec.{leb}
 use lib.ListN.{length, getD}
 use lib.Seq.{sets}
 use Rattle.wire.specs.Promise.{Outcome}
+use Rattle.wire.specs.declared.kind.Kind.{Kind}
 use Rattle.mask.specs.Mask.{sizeOf}
-use Rattle.node.specs.declared.state.Node.{Node}
-use Rattle.reply.specs.Items.{valuesOf}
 
--- the value of the item of bit i; there are eight, and 0 past them
-abbrev pub itemValue : Node → ℕ → ℕ
-itemValue n i = getD (valuesOf n) i 0
-
--- the status packet under a mask fits a buffer of so many bytes
-abbrev pub hasRoom : ℕ → ℕ → Bool
-hasRoom m room = leb (sizeOf m) room
+-- the status packet of a node of that kind under a mask fits a buffer of so many bytes
+abbrev pub hasRoom : Kind → ℕ → ℕ → Bool
+hasRoom k m room = leb (sizeOf k m) room
 
 -- the packet of no item, at the start of the buffer: its sum is the status byte itself, and stands at 1
 abbrev pub replyBegin : ℕ → List ℕ → Outcome ℕ (List ℕ)

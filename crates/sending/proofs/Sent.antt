@@ -16,8 +16,9 @@ use Rattle.wire.specs.Numbers.{done}
 use Rattle.wire.proofs.Numbers.{not-done}
 use Rattle.command.specs.declared.Command.{Command}
 use Rattle.command.specs.Role.{roleOf, isReset}
-use Rattle.command.specs.Build.{fitsOf, packetFor}
-use Rattle.command.proofs.Commands.{built-written}
+use Rattle.command.specs.Ranges.{fitsOf}
+use Rattle.codec.specs.Build.{packetFor}
+use Rattle.codec.proofs.Commands.{built-written}
 use Rattle.ledger.specs.Ledger.{forgetOf}
 use Rattle.session.specs.declared.Exchange.the-variants.{Idle, Waiting}
 use Rattle.session.specs.declared.Session.{Session}

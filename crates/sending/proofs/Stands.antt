@@ -9,8 +9,8 @@ use Rattle.buffer.specs.declared.Built.the-variants as built
 use Rattle.wire.specs.Numbers.{done}
 use Rattle.buffer.proofs.Refusals.{Spares}
 use Rattle.command.specs.declared.Command.{Command}
-use Rattle.command.specs.Build.{commandBuild}
-use Rattle.command.proofs.Commands.{command-spares}
+use Rattle.codec.specs.Build.{codecBuild}
+use Rattle.codec.proofs.Commands.{command-spares}
 use Rattle.session.specs.declared.Session.{Session}
 use Rattle.session.specs.declared.Step.{Step}
 use Rattle.session.specs.Session.{stepNumber}
@@ -29,7 +29,7 @@ by-built s t out left (built.Refused why) h z = (refl, h z)
 pub transmitted-stands : (s : Session) (called to : Address) (c : Command) (out : List ℕ) → Stands s out (transmitOf s called to c out)
 unfolding transmitOf
 transmitted-stands s called to c out =
-    by-built s (openExchange s to c) out (commandBuild called c out .left) (commandBuild called c out .answer) (command-spares called c out)
+    by-built s (openExchange s to c) out (codecBuild called c out .left) (codecBuild called c out .answer) (command-spares called c out)
 
 -- by the check before it
 pub check-stands : (k : Check) (s : Session) (out : List ℕ) (o : Outcome Step (List ℕ)) → Stands s out o → Stands s out (byCheck k s out o)

@@ -12,7 +12,7 @@ use Rattle.buffer.specs.Buffer.{builtNumber}
 use Rattle.command.specs.declared.Command.{Command}
 use Rattle.command.specs.declared.Role.{Role}
 use Rattle.command.specs.Role.{roleOf, isReset}
-use Rattle.command.specs.Build.{commandBuild}
+use Rattle.codec.specs.Build.{codecBuild}
 use Rattle.entry.specs.declared.Entry.{Entry}
 use Rattle.ledger.specs.Ledger.{forgetOf}
 use Rattle.session.specs.declared.Exchange.the-variants.{Idle, Waiting}
@@ -34,7 +34,7 @@ module _ (s : Session) (to : Address) (c : Command) (role : Role) (of : role ≡
   unfolding openExchange
   other-waits p = rw (← of, ← by, p)
 
-module _ (s : Session) (called to : Address) (c : Command) (out o : List ℕ) (b : Built) (by : Lending builtNumber b o (commandBuild called c out)) where
+module _ (s : Session) (called to : Address) (c : Command) (out o : List ℕ) (b : Built) (by : Lending builtNumber b o (codecBuild called c out)) where
   pub built-sent : (n : ℕ) (t : Session) → b ≡ built.Bytes n → t ≡ openExchange s to c
       → Lending stepNumber (record { end = Sent n; session = t }) o (transmitOf s called to c out)
   unfolding transmitOf

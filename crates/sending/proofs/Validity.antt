@@ -9,7 +9,7 @@ use Rattle.buffer.specs.declared.Built.{Built}
 use Rattle.buffer.specs.declared.Built.the-variants as built
 use Rattle.command.specs.declared.Command.{Command}
 use Rattle.command.specs.Role.{roleOf, isReset}
-use Rattle.command.specs.Build.{commandBuild}
+use Rattle.codec.specs.Build.{codecBuild}
 use Rattle.ledger.specs.Ledger.{forgetOf}
 use Rattle.ledger.proofs.Ledgers.{length-forgotten}
 use Rattle.session.specs.declared.Exchange.the-variants.{Idle, Waiting}
@@ -43,7 +43,7 @@ by-built s t (built.Refused why) h k = h
 pub transmitted-valid : (s : Session) (called to : Address) (c : Command) (out : List ℕ) → Valid s → offChain (s .n) to ≡ false
     → Valid (transmitOf s called to c out .answer .session)
 unfolding transmitOf
-transmitted-valid s called to c out h p = by-built s (openExchange s to c) (commandBuild called c out .answer) h (opened-valid s to c h p)
+transmitted-valid s called to c out h p = by-built s (openExchange s to c) (codecBuild called c out .answer) h (opened-valid s to c h p)
 
 -- by the check before it
 pub check-valid : (k : Check) (s : Session) (out : List ℕ) (o : Outcome Step (List ℕ)) → Valid s → (k ≡ check.Passed → Valid (o .answer .session))

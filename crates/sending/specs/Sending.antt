@@ -11,7 +11,7 @@ use Rattle.buffer.specs.declared.Built.{Built}
 use Rattle.buffer.specs.declared.Built.the-variants as built
 use Rattle.command.specs.declared.Command.{Command}
 use Rattle.command.specs.Role.{roleOf, isReset}
-use Rattle.command.specs.Build.{commandBuild}
+use Rattle.codec.specs.Build.{codecBuild}
 use Rattle.ledger.specs.Ledger.{forgetOf}
 use Rattle.session.specs.declared.Exchange.{Exchange}
 use Rattle.session.specs.declared.Exchange.the-variants.{Idle, Waiting}
@@ -61,7 +61,7 @@ stepBy s t (built.Refused why) = refuseOf s why
 -- the packet is built, or refused as the builder refuses it, and the exchange opened
 unfoldable pub transmitOf : Session → Address → Address → Command → List ℕ → Outcome Step (List ℕ)
 transmitOf s called to c out =
-    record { answer = stepBy s (openExchange s to c) (commandBuild called c out .answer); left = commandBuild called c out .left }
+    record { answer = stepBy s (openExchange s to c) (codecBuild called c out .answer); left = codecBuild called c out .left }
 
 -- by the checks before it
 abbrev pub byCheck : Check → Session → List ℕ → Outcome Step (List ℕ) → Outcome Step (List ℕ)

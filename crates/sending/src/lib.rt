@@ -95,7 +95,7 @@ fn open_exchange(s: Session, to: Address, c: Command) -> Session
 pub fn transmit(s: Session, called: Address, to: Address, c: Command, out: &mut [u8]) -> Step
     ensures { λ r. ⌜ Lending stepNumber r (now (out .exit)) (transmitOf s called to c (now (out .entry))) ⌝ }
 {
-    match command::build(called, c, out) {
+    match codec::build(called, c, out) {
         Built::Bytes(n) => Step {
             end: End::Sent(n),
             session: open_exchange(s, to, c),

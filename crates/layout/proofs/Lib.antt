@@ -1,3 +1,4 @@
 mod Fields
 mod Answers
+mod Known
 pub mod Unique

@@ -2,9 +2,13 @@
 // Here alone stands how long a record is and what has which position in it.
 // Promised: which bytes are records, what each of them reads as, and the bytes that show it.
 // Left to others: what a line does with its records (trychain, state).
+mod entries;
 mod nodes;
 mod settings;
 
+pub use entries::are_entries;
+pub use entries::put_entries;
+pub use entries::read_entries;
 pub use nodes::are_nodes;
 pub use nodes::nodes_length;
 pub use nodes::put_nodes;

@@ -2,13 +2,13 @@
 use Prim.Native.Nat.{ℕ, _+_, _-_, _*_}
 use mathlib.Core.List.{List, _++_}
 use lib.ListN.{length, replicate}
 use Rattle.command.specs.declared.Command.{Command}
-use Rattle.command.specs.Build.{codeOf, ownData}
+use Rattle.codec.specs.Build.{codeOf, ownData}
 
 -- the command byte: "The low nibble of the command byte is the command, the high nibble the number of data bytes"
 abbrev pub commandHead : Command → ℕ
 commandHead c = codeOf c + length (ownData c) * 16
 
--- four bytes: some data bytes, and zeros behind them
+-- fourteen bytes, the most that a command has: some data bytes, and zeros behind them
 abbrev pub filled : List ℕ → List ℕ
-filled d = d ++ replicate (4 - length d) 0
+filled d = d ++ replicate (14 - length d) 0

@@ -1,7 +1,7 @@
 -- One node: whether a command reaches it, and whether it stands in a leader's way, as the code's tests give it.
 use Prim.Native.Nat.{ℕ}
-use mathlib.Core.Bool.{Bool, true, false}
-use mathlib.Core.Path.{_≡_}
+use mathlib.Core.Bool.{Bool, true, false, not}
+use mathlib.Core.Path.{_≡_, sym, ap, _∙_}
 use lib.Dec.{eqb}
 use borrow.Author.Tests.{eq-eqb, ne-eqb}
 use Rattle.wire.specs.declared.address.Individual.{Individual}
@@ -9,10 +9,12 @@ use Rattle.wire.specs.declared.address.Group.{Group}
 use Rattle.wire.specs.declared.address.Address.{Address}
 use Rattle.wire.specs.declared.address.Address.the-variants as address
 use Rattle.command.specs.declared.Place.{Place}
+use Rattle.command.specs.declared.Command.{Command}
+use Rattle.command.specs.Owner.{has}
 use Rattle.entry.specs.declared.Entry.{Entry}
 use Rattle.entry.specs.declared.Reach.{Reach}
 use Rattle.entry.specs.declared.Reach.the-variants.{Misses, Hits, May}
-use Rattle.ledger.specs.Ledger.{groupReach, reachBy, isRival}
+use Rattle.ledger.specs.Ledger.{groupReach, reachBy, reachOf, isRival, doesLack}
 
 module _ (to : Address) (k : ℕ) (known : Bool) (p : Place) where
   pub its-node : (i : Individual) → to ≡ address.Individual i → i .0 ≡ k → Hits ≡ reachBy to k known p
@@ -49,3 +51,13 @@ module _ (k : ℕ) (g : Group) (j : ℕ) (e : Entry) where
 
   pub unknown : (j ≡ k → ⊥) → e .known .place ≡ false → true ≡ isRival k g j e
   unknown p h = rw (ne-eqb j k p, h)
+
+module _ (to : Address) (c : Command) (k : ℕ) (e : Entry) (r : Reach) (er : r ≡ reachOf to k e) where
+  pub missed : r ≡ Misses → false ≡ doesLack to c k e
+  missed h = rw (sym er ∙ h)
+
+  pub lacks-hit : (b : Bool) → r ≡ Hits → b ≡ has (e .kind) c → not b ≡ doesLack to c k e
+  lacks-hit b h f = rw (sym er ∙ h) (ap not f)
+
+  pub lacks-maybe : (b : Bool) → r ≡ May → b ≡ has (e .kind) c → not b ≡ doesLack to c k e
+  lacks-maybe b h f = rw (sym er ∙ h) (ap not f)

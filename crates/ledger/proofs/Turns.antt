@@ -12,13 +12,15 @@ use lib.Seq.{drop-cons}
 use borrow.Author.Tests.{ltb-false}
 use Rattle.wire.specs.declared.address.Group.{Group}
 use Rattle.wire.specs.declared.address.Address.{Address}
+use Rattle.wire.specs.declared.kind.Kind.{Kind}
+use Rattle.wire.specs.declared.kind.Kind.the-variants.{Gate}
 use Rattle.command.specs.declared.Command.{Command}
 use Rattle.command.specs.declared.Command.the-variants.{HardReset}
 use Rattle.status.specs.declared.Answer.{Answer}
 use Rattle.entry.specs.declared.Entry.{Entry}
 use Rattle.entry.specs.declared.Reach.{Reach}
-use Rattle.entry.specs.Entry.{noteOf, doubtOf}
-use Rattle.ledger.specs.Ledger.{ledgerLeast, reachOf, eachFrom, settling, settleOf, forgetOf, isRival, ledFrom, isLed}
+use Rattle.entry.specs.Entry.{entryPowerUp, noteOf, doubtOf}
+use Rattle.ledger.specs.Ledger.{allGates, telling, ledgerPowerUp, ledgerLeast, reachOf, eachFrom, settling, settleOf, forgetOf, isRival, anyFrom, isLed, doesLack, isLacked}
 
 capped : (t : Bool) (n : ℕ) → ltb 31 n ≡ t → cond t 31 n ≤ 31
 capped true n h = omega arith
@@ -64,6 +66,19 @@ pub least-31 : (n end : ℕ) → end ≡ ledgerLeast n → end ≤ 31
 unfolding ledgerLeast
 least-31 n end e = rw e (capped (ltb 31 n) n refl)
 
+-- a turn of `power_up`, and its end
+pub up-turn : (ks : List Kind) (i : ℕ) (es l : List Entry) (e : Entry) → l ≡ eachFrom (telling ks) 1 i es → e ≡ entryPowerUp (getD ks i Gate) → i < length es
+    → set l i e ≡ eachFrom (telling ks) 1 (i + 1) es
+unfolding telling
+up-turn ks i es l e p f h =
+    let z : i + 1 - 1 ≡ i = omega arith in
+    rw (f, p)
+    (ap (λ (m : ℕ). set (eachFrom (telling ks) 1 i es) i (entryPowerUp (getD ks m Gate))) (sym z) ∙ one-more (telling ks) i es (entryPowerUp Gate) h)
+
+pub up-end : (ks : List Kind) (n i : ℕ) (es l : List Entry) → i ≡ ledgerLeast n → es ≡ allGates → l ≡ eachFrom (telling ks) 1 i es → l ≡ ledgerPowerUp n ks
+unfolding ledgerPowerUp
+up-end ks n i es l p q h = h ∙ ap (λ (m : ℕ). eachFrom (telling ks) 1 m es) p ∙ ap (λ (x : List Entry). eachFrom (telling ks) 1 (ledgerLeast n) x) q
+
 -- a turn of `settle`, and its end
 pub settle-turn : (a : Answer) (to : Address) (c : Command) (i : ℕ) (es l : List Entry) (r : Reach) (e d : Entry)
     → l ≡ eachFrom (settling a to c) 1 i es → r ≡ reachOf to (i + 1) (getD l i d) → e ≡ noteOf a r c (getD l i d) → i < length es
@@ -87,26 +102,34 @@ pub forget-end : (i : ℕ) (es l : List Entry) → i ≡ length es → l ≡ eac
 unfolding forgetOf
 forget-end i es l p q = q ∙ ap (λ (m : ℕ). eachFrom forgetting 1 m es) p ∙ each-map (doubtOf HardReset) 1 es
 
--- `is_led`: where it starts; a rival is found; a turn; none is found
-pub led-start : (k : ℕ) (g : Group) (n end : ℕ) (es : List Entry) → end ≡ ledgerLeast n → ledFrom k g (0 + 1) (end - 0) (drop 0 es) ≡ isLed k g n es
-unfolding isLed
-led-start k g n end es e = ap (λ (m : ℕ). ledFrom k g 1 m es) (omega arith)
+-- a search: where it starts; one is found; a turn; none is found
+any-start : (f : ℕ → Entry → Bool) (m end : ℕ) (es : List Entry) → end ≡ m → anyFrom f (0 + 1) (end - 0) (drop 0 es) ≡ anyFrom f 1 m es
+any-start f m end es e = ap (λ (k : ℕ). anyFrom f 1 k es) (omega arith)
 
-here : (k : ℕ) (g : Group) (n i : ℕ) (es : List Entry) (d : Entry) → i < n → i < length es
-    → ledFrom k g (i + 1) (n - i) (drop i es) ≡ (isRival k g (i + 1) (getD es i d) || ledFrom k g (i + 1 + 1) (n - (i + 1)) (drop (i + 1) es))
-unfolding ledFrom
-here k g n i es d p q =
+pub led-start : (k : ℕ) (g : Group) (n end : ℕ) (es : List Entry) → end ≡ ledgerLeast n → anyFrom (isRival k g) (0 + 1) (end - 0) (drop 0 es) ≡ isLed k g n es
+unfolding isLed
+led-start k g n end es e = any-start (isRival k g) (ledgerLeast n) end es e
+
+pub lacked-start : (to : Address) (c : Command) (n end : ℕ) (es : List Entry) → end ≡ ledgerLeast n
+    → anyFrom (doesLack to c) (0 + 1) (end - 0) (drop 0 es) ≡ isLacked to c n es
+unfolding isLacked
+lacked-start to c n end es e = any-start (doesLack to c) (ledgerLeast n) end es e
+
+here : (f : ℕ → Entry → Bool) (n i : ℕ) (es : List Entry) (d : Entry) → i < n → i < length es
+    → anyFrom f (i + 1) (n - i) (drop i es) ≡ (f (i + 1) (getD es i d) || anyFrom f (i + 1 + 1) (n - (i + 1)) (drop (i + 1) es))
+unfolding anyFrom
+here f n i es d p q =
     let e : n - i ≡ suc (n - (i + 1)) = omega arith in
     rw (e, drop-cons es i d, add-one (i + 1), add-one i)
 
-module _ (k : ℕ) (g : Group) (end i : ℕ) (es : List Entry) (w : Bool) (h : ledFrom k g (i + 1) (end - i) (drop i es) ≡ w) where
-  pub led-found : (d : Entry) (t : Bool) → t ≡ isRival k g (i + 1) (getD es i d) → t ≡ true → i < end → i < length es → true ≡ w
-  led-found d t r y p q = rw (← r, y) at (sym (here k g end i es d p q)) ∙ h
+module _ (f : ℕ → Entry → Bool) (end i : ℕ) (es : List Entry) (w : Bool) (h : anyFrom f (i + 1) (end - i) (drop i es) ≡ w) where
+  pub any-found : (d : Entry) (t : Bool) → t ≡ f (i + 1) (getD es i d) → t ≡ true → i < end → i < length es → true ≡ w
+  any-found d t r y p q = rw (← r, y) at (sym (here f end i es d p q)) ∙ h
 
-  pub led-turn : (d : Entry) (t : Bool) → t ≡ isRival k g (i + 1) (getD es i d) → t ≡ false → i < end → i < length es
-      → ledFrom k g (i + 1 + 1) (end - (i + 1)) (drop (i + 1) es) ≡ w
-  led-turn d t r y p q = rw (← r, y) at (sym (here k g end i es d p q)) ∙ h
+  pub any-turn : (d : Entry) (t : Bool) → t ≡ f (i + 1) (getD es i d) → t ≡ false → i < end → i < length es
+      → anyFrom f (i + 1 + 1) (end - (i + 1)) (drop (i + 1) es) ≡ w
+  any-turn d t r y p q = rw (← r, y) at (sym (here f end i es d p q)) ∙ h
 
-  pub led-none : end ≤ i → false ≡ w
-  unfolding ledFrom
-  led-none p = let e : end - i ≡ 0 = omega arith in rw e at h
+  pub any-none : end ≤ i → false ≡ w
+  unfolding anyFrom
+  any-none p = let e : end - i ≡ 0 = omega arith in rw e at h

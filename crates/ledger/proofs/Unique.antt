@@ -5,6 +5,7 @@ use Rattle.ledger.proofs.power_up.Reads as power-up
 use Rattle.ledger.proofs.settle.Reads as settle
 use Rattle.ledger.proofs.forget.Reads as forget
 use Rattle.ledger.proofs.is_led.Reads as is-led
+use Rattle.ledger.proofs.is_lacked.Reads as is-lacked
 
 pub power-up-unique : OneResult power-up.Post
 power-up-unique κs a r r′ s s′ p q = p ∙ sym q
@@ -17,3 +18,6 @@ forget-unique κs a r r′ s s′ p q = p ∙ sym q
 
 pub is-led-unique : OneResult is-led.Post
 is-led-unique κs a r r′ s s′ p q = p ∙ sym q
+
+pub is-lacked-unique : OneResult is-lacked.Post
+is-lacked-unique κs a r r′ s s′ p q = p ∙ sym q

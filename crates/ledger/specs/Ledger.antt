@@ -1,16 +1,19 @@
--- Document 01, "The host session", with document 02, request 4: the record of all nodes. Node k has the entry of index k - 1; entries past n stay as they are.
-use Prim.Native.Nat.{ℕ, zero, suc}
-use mathlib.Core.Bool.{Bool, false, cond, not, _&&_, _||_}
+-- Document 01, "The host session", with document 02, requests 4 and 6: the record of all nodes. Node k has the entry of index k - 1; entries past n stay as they are.
+use Prim.Native.Nat.{ℕ, zero, suc, _-_}
+use mathlib.Core.Bool.{Bool, true, false, cond, not, _&&_, _||_}
 use mathlib.Core.List.{List, [], _∷_, map}
 use lib.Dec.{ltb, eqb}
-use lib.ListN.{replicate}
+use lib.ListN.{getD, replicate}
 use Rattle.wire.specs.Numbers.{mostNodes}
 use Rattle.wire.specs.declared.address.Group.{Group}
 use Rattle.wire.specs.declared.address.Address.{Address}
 use Rattle.wire.specs.declared.address.Address.the-variants as address
+use Rattle.wire.specs.declared.kind.Kind.{Kind}
+use Rattle.wire.specs.declared.kind.Kind.the-variants.{Gate}
 use Rattle.command.specs.declared.Place.{Place}
 use Rattle.command.specs.declared.Command.{Command}
 use Rattle.command.specs.declared.Command.the-variants.{HardReset}
+use Rattle.command.specs.Owner.{has}
 use Rattle.status.specs.declared.Answer.{Answer}
 use Rattle.node.specs.Setting.{place, zeroed}
 use Rattle.entry.specs.declared.Entry.{Entry}
@@ -20,11 +23,11 @@ use Rattle.entry.specs.Entry.{flags, knows, shows, entryPowerUp, noteOf, doubtO
 
 -- what an index past the record's end reads as
 abbrev pub blankEntry : Entry
-blankEntry = record { settings = zeroed; known = flags (λ s. false) }
+blankEntry = record { settings = zeroed; known = flags (λ s. false); kind = Gate }
 
--- "makes all settings known as power-up has them"
-unfoldable pub ledgerPowerUp : List Entry
-ledgerPowerUp = replicate mostNodes entryPowerUp
+-- what no kind was told of: gates as power-up has them
+unfoldable pub allGates : List Entry
+allGates = replicate mostNodes (entryPowerUp Gate)
 
 -- how many entries n counts
 unfoldable pub ledgerLeast : ℕ → ℕ
@@ -50,6 +53,13 @@ eachFrom f j zero es = es
 eachFrom f j (suc n) [] = []
 eachFrom f j (suc n) (e ∷ es) = f j e ∷ eachFrom f (suc j) n es
 
+-- "makes all settings known as power-up has them"; document 02, request 6: "Each node gets a kind, told to the host at power-up", the first of them node 1's
+unfoldable pub telling : List Kind → ℕ → Entry → Entry
+telling ks k e = entryPowerUp (getD ks (k - 1) Gate)
+
+unfoldable pub ledgerPowerUp : ℕ → List Kind → List Entry
+ledgerPowerUp n ks = eachFrom (telling ks) 1 (ledgerLeast n) allGates
+
 -- what the entry of node k becomes when a command to an address was answered
 abbrev pub settling : Answer → Address → Command → ℕ → Entry → Entry
 settling a to c k e = noteOf a (reachOf to k e) c e
@@ -66,11 +76,24 @@ forgetOf es = map (doubtOf HardReset) es
 abbrev pub isRival : ℕ → Group → ℕ → Entry → Bool
 isRival k g j e = not (eqb j k) && (not (knows e place) || (shows e place .leader && eqb (shows e place .group .0) (g .0)))
 
--- one of the first n entries, of nodes j, j + 1, .., is such a node's
-unfoldable pub ledFrom : ℕ → Group → ℕ → ℕ → List Entry → Bool
-ledFrom k g j zero es = false
-ledFrom k g j (suc n) [] = false
-ledFrom k g j (suc n) (e ∷ es) = isRival k g j e || ledFrom k g (suc j) n es
+-- one of the first n entries, of nodes j, j + 1, .., passes a test
+unfoldable pub anyFrom : (ℕ → Entry → Bool) → ℕ → ℕ → List Entry → Bool
+anyFrom f j zero es = false
+anyFrom f j (suc n) [] = false
+anyFrom f j (suc n) (e ∷ es) = f j e || anyFrom f (suc j) n es
 
 unfoldable pub isLed : ℕ → Group → ℕ → List Entry → Bool
-isLed k g n es = ledFrom k g 1 (ledgerLeast n) es
+isLed k g n es = anyFrom (isRival k g) 1 (ledgerLeast n) es
+
+-- "a node it may reach (node k; for a group, known members and nodes with place in doubt)"
+abbrev pub mayReach : Reach → Bool
+mayReach Misses = false
+mayReach Hits = true
+mayReach May = true
+
+-- 17: "a command that the kind of a node it may reach lacks"
+abbrev pub doesLack : Address → Command → ℕ → Entry → Bool
+doesLack to c k e = mayReach (reachOf to k e) && not (has (e .kind) c)
+
+unfoldable pub isLacked : Address → Command → ℕ → List Entry → Bool
+isLacked to c n es = anyFrom (doesLack to c) 1 (ledgerLeast n) es

@@ -1,5 +1,5 @@
 // The host's record of all nodes: 31 entries, of which those of nodes 1 to n are told of every exchange.
-// Promised: node by node what its entry makes of the exchange; who stands in a leader's way.
+// Promised: nodes 1 to n of the kinds told; node by node what its entry makes of the exchange; who stands in a leader's way; whose kind lacks a command.
 // Left to others: which command waits, and how far the walk is (session, reports).
 use command::Command;
 use command::Place;
@@ -8,16 +8,26 @@ use entry::Reach;
 use status::Answer;
 use wire::Address;
 use wire::Group;
+use wire::Kind;
 use wire::MOST_NODES;
 ghost use mathlib.Core.Path.{_≡_};
-ghost use Rattle.ledger.specs.Ledger.{ledgerPowerUp, ledgerLeast, groupReach, reachBy, settleOf, forgetOf, isRival, isLed};
+ghost use Rattle.ledger.specs.Ledger.{ledgerPowerUp, ledgerLeast, groupReach, reachBy, settleOf, forgetOf, isRival, isLed, doesLack, isLacked};
 
-// At power-up.
-pub fn power_up() -> [Entry; MOST_NODES]
-    ensures { λ r. ⌜ r ≡ ledgerPowerUp ⌝ }
+// At power-up: nodes 1 to n are of the kinds told, the first of them node 1's; beyond n all are gates.
+pub fn power_up(n: u8, kinds: [Kind; MOST_NODES]) -> [Entry; MOST_NODES]
+    ensures { λ r. ⌜ r ≡ ledgerPowerUp n kinds ⌝ }
 {
-    let e = Entry::power_up();
-    [e; MOST_NODES]
+    let told = least(n);
+    let gate = Entry::power_up(Kind::Gate);
+    let mut all = [gate; MOST_NODES];
+    let mut i: u8 = 0;
+    while i < told {
+        let at = i as usize;
+        let kind = kinds[at];
+        all[at] = Entry::power_up(kind);
+        i += 1;
+    }
+    all
 }
 
 // n, or 31 where n is more: how many entries n counts.
@@ -121,6 +131,36 @@ pub fn is_led(entries: [Entry; MOST_NODES], n: u8, k: u8, g: Group) -> bool
         let at = i as usize;
         let e = entries[at];
         if is_rival(k, g, i + 1, e) {
+            return true;
+        }
+        i += 1;
+    }
+    false
+}
+
+// Whether a command to an address may reach node k, whose kind lacks it: also one that writes nothing.
+fn does_lack(to: Address, c: Command, k: u8, e: Entry) -> bool
+    ensures { λ r. ⌜ r ≡ doesLack to c k e ⌝ }
+{
+    let kind = e.kind;
+    let place = e.settings.place;
+    match reach_by(to, k, e.known.place, place) {
+        Reach::Misses => false,
+        Reach::Hits => !command::has(kind, c),
+        Reach::May => !command::has(kind, c),
+    }
+}
+
+// Whether a command to an address may reach one of nodes 1 to n whose kind lacks it.
+pub fn is_lacked(entries: [Entry; MOST_NODES], n: u8, to: Address, c: Command) -> bool
+    ensures { λ r. ⌜ r ≡ isLacked to c n entries ⌝ }
+{
+    let end = least(n);
+    let mut i: u8 = 0;
+    while i < end {
+        let at = i as usize;
+        let e = entries[at];
+        if does_lack(to, c, i + 1, e) {
             return true;
         }
         i += 1;

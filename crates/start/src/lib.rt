@@ -1,11 +1,12 @@
 // How a session starts.
-// Promised: a fresh session, and power-up with n nodes, at any time.
+// Promised: a fresh session, and power-up with n nodes of the kinds told, at any time.
 // Left to others: the walk, which gives the nodes their addresses (walk).
 use session::End;
 use session::Exchange;
 use session::Session;
 use session::Step;
 use session::refuse;
+use wire::Kind;
 use wire::MOST_NODES;
 use wire::Refusal;
 ghost use mathlib.Core.Path.{_≡_};
@@ -17,7 +18,7 @@ ghost use Rattle.start.specs.Start.{freshOf, startPowerUp};
 pub fn fresh() -> Session
     ensures { λ r. ⌜ r ≡ freshOf ⌝ }
 {
-    let entries = ledger::power_up();
+    let entries = ledger::power_up(0, [Kind::Gate; MOST_NODES]);
     Session {
         started: false,
         n: 0,
@@ -27,9 +28,9 @@ pub fn fresh() -> Session
     }
 }
 
-// Starts a session of n nodes, at any time; an open exchange is dropped.
-pub fn power_up(s: Session, n: u8) -> Step
-    ensures { λ r. ⌜ Promise stepNumber r (startPowerUp s n) ⌝ }
+// Starts a session of n nodes, at any time; an open exchange is dropped. The first n kinds are those of nodes 1 to n, the others are not looked at.
+pub fn power_up(s: Session, n: u8, kinds: [Kind; MOST_NODES]) -> Step
+    ensures { λ r. ⌜ Promise stepNumber r (startPowerUp s n kinds) ⌝ }
 {
     if n < 1 {
         return refuse(s, Refusal::Range);
@@ -37,7 +38,7 @@ pub fn power_up(s: Session, n: u8) -> Step
     if MOST_NODES < n as usize {
         return refuse(s, Refusal::Range);
     }
-    let entries = ledger::power_up();
+    let entries = ledger::power_up(n, kinds);
     Step {
         end: End::Done,
         session: Session {

@@ -4,13 +4,13 @@ use mathlib.Core.Path.{_≡_}
 use native.Mathlib.Omega.{arith}
 use lib.ListN.{length, drop}
 use borrow.Author.Needs.{needs}
-use Rattle.ledger.specs.Ledger.{blankEntry, ledFrom, isLed}
-use Rattle.ledger.proofs.Turns.{led-start, led-found, led-turn, led-none, least-31}
+use Rattle.ledger.specs.Ledger.{blankEntry, isRival, anyFrom, isLed}
+use Rattle.ledger.proofs.Turns.{led-start, any-found, any-turn, any-none, least-31}
 use Rattle.ledger.proofs.is_led.Statement.{statement}
 use Rattle.ledger.proofs.is_led.Tie as tie
 
 abbrev Inv-loop : tie.InvT-loop
-Inv-loop n k g entries end i₀ i = (i ≤ end) × (end ≤ 31) × (length entries ≡ 31) × (ledFrom k g (i + 1) (end - i) (drop i entries) ≡ isLed k g n entries)
+Inv-loop n k g entries end i₀ i = (i ≤ end) × (end ≤ 31) × (length entries ≡ 31) × (anyFrom (isRival k g) (i + 1) (end - i) (drop i entries) ≡ isLed k g n entries)
 
 abbrev μ-loop : tie.MeasureT-loop
 μ-loop n k g entries end i₀ i = end - i
@@ -21,15 +21,15 @@ start c = (omega arith, least-31 _ _ (c .least .ensures), search needs, led-star
 found : tie.Need-returns Inv-loop μ-loop
 found c =
     let w : _ = c .before .before .before .before .loop .inv in
-    led-found _ _ _ _ _ _ (w .3) blankEntry _ (c .before .is-rival .ensures) (c .if1 .taken) (omega arith) (omega arith)
+    any-found _ _ _ _ _ (w .3) blankEntry _ (c .before .is-rival .ensures) (c .if1 .taken) (omega arith) (omega arith)
 
 again : tie.Need-loop-again Inv-loop μ-loop
 again c =
     let w : _ = c .before .before .before .before .loop .inv in
-    (omega arith, w .1, w .2, led-turn _ _ _ _ _ _ (w .3) blankEntry _ (c .before .is-rival .ensures) (c .if1 .left) (omega arith) (omega arith))
+    (omega arith, w .1, w .2, any-turn _ _ _ _ _ (w .3) blankEntry _ (c .before .is-rival .ensures) (c .if1 .left) (omega arith) (omega arith))
 
 none : tie.Need-returns-2 Inv-loop μ-loop
-none c = led-none _ _ _ _ _ _ (c .before .loop .inv .3) (omega arith)
+none c = any-none _ _ _ _ _ (c .before .loop .inv .3) (omega arith)
 
 pub is-led-spec : {M : Type 1} → statement M
 is-led-spec =

@@ -1,0 +1,7 @@
+mod Values
+mod Loads
+mod Rows
+mod Looking
+mod Filling
+pub mod Commands
+pub mod Unique

@@ -1,0 +1,17 @@
+-- Each arm's number is that of one row, and the last arm's of none.
+use borrow.Author.Needs.{needs}
+use Rattle.codec.proofs.Looking.{wide-load, wide-gain, wide-stop, not-wide}
+use Rattle.codec.proofs.reading.wide.Statement.{statement}
+use Rattle.codec.proofs.reading.wide.Tie as tie
+
+pub wide-spec : {M : Type 1} → statement M
+wide-spec =
+    tie.close
+    (tie.spec
+    (λ c κs. search needs)
+    (λ c κs. search needs)
+    (λ c κs. search needs)
+    (λ c. search wide-load)
+    (λ c. search wide-gain)
+    (λ c. search wide-stop)
+    (λ c. search not-wide))

@@ -1,0 +1,4 @@
+pub mod Reading
+pub mod Looking
+pub mod Build
+pub mod Filling

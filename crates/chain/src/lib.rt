@@ -35,15 +35,21 @@ fn survey_all(table: &[Node], incoming: Incoming) -> Survey
 
 // Every node that is to act acts once.
 fn act_all(table: &mut [Node], decided: Decided)
-    ensures { λ _. ⌜ now (table .exit) ≡ actAll (decided .message) (decided .acting) (now (table .entry)) ⌝ }
+    ensures { λ _. ⌜ now (table .exit) ≡ actAll (decided .messages) (decided .acting) (now (table .entry)) ⌝ }
 {
     let n = steps::span(table.len());
-    let mut rest = decided.acting;
+    let mut rest = steps::acting_of(decided);
     let mut i = survey::first(rest);
     while i < n {
-        table[i] = steps::take(table[i], decided);
+        let k = i;
         rest = survey::without_first(rest);
         i = survey::first(rest);
+        // A store for each kind: so the part of the other kind is not copied.
+        if steps::is_gate(table[k]) {
+            table[k] = steps::take_gate(table[k], decided);
+        } else {
+            table[k] = steps::take_drive(table[k], decided);
+        }
     }
 }
 

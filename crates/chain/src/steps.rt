@@ -7,8 +7,11 @@ use survey::Plan;
 use survey::SET_WIDTH;
 use survey::Seen;
 use survey::Survey;
+use wire::Kind;
 ghost use mathlib.Core.Path.{_≡_};
-ghost use Rattle.node.specs.Node.{takeOf};
+ghost use Rattle.wire.specs.Kind.{isGate};
+ghost use Rattle.wire.specs.declared.kind.Kind.the-variants.{Gate, Drive};
+ghost use Rattle.node.specs.Node.{takeAs};
 ghost use Rattle.survey.specs.Survey.{chainStart, surveyWith, surveyAlone};
 ghost use Rattle.survey.specs.Decision.{spanOf};
 
@@ -40,17 +43,22 @@ pub(crate) fn survey_alone(p: Plan) -> Survey
     ensures { λ r. ⌜ r ≡ surveyAlone p ⌝ }
 {
     let bench = Bench {
-        inputs: 0,
         counter: 0,
+        home: 0,
+        inputs: 0,
+        velocity: 0,
+        error: 0,
         analog0: 0,
         analog1: 0,
         analog2: 0,
+        ad: 0,
+        auxiliary: 0,
         id: 0,
         version: 0,
     };
     Survey {
         plan: p,
-        speaker: Node::power_up(bench),
+        speaker: Node::power_up(Kind::Gate, bench),
     }
 }
 
@@ -64,12 +72,37 @@ pub(crate) fn span(n: usize) -> usize
     n
 }
 
-// A node that acts.
-pub(crate) fn take(n: Node, d: Decided) -> Node
-    ensures { λ r. ⌜ r ≡ takeOf (d .message) n ⌝ }
+// What kind a node is.
+pub(crate) fn is_gate(n: Node) -> bool
+    ensures { λ r. ⌜ r ≡ isGate (n .kind) ⌝ }
 {
-    let message = d.message;
-    n.take(message)
+    let kind = n.kind;
+    kind.is_gate()
+}
+
+// A node that acts, as a gate takes what the packet says to gates.
+pub(crate) fn take_gate(n: Node, d: Decided) -> Node
+    ensures { λ r. ⌜ r ≡ takeAs Gate (d .messages .gate) n ⌝ }
+{
+    let messages = d.messages;
+    let message = messages.gate;
+    n.take_gate(message)
+}
+
+// As a drive takes what it says to drives.
+pub(crate) fn take_drive(n: Node, d: Decided) -> Node
+    ensures { λ r. ⌜ r ≡ takeAs Drive (d .messages .drive) n ⌝ }
+{
+    let messages = d.messages;
+    let message = messages.drive;
+    n.take_drive(message)
+}
+
+// Who acts.
+pub(crate) fn acting_of(d: Decided) -> u32
+    ensures { λ r. ⌜ r ≡ d .acting ⌝ }
+{
+    d.acting
 }
 
 // The answer alone.

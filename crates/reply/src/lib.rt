@@ -56,11 +56,11 @@ fn status_byte(message: Message) -> u8
     }
 }
 
-// Device ID and version, one item of either kind.
-fn device(id: u8, version: u8) -> u32
-    ensures { λ r. ⌜ r ≡ wordOf id version ⌝ }
+// Two bytes as one number: device ID and version are one item, at either kind.
+fn word(low: u8, high: u8) -> u32
+    ensures { λ r. ⌜ r ≡ wordOf low high ⌝ }
 {
-    id as u32 + version as u32 * 256
+    low as u32 + high as u32 * 256
 }
 
 // The values of a gate's items, from bit 0 of the mask on; `status::counts` has their byte counts.
@@ -75,7 +75,7 @@ fn gate_values(x: Shown) -> [u32; 8]
         b.analog1 as u32,
         b.analog2 as u32,
         b.counter,
-        device(b.id, b.version),
+        word(b.id, b.version),
         k.inputs as u32,
         k.counter,
     ]
@@ -92,7 +92,7 @@ fn drive_values(x: Shown) -> [u32; 8]
         b.velocity as u32,
         b.auxiliary as u32,
         b.home,
-        device(b.id, b.version),
+        word(b.id, b.version),
         b.error as u32,
         0,
     ]

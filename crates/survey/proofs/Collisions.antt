@@ -6,12 +6,12 @@ use Rattle.wire.specs.declared.address.Address.{Address}
 use Rattle.wire.proofs.Choice.{chose-first}
 use Rattle.wire.proofs.Impossible.{impossible}
 use Rattle.node.specs.declared.state.Node.{Node}
-use Rattle.message.specs.declared.Message.{Message}
+use Rattle.message.specs.declared.Messages.{Messages}
 use Rattle.message.specs.Message.{isAnswered}
 use Rattle.survey.specs.Chain.{repliersFrom, replierIn, collided, said}
 use Rattle.survey.proofs.Repliers.{Replies, repliers-rise, Two, two-speak}
 
-pub collision-two : (to : Address) (h : Message) (l : List Node) → said to h l ≡ collided → Two (Replies to l)
+pub collision-two : (to : Address) (h : Messages) (l : List Node) → said to h l ≡ collided → Two (Replies to l)
 unfolding said replierIn
 collision-two to h l e =
-    two-speak (Replies to l) h l (repliersFrom to 0 true l) (repliers-rise to l) (chose-first (isAnswered h) e (λ z. impossible cc) .1)
+    two-speak (Replies to l) h l (repliersFrom to 0 true l) (repliers-rise to l) (chose-first (isAnswered (h .gate)) e (λ z. impossible cc) .1)

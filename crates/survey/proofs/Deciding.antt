@@ -9,6 +9,8 @@ use Rattle.buffer.specs.declared.Built.{Built}
 use Rattle.buffer.specs.declared.Built.the-variants as built
 use Rattle.node.specs.declared.state.Node.{Node}
 use Rattle.message.specs.declared.Message.{Message}
+use Rattle.message.specs.declared.Messages.{Messages}
+use Rattle.message.specs.Message.{messageTo}
 use Rattle.reply.specs.Reply.{replyOf}
 use Rattle.survey.specs.declared.sets.Replier.{Replier}
 use Rattle.survey.specs.declared.sets.Replier.the-variants.{None, Several}
@@ -19,18 +21,18 @@ use Rattle.survey.specs.declared.decision.Decided.{Decided}
 use Rattle.survey.specs.declared.decision.Delivery.the-variants.{Silent, Replied, Collision}
 use Rattle.survey.specs.Decision.{decideRefusal, decideAnswer, decideOne, decideBy, decidePlan, decideOf}
 
--- one node replies
-module _ (n : Node) (acting : ℕ) (h : Message) (out left : List ℕ) (b : Built) (p : Lending builtNumber b left (written (replyOf h n) out)) where
+-- one node replies, to what the packet says to its kind
+module _ (n : Node) (acting : ℕ) (h : Messages) (own : Message) (said : own ≡ messageTo (n .kind) h) (out left : List ℕ) (b : Built) (p : Lending builtNumber b left (written (replyOf own n) out)) where
   pub one-sent : (k : ℕ) (d : Decided) → b ≡ built.Bytes k → d ≡ decideAnswer (Replied k) acting h → record { answer = d; left = left } ≡ decideOne n acting h out
   unfolding decideOne
-  one-sent k d e f = rw (← (p .answer), e, f, p .leaves)
+  one-sent k d e f = rw (← said, ← (p .answer), e, f, p .leaves)
 
   pub one-short : (why : Refusal) (d : Decided) → b ≡ built.Refused why → d ≡ decideRefusal why → record { answer = d; left = left } ≡ decideOne n acting h out
   unfolding decideOne
-  one-short why d e f = rw (← (p .answer), e, f, p .leaves)
+  one-short why d e f = rw (← said, ← (p .answer), e, f, p .leaves)
 
 -- nobody replies, or several
-module _ (r : Replier) (n : Node) (acting : ℕ) (h : Message) (out : List ℕ) (d : Decided) where
+module _ (r : Replier) (n : Node) (acting : ℕ) (h : Messages) (out : List ℕ) (d : Decided) where
   pub told-none : r ≡ None → d ≡ decideAnswer Silent acting h → record { answer = d; left = out } ≡ decideBy r n acting h out
   told-none e f = rw (e, f)
 
@@ -38,7 +40,7 @@ module _ (r : Replier) (n : Node) (acting : ℕ) (h : Message) (out : List ℕ) 
   told-several e f = rw (e, f)
 
 -- by who replies, and by the plan
-pub told-by : (r q : Replier) (n : Node) (acting : ℕ) (h : Message) (out : List ℕ) (o : Outcome Decided (List ℕ)) → r ≡ q → o ≡ decideBy q n acting h out → o ≡ decideBy r n acting h out
+pub told-by : (r q : Replier) (n : Node) (acting : ℕ) (h : Messages) (out : List ℕ) (o : Outcome Decided (List ℕ)) → r ≡ q → o ≡ decideBy q n acting h out → o ≡ decideBy r n acting h out
 told-by r q n acting h out o e p = p ∙ sym (ap (λ (x : Replier). decideBy x n acting h out) e)
 
 pub plan-refused : (s : Survey) (why : Refusal) (out : List ℕ) (d : Decided) → s .plan ≡ Refuse why → d ≡ decideRefusal why → record { answer = d; left = out } ≡ decideOf s out

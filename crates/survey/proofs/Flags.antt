@@ -10,12 +10,11 @@ use lib.ListN.{length}
 use Rattle.wire.specs.Numbers.{mostNodes}
 use Rattle.wire.specs.declared.address.Address.{Address}
 use Rattle.node.specs.declared.state.Node.{Node}
-use Rattle.message.specs.declared.Message.{Message}
-use Rattle.node.specs.Node.{takeOf}
+use Rattle.message.specs.declared.Messages.{Messages}
 use Rattle.survey.specs.declared.plan.Incoming.{Incoming}
 use Rattle.survey.specs.declared.plan.Incoming.the-variants.{Whole, Unread}
 use Rattle.survey.specs.declared.plan.Seen.{Seen}
-use Rattle.survey.specs.One.{doesAct, doesReply, turned, isRanged}
+use Rattle.survey.specs.One.{doesAct, doesReply, takeFor, turned, isRanged}
 use Rattle.survey.specs.Chain.{turnedFrom, repliersFrom, allRanged}
 use Rattle.survey.specs.Sets.{joinOf, membersFrom}
 use Rattle.survey.specs.Survey.{chainStart, glanceFor, glancePast, glancesOf}
@@ -56,7 +55,7 @@ regroup : (a x y z : ℕ) → z ≡ a + x → z + y ≡ a + (x + y)
 regroup a x y z e = omega (arith, e)
 
 -- one of the sets: it is `of s` when s was seen, and node i joins it if f says so
-module _ (to : Address) (h : Message) (f : Bool → Node → Bool) (of : Seen → ℕ)
+module _ (to : Address) (h : Messages) (f : Bool → Node → Bool) (of : Seen → ℕ)
     (joins : (s : Seen) (n : Node) → of (glanceFor to s n) ≡ joinOf (of s) (s .weight) (f (s .near) n)) where
   seen-from : (s : Seen) (ns : List Node) (i : ℕ) → s .weight ≡ 2 ^ i → of s < s .weight → i + length ns ≤ mostNodes
       → of (glancesOf (Whole to h) s ns) ≡ of s + setFrom (s .weight) (flagsFrom f (s .near) ns)
@@ -80,11 +79,11 @@ module _ (to : Address) (h : Message) (f : Bool → Node → Bool) (of : Seen �
       let g = seen-from chainStart ns 0 refl z (omega (arith, b)) in
       omega (arith, g, e)
 
-pub seen-acting : (to : Address) (h : Message) (ns : List Node) → length ns ≤ mostNodes → glancesOf (Whole to h) chainStart ns .acting ≡ setOf (flagsFrom (doesAct to) true ns)
+pub seen-acting : (to : Address) (h : Messages) (ns : List Node) → length ns ≤ mostNodes → glancesOf (Whole to h) chainStart ns .acting ≡ setOf (flagsFrom (doesAct to) true ns)
 unfolding glanceFor
 seen-acting to h ns b = seen-set to h (doesAct to) (λ (s : Seen). s .acting) (λ s n. refl) ns refl b
 
-pub seen-replying : (to : Address) (h : Message) (ns : List Node) → length ns ≤ mostNodes → glancesOf (Whole to h) chainStart ns .replying ≡ setOf (flagsFrom (doesReply to) true ns)
+pub seen-replying : (to : Address) (h : Messages) (ns : List Node) → length ns ≤ mostNodes → glancesOf (Whole to h) chainStart ns .replying ≡ setOf (flagsFrom (doesReply to) true ns)
 unfolding glanceFor
 seen-replying to h ns b = seen-set to h (doesReply to) (λ (s : Seen). s .replying) (λ s n. refl) ns refl b
 
@@ -132,11 +131,11 @@ repliers-are to i near (n ∷ ns) =
     member-step (length ns) i b (setOf (b ∷ bs)) (repliersFrom to (suc i) (n .addressed) ns) (low b bs)
     (ap (λ (x : ℕ). membersFrom (length ns) (suc i) x) (high b bs) ∙ repliers-are to (suc i) (n .addressed) ns)
 
-visit-step : (h : Message) (b : Bool) (x : ℕ) (n : Node) (ns rest : List Node) → x % 2 ≡ cond b 1 0 → actAll h (x / 2) ns ≡ rest → actAll h x (n ∷ ns) ≡ cond b (takeOf h n) n ∷ rest
+visit-step : (h : Messages) (b : Bool) (x : ℕ) (n : Node) (ns rest : List Node) → x % 2 ≡ cond b 1 0 → actAll h (x / 2) ns ≡ rest → actAll h x (n ∷ ns) ≡ cond b (takeFor h n) n ∷ rest
 visit-step h true x n ns rest e f = rw (e, f)
 visit-step h false x n ns rest e f = rw (e, f)
 
-pub actors-turn : (to : Address) (h : Message) (near : Bool) (ns : List Node) → actAll h (setOf (flagsFrom (doesAct to) near ns)) ns ≡ turnedFrom to h near ns
+pub actors-turn : (to : Address) (h : Messages) (near : Bool) (ns : List Node) → actAll h (setOf (flagsFrom (doesAct to) near ns)) ns ≡ turnedFrom to h near ns
 unfolding turned
 actors-turn to h near [] = refl
 actors-turn to h near (n ∷ ns) =

@@ -19,10 +19,9 @@ use Rattle.wire.proofs.Choice.{both}
 use Rattle.packet.specs.declared.Framed.{Framed}
 use Rattle.packet.specs.declared.Framed.the-variants as framed
 use Rattle.node.specs.declared.state.Node.{Node}
-use Rattle.message.specs.declared.Message.{Message}
 use Rattle.message.specs.declared.Message.the-variants.{Other}
+use Rattle.message.specs.declared.Messages.{Messages}
 use Rattle.message.specs.Message.{isAnswered}
-use Rattle.reply.specs.Reply.{replyOf}
 use Rattle.survey.specs.declared.sets.Replier.{Replier}
 use Rattle.survey.specs.declared.sets.Replier.the-variants.{None, One, Several}
 use Rattle.survey.specs.declared.plan.Incoming.{Incoming}
@@ -32,8 +31,8 @@ use Rattle.survey.specs.declared.plan.Plan.the-variants.{Refuse}
 use Rattle.survey.specs.declared.plan.Survey.{Survey}
 use Rattle.survey.specs.declared.decision.Decided.{Decided}
 use Rattle.survey.specs.declared.decision.Delivery.{Delivery}
-use Rattle.survey.specs.One.{doesAct, doesReply, messageAs}
-use Rattle.survey.specs.Chain.{after, searchOf, replierIn, Said, silence, said, saidBy, blankNode, allRanged}
+use Rattle.survey.specs.One.{doesAct, doesReply, toBoth, messagesAs}
+use Rattle.survey.specs.Chain.{after, searchOf, replierIn, Said, silence, said, replyFor, saidBy, blankNode, allRanged}
 use Rattle.survey.specs.Survey.{receiveBy, receiveOf, chainStart, glancesOf, replierTo, planBy, planOf, speakerIn, speakerOf, nobody, surveyAll}
 use Rattle.survey.specs.Decision.{decideBuilt, decideOne, decideBy, decidePlan, decideOf, actAll}
 use Rattle.survey.specs.Delivery.{Lent, valid, onBuilt, onSaid, deliveredTo, frameAlone, onFrame, deliverOf, refusedDelivery, deliveryNumber}
@@ -43,7 +42,7 @@ use Rattle.survey.proofs.Meaning.{none-one, replier-below}
 
 -- what a decision comes to, on the nodes ns
 abbrev came : Outcome Decided (List ℕ) → List Node → Outcome Delivery Lent
-came o ns = record { answer = o .answer .answer; left = record { nodes = actAll (o .answer .message) (o .answer .acting) ns; reply = o .left } }
+came o ns = record { answer = o .answer .answer; left = record { nodes = actAll (o .answer .messages) (o .answer .acting) ns; reply = o .left } }
 
 -- within the list the default does not matter
 getD-any : {X : Type 0} (l : List X) (i : ℕ) (d e : X) → i < length l → getD l i d ≡ getD l i e
@@ -53,23 +52,23 @@ getD-any (x ∷ l) (suc i) d e p = getD-any l i d e (le-of-suc-le-suc p)
 
 -- a refusal leaves all as it stood
 refused-all : (why : Refusal) (n : Node) (ns : List Node) (out : List ℕ) → came (decidePlan (Refuse why) n out) ns ≡ refusedDelivery why ns out
-refused-all why n ns out = rw (visit-none Other ns)
+refused-all why n ns out = rw (visit-none (toBoth Other) ns)
 
-module _ (to : Address) (h : Message) (ns : List Node) (out : List ℕ) (acting : ℕ) (acted : actAll h acting ns ≡ after to h ns) where
+module _ (to : Address) (h : Messages) (ns : List Node) (out : List ℕ) (acting : ℕ) (acted : actAll h acting ns ≡ after to h ns) where
   by-built : (b : Built) (left : List ℕ) → came (record { answer = decideBuilt b acting h; left = left }) ns ≡ onBuilt b to h ns left
   by-built (built.Bytes n) left = rw acted
-  by-built (built.Refused why) left = rw (visit-none Other ns)
+  by-built (built.Refused why) left = rw (visit-none (toBoth Other) ns)
 
   -- by who replies; the one that does is a node of the chain
   by-replier : (r : Replier) → ((i : ℕ) → r ≡ One i → i < length ns)
       → came (decideBy r (getD ns (speakerIn r) nobody) acting h out) ns ≡ onSaid (saidBy h ns r) to h ns out
   unfolding decideOne
   by-replier None b = rw acted
-  by-replier (One i) b = rw (getD-any ns i nobody blankNode (b i refl)) (by-built (written (replyOf h (getD ns i blankNode)) out .answer) (written (replyOf h (getD ns i blankNode)) out .left))
+  by-replier (One i) b = rw (getD-any ns i nobody blankNode (b i refl)) (by-built (written (replyFor h (getD ns i blankNode)) out .answer) (written (replyFor h (getD ns i blankNode)) out .left))
   by-replier Several b = rw acted
 
 -- who replies, if the packet is answered at all
-answered : (h : Message) (ns : List Node) (b : Bool) (r : Replier) → cond b (saidBy h ns r) silence ≡ saidBy h ns (cond b r None)
+answered : (h : Messages) (ns : List Node) (b : Bool) (r : Replier) → cond b (saidBy h ns r) silence ≡ saidBy h ns (cond b r None)
 answered h ns true r = refl
 answered h ns false r = refl
 
@@ -78,36 +77,36 @@ chosen-below true r n f i e = f i e
 chosen-below false r n f i e = absurd (none-one i e)
 
 -- the plan for a packet that was read comes to this, by who replies and who acts
-abbrev planned : Message → List Node → List ℕ → Replier → ℕ → Outcome Delivery Lent
+abbrev planned : Messages → List Node → List ℕ → Replier → ℕ → Outcome Delivery Lent
 planned h ns out r acting = came (decideBy r (getD ns (speakerIn r) nobody) acting h out) ns
 
-replier-is : (to : Address) (h : Message) (ns : List Node) → replierTo h (setOf (flagsFrom (doesReply to) true ns)) (length ns) ≡ cond (isAnswered h) (replierIn to ns) None
+replier-is : (to : Address) (h : Messages) (ns : List Node) → replierTo h (setOf (flagsFrom (doesReply to) true ns)) (length ns) ≡ cond (isAnswered (h .gate)) (replierIn to ns) None
 unfolding replierTo replierIn
-replier-is to h ns = ap (λ (l : List ℕ). cond (isAnswered h) (searchOf l) None) (repliers-are to 0 true ns)
+replier-is to h ns = ap (λ (l : List ℕ). cond (isAnswered (h .gate)) (searchOf l) None) (repliers-are to 0 true ns)
 
-said-is : (to : Address) (h : Message) (ns : List Node) (out : List ℕ) → onSaid (saidBy h ns (cond (isAnswered h) (replierIn to ns) None)) to h ns out ≡ deliveredTo to h ns out
+said-is : (to : Address) (h : Messages) (ns : List Node) (out : List ℕ) → onSaid (saidBy h ns (cond (isAnswered (h .gate)) (replierIn to ns) None)) to h ns out ≡ deliveredTo to h ns out
 unfolding said deliveredTo
-said-is to h ns out = ap (λ (x : Said). onSaid x to h ns out) (sym (answered h ns (isAnswered h) (replierIn to ns)))
+said-is to h ns out = ap (λ (x : Said). onSaid x to h ns out) (sym (answered h ns (isAnswered (h .gate)) (replierIn to ns)))
 
-actors-after : (to : Address) (h : Message) (ns : List Node) → actAll h (setOf (flagsFrom (doesAct to) true ns)) ns ≡ after to h ns
+actors-after : (to : Address) (h : Messages) (ns : List Node) → actAll h (setOf (flagsFrom (doesAct to) true ns)) ns ≡ after to h ns
 unfolding after
 actors-after to h ns = actors-turn to h true ns
 
 -- a packet that was read, to a valid table
-read-plan : (to : Address) (h : Message) (ns : List Node) (out : List ℕ) → length ns ≤ mostNodes
+read-plan : (to : Address) (h : Messages) (ns : List Node) (out : List ℕ) → length ns ≤ mostNodes
     → planned h ns out (replierTo h (glancesOf (Whole to h) chainStart ns .replying) (length ns)) (glancesOf (Whole to h) chainStart ns .acting) ≡ deliveredTo to h ns out
 read-plan to h ns out b =
     ap (λ (a : ℕ). planned h ns out (replierTo h (glancesOf (Whole to h) chainStart ns .replying) (length ns)) a) (seen-acting to h ns b)
     ∙ ap (λ (r : Replier). planned h ns out r (setOf (flagsFrom (doesAct to) true ns))) (ap (λ (x : ℕ). replierTo h x (length ns)) (seen-replying to h ns b) ∙ replier-is to h ns)
-    ∙ by-replier to h ns out (setOf (flagsFrom (doesAct to) true ns)) (actors-after to h ns) (cond (isAnswered h) (replierIn to ns) None)
-    (chosen-below (isAnswered h) (replierIn to ns) (length ns) (replier-below to ns))
+    ∙ by-replier to h ns out (setOf (flagsFrom (doesAct to) true ns)) (actors-after to h ns) (cond (isAnswered (h .gate)) (replierIn to ns) None)
+    (chosen-below (isAnswered (h .gate)) (replierIn to ns) (length ns) (replier-below to ns))
     ∙ said-is to h ns out
 
 -- by the frame
 framed-plan : (f : Framed) (p : List ℕ) (ns : List Node) (out : List ℕ) → length ns ≤ mostNodes
     → came (decidePlan (planBy (receiveBy f p) (glancesOf (receiveBy f p) chainStart ns) (length ns)) (getD ns (speakerOf (planBy (receiveBy f p) (glancesOf (receiveBy f p) chainStart ns) (length ns))) nobody) out) ns
     ≡ onFrame f p ns out
-framed-plan (framed.Whole to k n) p ns out b = read-plan to (messageAs k p) ns out b
+framed-plan (framed.Whole to k n) p ns out b = read-plan to (messagesAs k p) ns out b
 framed-plan (framed.Refused why) p ns out b = refused-all why nobody ns out
 
 -- by the table
@@ -125,7 +124,7 @@ delivers ns p out =
     (λ v. framed-plan (frameAlone p) p ns out (leb-true (length ns) mostNodes (both (leb 1 (length ns)) _ (both _ (allRanged ns) v .0) .1))))
 
 pub joined : (ns : List Node) (p out : List ℕ) (c : Incoming) (s : Survey) (d : Decided) (left : List ℕ) (zs : List Node)
-    → c ≡ receiveOf p → s ≡ surveyAll c ns → record { answer = d; left = left } ≡ decideOf s out → zs ≡ actAll (d .message) (d .acting) ns
+    → c ≡ receiveOf p → s ≡ surveyAll c ns → record { answer = d; left = left } ≡ decideOf s out → zs ≡ actAll (d .messages) (d .acting) ns
     → Lending deliveryNumber (d .answer) (record { nodes = zs; reply = left }) (deliverOf ns p out)
 joined ns p out c s d left zs e f g k =
     lent (rw k (ap (λ (o : Outcome Decided (List ℕ)). came o ns) (g ∙ ap (λ (x : Survey). decideOf x out) (f ∙ ap (λ (x : Incoming). surveyAll x ns) e)) ∙ delivers ns p out))

@@ -24,13 +24,14 @@ use Rattle.packet.specs.declared.Framed.{Framed}
 use Rattle.packet.specs.declared.Framed.the-variants as framed
 use Rattle.status.specs.Status.{mostReply}
 use Rattle.node.specs.declared.state.Node.{Node}
-use Rattle.message.specs.declared.Message.{Message}
+use Rattle.message.specs.declared.Messages.{Messages}
+use Rattle.message.specs.Message.{messageTo}
 use Rattle.reply.specs.Reply.{maskFor}
 use Rattle.mask.proofs.Counts.{size-range}
 use Rattle.reply.proofs.Replies.{reply-length}
 use Rattle.survey.specs.declared.decision.Delivery.{Delivery}
 use Rattle.survey.specs.declared.decision.Delivery.the-variants.{Replied, Refused}
-use Rattle.survey.specs.One.{messageAs}
+use Rattle.survey.specs.One.{messagesAs}
 use Rattle.survey.specs.Chain.{Said, silence, reply, collided, said, blankNode}
 use Rattle.survey.specs.Delivery.{Lent, valid, onBuilt, onSaid, alone, frameAlone, onFrame, deliveredTo, deliverOf, refusedDelivery}
 use Rattle.survey.proofs.Meaning.{said-says}
@@ -92,18 +93,18 @@ deliver-brief ns p out h Q short header range =
 
 -- ---- the reply buffer keeps its length
 
-built-left : (b : Built) (to : Address) (h : Message) (ns : List Node) (out : List ℕ) → onBuilt b to h ns out .left .reply ≡ out
+built-left : (b : Built) (to : Address) (h : Messages) (ns : List Node) (out : List ℕ) → onBuilt b to h ns out .left .reply ≡ out
 built-left (built.Bytes n) to h ns out = refl
 built-left (built.Refused why) to h ns out = refl
 
-said-left : (s : Said) (to : Address) (h : Message) (ns : List Node) (out : List ℕ) → length (onSaid s to h ns out .left .reply) ≡ length out
+said-left : (s : Said) (to : Address) (h : Messages) (ns : List Node) (out : List ℕ) → length (onSaid s to h ns out .left .reply) ≡ length out
 said-left silence to h ns out = refl
 said-left (reply r) to h ns out = ap length (built-left (written r out .answer) to h ns (written r out .left)) ∙ written-long r out
 said-left collided to h ns out = refl
 
 frame-left : (f : Framed) (p : List ℕ) (ns : List Node) (out : List ℕ) → length (onFrame f p ns out .left .reply) ≡ length out
 unfolding deliveredTo
-frame-left (framed.Whole to k n) p ns out = said-left (said to (messageAs k p) ns) to (messageAs k p) ns out
+frame-left (framed.Whole to k n) p ns out = said-left (said to (messagesAs k p) ns) to (messagesAs k p) ns out
 frame-left (framed.Refused why) p ns out = refl
 
 pub deliver-left : (ns : List Node) (p out : List ℕ) → length (deliverOf ns p out .left .reply) ≡ length out
@@ -135,13 +136,14 @@ frame-whys p e = by-frame (frameOf p) refl e
     by-frame (framed.Refused why) r e = let z : why ≡ Room = cc in not-room (frame-refuses p why r) z
 
 module _ (ns : List Node) (out : List ℕ) (room : mostReply ≤ length out) where
-  reply-fits : (to : Address) (h : Message) (r : List ℕ) → said to h ns ≡ reply r → length r ≤ length out
+  reply-fits : (to : Address) (h : Messages) (r : List ℕ) → said to h ns ≡ reply r → length r ≤ length out
   reply-fits to h r e =
       let q = said-says to h ns r e in
       let n = getD ns (q .at) blankNode in
-      rw (q .bytes) (omega (arith, reply-length h n, size-range (maskFor h n) .1))
+      let own = messageTo (n .kind) h in
+      rw (q .bytes) (omega (arith, reply-length own n, size-range (n .kind) (maskFor own n) .1))
 
-  said-roomy : (s : Said) (to : Address) (h : Message) → said to h ns ≡ s → onSaid s to h ns out .answer ≡ Refused Room → ⊥
+  said-roomy : (s : Said) (to : Address) (h : Messages) → said to h ns ≡ s → onSaid s to h ns out .answer ≡ Refused Room → ⊥
   unfolding written
   said-roomy silence to h e x = impossible cc
   said-roomy (reply r) to h e x =
@@ -151,7 +153,7 @@ module _ (ns : List Node) (out : List ℕ) (room : mostReply ≤ length out) whe
 
   frame-roomy : (f : Framed) (p : List ℕ) → frameAlone p ≡ f → onFrame f p ns out .answer ≡ Refused Room → ⊥
   unfolding deliveredTo
-  frame-roomy (framed.Whole to k n) p e x = said-roomy (said to (messageAs k p) ns) to (messageAs k p) refl x
+  frame-roomy (framed.Whole to k n) p e x = said-roomy (said to (messagesAs k p) ns) to (messagesAs k p) refl x
   frame-roomy (framed.Refused why) p e x =
       let y : why ≡ Room = cc in
       frame-whys p (e ∙ ap framed.Refused y)

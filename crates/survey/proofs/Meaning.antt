@@ -7,30 +7,32 @@ use native.Mathlib.Omega.{arith}
 use native.Mathlib.Nat.{not-suc-le-zero, le-of-suc-le-suc, add-suc, suc-add, add-zero, zero-add}
 use lib.ListN.{length, getD}
 use Rattle.wire.specs.declared.address.Address.{Address}
+use Rattle.wire.specs.declared.kind.Kind.{Kind}
+use Rattle.wire.specs.declared.kind.Kind.the-variants as kind
 use Rattle.wire.proofs.Choice.{same, chose-first}
 use Rattle.wire.proofs.Impossible.{impossible}
 use Rattle.node.specs.declared.state.Node.{Node}
 use Rattle.message.specs.declared.Message.{Message}
 use Rattle.message.specs.declared.Message.the-variants.{Other, Spoilt}
-use Rattle.message.specs.Message.{isAnswered}
+use Rattle.message.specs.declared.Messages.{Messages}
+use Rattle.message.specs.Message.{isAnswered, messageTo}
 use Rattle.node.specs.Node.{takeOf}
-use Rattle.reply.specs.Reply.{replyOf}
 use Rattle.survey.specs.declared.sets.Replier.the-variants.{None, One}
-use Rattle.survey.specs.One.{doesHear, isMeant, doesAct, doesReply, turned}
-use Rattle.survey.specs.Chain.{turnedFrom, after, repliersFrom, replierIn, silence, reply, said, blankNode, nearAt, hearsAt, repliesAt}
+use Rattle.survey.specs.One.{doesHear, isMeant, doesAct, doesReply, toBoth, takeFor, turned}
+use Rattle.survey.specs.Chain.{turnedFrom, after, repliersFrom, replierIn, silence, reply, replyFor, said, blankNode, nearAt, hearsAt, repliesAt}
 use Rattle.survey.proofs.Repliers.{behind, Replies, repliers-rise, found-is, Speaks, one-speaks}
 
 -- ---- the nodes afterwards
 
-length-from : (to : Address) (h : Message) (near : Bool) (l : List Node) → length (turnedFrom to h near l) ≡ length l
+length-from : (to : Address) (h : Messages) (near : Bool) (l : List Node) → length (turnedFrom to h near l) ≡ length l
 length-from to h near [] = refl
 length-from to h near (n ∷ ns) = ap suc (length-from to h (n .addressed) ns)
 
-pub length-after : (to : Address) (h : Message) (l : List Node) → length (after to h l) ≡ length l
+pub length-after : (to : Address) (h : Messages) (l : List Node) → length (after to h l) ≡ length l
 unfolding after
 length-after to h l = length-from to h true l
 
-turned-at : (to : Address) (h : Message) (near : Bool) (l : List Node) (i : ℕ) → i < length l
+turned-at : (to : Address) (h : Messages) (near : Bool) (l : List Node) (i : ℕ) → i < length l
     → getD (turnedFrom to h near l) i blankNode ≡ turned to h (nearAt near l i) (getD l i blankNode)
 turned-at to h near [] i b = absurd (not-suc-le-zero b)
 turned-at to h near (n ∷ ns) zero b = refl
@@ -38,24 +40,29 @@ turned-at to h near (n ∷ ns) (suc zero) b = turned-at to h (n .addressed) ns z
 turned-at to h near (n ∷ ns) (suc (suc i)) b = turned-at to h (n .addressed) ns (suc i) (le-of-suc-le-suc b)
 
 -- a node that hears and is meant has taken the packet; every other stands as it stood
-pub after-at : (to : Address) (h : Message) (l : List Node) (i : ℕ) → i < length l
-    → getD (after to h l) i blankNode ≡ cond (hearsAt l i && isMeant to (getD l i blankNode .settings .place)) (takeOf h (getD l i blankNode)) (getD l i blankNode)
+pub after-at : (to : Address) (h : Messages) (l : List Node) (i : ℕ) → i < length l
+    → getD (after to h l) i blankNode ≡ cond (hearsAt l i && isMeant to (getD l i blankNode .settings .place)) (takeFor h (getD l i blankNode)) (getD l i blankNode)
 unfolding after turned doesAct
 after-at to h l i b = turned-at to h true l i b
 
-unmoved : (to : Address) (h : Message) → ((n : Node) → takeOf h n ≡ n) → (near : Bool) (l : List Node) → turnedFrom to h near l ≡ l
+unmoved : (to : Address) (h : Messages) → ((n : Node) → takeFor h n ≡ n) → (near : Bool) (l : List Node) → turnedFrom to h near l ≡ l
 unfolding turned doesAct
 unmoved to h f near [] = refl
 unmoved to h f near (n ∷ ns) = rw (f n, same (doesHear near (n .addressed) && isMeant to (n .settings .place)) n, unmoved to h f (n .addressed) ns)
 
--- a wrong sum, and another command, leave all nodes
-pub spoilt-stays : (to : Address) (l : List Node) → after to Spoilt l ≡ l
-unfolding after
-spoilt-stays to l = unmoved to Spoilt (λ n. refl) true l
+-- what is said alike to either kind
+pub said-alike : (h : Message) (k : Kind) → messageTo k (toBoth h) ≡ h
+said-alike h kind.Gate = refl
+said-alike h kind.Drive = refl
 
-pub other-stays : (to : Address) (l : List Node) → after to Other l ≡ l
+-- a wrong sum, and another command, leave all nodes
+pub spoilt-stays : (to : Address) (l : List Node) → after to (toBoth Spoilt) l ≡ l
 unfolding after
-other-stays to l = unmoved to Other (λ n. refl) true l
+spoilt-stays to l = unmoved to (toBoth Spoilt) (λ n. ap (λ (h : Message). takeOf h n) (said-alike Spoilt (n .kind))) true l
+
+pub other-stays : (to : Address) (l : List Node) → after to (toBoth Other) l ≡ l
+unfolding after
+other-stays to l = unmoved to (toBoth Other) (λ n. ap (λ (h : Message). takeOf h n) (said-alike Other (n .kind))) true l
 
 -- ---- what is said on the line
 
@@ -87,17 +94,17 @@ nothing true = refl
 nothing false = refl
 
 -- if nobody hears and answers, nothing is said; nor after an intact Hard Reset
-pub said-none : (to : Address) (h : Message) (l : List Node) → ((j : ℕ) → j < length l → repliesAt to l j ≡ false) → said to h l ≡ silence
+pub said-none : (to : Address) (h : Messages) (l : List Node) → ((j : ℕ) → j < length l → repliesAt to l j ≡ false) → said to h l ≡ silence
 unfolding said replierIn doesReply
-said-none to h l f = rw (quiet-from to 0 true l f) (nothing (isAnswered h))
+said-none to h l f = rw (quiet-from to 0 true l f) (nothing (isAnswered (h .gate)))
 
-pub said-reset : (to : Address) (h : Message) (l : List Node) → isAnswered h ≡ false → said to h l ≡ silence
+pub said-reset : (to : Address) (h : Messages) (l : List Node) → isAnswered (h .gate) ≡ false → said to h l ≡ silence
 unfolding said
 said-reset to h l n = rw n
 
 -- if one node hears and answers, and no other, its reply is said
-pub said-one : (to : Address) (h : Message) (l : List Node) (j : ℕ) → isAnswered h ≡ true → j < length l → repliesAt to l j ≡ true
-    → ((k : ℕ) → k < length l → (k ≡ j → ⊥) → repliesAt to l k ≡ false) → said to h l ≡ reply (replyOf h (getD l j blankNode))
+pub said-one : (to : Address) (h : Messages) (l : List Node) (j : ℕ) → isAnswered (h .gate) ≡ true → j < length l → repliesAt to l j ≡ true
+    → ((k : ℕ) → k < length l → (k ≡ j → ⊥) → repliesAt to l k ≡ false) → said to h l ≡ reply (replyFor h (getD l j blankNode))
 unfolding said replierIn doesReply
 said-one to h l j a b y f = rw (a, one-from to 0 true l j b y f, zero-add j)
 
@@ -110,7 +117,7 @@ unfolding replierIn
 replier-below to l i e = found-is (Replies to l) (repliersFrom to 0 true l) i (repliers-rise to l) e .0
 
 -- the one reply is that of a node of the chain that hears and answers
-pub said-says : (to : Address) (h : Message) (l : List Node) (r : List ℕ) → said to h l ≡ reply r → Speaks (Replies to l) h l r
+pub said-says : (to : Address) (h : Messages) (l : List Node) (r : List ℕ) → said to h l ≡ reply r → Speaks (Replies to l) h l r
 unfolding said replierIn
 said-says to h l r e =
-    one-speaks (Replies to l) h l (repliersFrom to 0 true l) r (repliers-rise to l) (chose-first (isAnswered h) e (λ z. impossible cc) .1)
+    one-speaks (Replies to l) h l (repliersFrom to 0 true l) r (repliers-rise to l) (chose-first (isAnswered (h .gate)) e (λ z. impossible cc) .1)

@@ -14,9 +14,9 @@ use Rattle.buffer.proofs.Refusals as wire
 use Rattle.packet.specs.declared.Framed.{Framed}
 use Rattle.packet.specs.declared.Framed.the-variants as framed
 use Rattle.node.specs.declared.state.Node.{Node}
-use Rattle.message.specs.declared.Message.{Message}
+use Rattle.message.specs.declared.Messages.{Messages}
 use Rattle.survey.specs.declared.decision.Delivery.{Delivery}
-use Rattle.survey.specs.One.{messageAs}
+use Rattle.survey.specs.One.{messagesAs}
 use Rattle.survey.specs.Chain.{Said, silence, reply, collided, said}
 use Rattle.survey.specs.Delivery.{Lent, valid, refusedDelivery, onBuilt, onSaid, deliveredTo, frameAlone, onFrame, deliverOf, deliveryNumber}
 
@@ -25,19 +25,19 @@ abbrev pub Spares : List Node → List ℕ → Outcome Delivery Lent → Type 0
 Spares ns out o =
     (deliveryNumber (o .answer) ≡ done → ⊥) → (deliveryNumber (o .answer) ≡ collision → ⊥) → (o .left .nodes ≡ ns) × (o .left .reply ≡ out)
 
-built-spares : (to : Address) (h : Message) (ns : List Node) (out left : List ℕ) (b : Built) → ((builtNumber b ≡ done → ⊥) → left ≡ out)
+built-spares : (to : Address) (h : Messages) (ns : List Node) (out left : List ℕ) (b : Built) → ((builtNumber b ≡ done → ⊥) → left ≡ out)
     → Spares ns out (onBuilt b to h ns left)
 built-spares to h ns out left (built.Bytes n) f d k = absurd (d refl)
 built-spares to h ns out left (built.Refused why) f d k = (refl, f d)
 
-said-spares : (to : Address) (h : Message) (ns : List Node) (out : List ℕ) (s : Said) → Spares ns out (onSaid s to h ns out)
+said-spares : (to : Address) (h : Messages) (ns : List Node) (out : List ℕ) (s : Said) → Spares ns out (onSaid s to h ns out)
 said-spares to h ns out silence d k = absurd (d refl)
 said-spares to h ns out (reply r) d k = built-spares to h ns out (written r out .left) (written r out .answer) (wire.written-spares r out) d k
 said-spares to h ns out collided d k = absurd (k refl)
 
 frame-spares : (ns : List Node) (p out : List ℕ) (f : Framed) → Spares ns out (onFrame f p ns out)
 unfolding deliveredTo
-frame-spares ns p out (framed.Whole to c n) = said-spares to (messageAs c p) ns out (said to (messageAs c p) ns)
+frame-spares ns p out (framed.Whole to c n) = said-spares to (messagesAs c p) ns out (said to (messagesAs c p) ns)
 frame-spares ns p out (framed.Refused why) = λ d k. (refl, refl)
 
 valid-spares : (v : Bool) (ns : List Node) (p out : List ℕ) → Spares ns out (cond v (onFrame (frameAlone p) p ns out) (refusedDelivery Range ns out))

@@ -10,11 +10,10 @@ use lib.ListN.{length, getD}
 use Rattle.wire.specs.declared.address.Address.{Address}
 use Rattle.wire.proofs.Impossible.{impossible}
 use Rattle.node.specs.declared.state.Node.{Node}
-use Rattle.message.specs.declared.Message.{Message}
-use Rattle.reply.specs.Reply.{replyOf}
+use Rattle.message.specs.declared.Messages.{Messages}
 use Rattle.survey.specs.declared.sets.Replier.the-variants.{One}
 use Rattle.survey.specs.One.{doesReply}
-use Rattle.survey.specs.Chain.{repliersFrom, searchOf, reply, collided, saidBy, blankNode, nearAt, repliesAt}
+use Rattle.survey.specs.Chain.{repliersFrom, searchOf, reply, collided, replyFor, saidBy, blankNode, nearAt, repliesAt}
 
 -- what holds of each node and its `near`, behind the first node
 pub behind : (P : ℕ → Bool → Node → Type 0) (near : Bool) (n : Node) (ns : List Node)
@@ -58,12 +57,12 @@ found-is P [] m u e = impossible cc
 found-is P (i ∷ []) m u e = subst P (cc) (u .1)
 found-is P (i ∷ j ∷ ms) m u e = impossible cc
 
-pub record Speaks (P : ℕ → Type 0) (h : Message) (l : List Node) (r : List ℕ) : Type 0 where
+pub record Speaks (P : ℕ → Type 0) (h : Messages) (l : List Node) (r : List ℕ) : Type 0 where
   pub at : ℕ
   pub is : P at
-  pub bytes : r ≡ replyOf h (getD l at blankNode)
+  pub bytes : r ≡ replyFor h (getD l at blankNode)
 
-pub one-speaks : (P : ℕ → Type 0) (h : Message) (l : List Node) (ms r : List ℕ) → Rising P 0 ms → saidBy h l (searchOf ms) ≡ reply r → Speaks P h l r
+pub one-speaks : (P : ℕ → Type 0) (h : Messages) (l : List Node) (ms r : List ℕ) → Rising P 0 ms → saidBy h l (searchOf ms) ≡ reply r → Speaks P h l r
 one-speaks P h l [] r u e = impossible cc
 one-speaks P h l (i ∷ []) r u e = record { at = i; is = u .1; bytes = cc e }
 one-speaks P h l (i ∷ j ∷ ms) r u e = impossible cc
@@ -75,7 +74,7 @@ pub record Two (P : ℕ → Type 0) : Type 0 where
   pub one : P first
   pub two : P second
 
-pub two-speak : (P : ℕ → Type 0) (h : Message) (l : List Node) (ms : List ℕ) → Rising P 0 ms → saidBy h l (searchOf ms) ≡ collided → Two P
+pub two-speak : (P : ℕ → Type 0) (h : Messages) (l : List Node) (ms : List ℕ) → Rising P 0 ms → saidBy h l (searchOf ms) ≡ collided → Two P
 two-speak P h l [] u e = impossible cc
 two-speak P h l (i ∷ []) u e = impossible cc
 two-speak P h l (i ∷ j ∷ ms) u e = record { first = i; second = j; apart = u .2 .0; one = u .1; two = u .2 .1 }

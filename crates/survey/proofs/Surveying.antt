@@ -9,17 +9,18 @@ use borrow.Author.Tests.{le-leb, lt-leb, lt-ltb}
 use Rattle.wire.specs.Numbers.{mostNodes}
 use Rattle.wire.specs.Promise.{Promise}
 use Rattle.wire.specs.declared.address.Address.{Address}
+use Rattle.wire.specs.declared.kind.Kind.the-variants.{Gate, Drive}
 use Rattle.wire.specs.declared.refusal.Refusal.{Refusal}
 use Rattle.wire.specs.declared.refusal.Refusal.the-variants.{Long, Range}
 use Rattle.packet.specs.Packet.{frameOf, framedNumber, dataPart, isIntact}
 use Rattle.packet.specs.declared.Framed.{Framed}
 use Rattle.packet.specs.declared.Framed.the-variants as framed
-use Rattle.command.specs.Command.{commandRead}
 use Rattle.command.specs.declared.Place.{Place}
-use Rattle.command.specs.declared.Reading.{Reading}
+use Rattle.codec.specs.Reading.{codecRead, readingsOf}
+use Rattle.codec.specs.declared.reading.Readings.{Readings}
 use Rattle.node.specs.declared.state.Node.{Node}
-use Rattle.message.specs.declared.Message.{Message}
-use Rattle.message.specs.Message.{messageOf, isAnswered}
+use Rattle.message.specs.declared.Messages.{Messages}
+use Rattle.message.specs.Message.{isAnswered, messagesOf}
 use Rattle.survey.specs.declared.sets.Replier.{Replier}
 use Rattle.survey.specs.declared.sets.Replier.the-variants.{None}
 use Rattle.survey.specs.declared.plan.Incoming.{Incoming}
@@ -41,10 +42,13 @@ module _ (p : List ℕ) (f : Framed) (e : Promise framedNumber f (frameOf p)) wh
     unfolding receiveOf frameAlone
     came-long l = rw (← (e .answer), q, lt-ltb n (length p) l)
 
-    pub came-whole : (d : List ℕ) (r : Reading) (ok : Bool) (h : Message) → length p ≤ n
-        → d ≡ dataPart p → r ≡ commandRead k d → ok ≡ isIntact p → h ≡ messageOf r ok → Whole to h ≡ receiveOf p
+    pub came-whole : (d : List ℕ) (r : Readings) (ok : Bool) (h : Messages) → length p ≤ n
+        → d ≡ dataPart p → r ≡ readingsOf k d → ok ≡ isIntact p → h ≡ messagesOf (r .gate) (r .drive) ok → Whole to h ≡ receiveOf p
     unfolding receiveOf
-    came-whole d r ok h l a b c i = rw (stands-alone p to k n (sym (e .answer) ∙ q) l, i, b, a, c)
+    came-whole d r ok h l a b c i =
+        let read = b ∙ ap (readingsOf k) a in
+        let told = i ∙ ap (λ (x : Readings). messagesOf (x .gate) (x .drive) ok) read ∙ ap (messagesOf (codecRead Gate k (dataPart p)) (codecRead Drive k (dataPart p))) c in
+        rw (stands-alone p to k n (sym (e .answer) ∙ q) l) (ap (Whole to) told)
 
   pub came-unread : (why : Refusal) → f ≡ framed.Refused why → Unread why ≡ receiveOf p
   unfolding receiveOf frameAlone
@@ -69,7 +73,7 @@ pub told-glance : (c d : Incoming) (s r : Seen) (n : Node) → c ≡ d → r ≡
 told-glance c d s r n e p = p ∙ sym (ap (λ (x : Incoming). glanceOf x s n) e)
 
 -- ---- the plan
-module _ (h : Message) (s n : ℕ) (ok : Bool) (e : ok ≡ isAnswered h) where
+module _ (h : Messages) (s n : ℕ) (ok : Bool) (e : ok ≡ isAnswered (h .gate)) where
   pub replier-found : (r : Replier) → r ≡ searchOf (members n s) → ok ≡ true → r ≡ replierTo h s n
   unfolding replierTo
   replier-found r p y = rw (sym e ∙ y) p

@@ -10,9 +10,9 @@ use lib.Count.{trailingZeros, under, trailing-of-zero}
 use lib.Dec.{eqb, ltb}
 use borrow.Author.Tests.{ltb-true, ltb-false}
 use lib.ListN.{length, getD, set}
-use Rattle.node.specs.Node.{takeOf}
-use Rattle.message.specs.declared.Message.{Message}
+use Rattle.message.specs.declared.Messages.{Messages}
 use Rattle.node.specs.declared.state.Node.{Node}
+use Rattle.survey.specs.One.{takeFor}
 use Rattle.survey.specs.Sets.{firstOf, withoutFirst}
 use Rattle.survey.specs.Decision.{spanOf, actAll}
 use Rattle.survey.proofs.Members.{half-below, half-less, even-less}
@@ -37,30 +37,30 @@ unfolding trailingZeros
 none-in zero s l p = omega (arith, l)
 none-in (suc k) s l p = none-step k s (trailingZeros k (s / 2)) (s % 2) refl (none-in k (s / 2) (half-below k s l)) p
 
-module _ (h : Message) where
-  visit-cons : (s a c : ℕ) (w : Node) (ws : List Node) → s % 2 ≡ a → s / 2 ≡ c → actAll h s (w ∷ ws) ≡ (cond (eqb a 1) (takeOf h w) w ∷ actAll h c ws)
-  visit-cons s a c w ws e f = ap₂ (λ (x y : ℕ). cond (eqb x 1) (takeOf h w) w ∷ actAll h y ws) e f
+module _ (h : Messages) where
+  visit-cons : (s a c : ℕ) (w : Node) (ws : List Node) → s % 2 ≡ a → s / 2 ≡ c → actAll h s (w ∷ ws) ≡ (cond (eqb a 1) (takeFor h w) w ∷ actAll h c ws)
+  visit-cons s a c w ws e f = ap₂ (λ (x y : ℕ). cond (eqb x 1) (takeFor h w) w ∷ actAll h y ws) e f
 
   -- ---- the first of a set acts, and leaves it: t is the first of the digits above the lowest, which is e
-  next-step : (k s t e : ℕ) (w : Node) (ws : List Node) (d : Node) → s % 2 ≡ e → (t < k → t < length ws → actAll h (s / 2 - 2 ^ t) (set ws t (takeOf h (getD ws t d))) ≡ actAll h (s / 2) ws)
-      → under e t < suc k → under e t < suc (length ws) → actAll h (s - 2 ^ under e t) (set (w ∷ ws) (under e t) (takeOf h (getD (w ∷ ws) (under e t) d))) ≡ actAll h s (w ∷ ws)
+  next-step : (k s t e : ℕ) (w : Node) (ws : List Node) (d : Node) → s % 2 ≡ e → (t < k → t < length ws → actAll h (s / 2 - 2 ^ t) (set ws t (takeFor h (getD ws t d))) ≡ actAll h (s / 2) ws)
+      → under e t < suc k → under e t < suc (length ws) → actAll h (s - 2 ^ under e t) (set (w ∷ ws) (under e t) (takeFor h (getD (w ∷ ws) (under e t) d))) ≡ actAll h s (w ∷ ws)
   next-step k s t zero w ws d e ih p q =
-      visit-cons (s - 2 ^ suc t) 0 (s / 2 - 2 ^ t) w (set ws t (takeOf h (getD ws t d))) (even-less t s e) (half-less t s)
+      visit-cons (s - 2 ^ suc t) 0 (s / 2 - 2 ^ t) w (set ws t (takeFor h (getD ws t d))) (even-less t s e) (half-less t s)
       ∙ ap (λ (l : List Node). w ∷ l) (ih (le-of-suc-le-suc p) (le-of-suc-le-suc q)) ∙ sym (visit-cons s 0 (s / 2) w ws e refl)
   next-step k s t (suc a) w ws d e ih p q =
       let odd : s % 2 ≡ 1 = omega (arith, e) in
       let even : (s - 1) % 2 ≡ 0 = omega (arith, e) in
       let half : (s - 1) / 2 ≡ s / 2 = omega (arith, e) in
-      visit-cons (s - 1) 0 (s / 2) (takeOf h w) ws even half ∙ sym (visit-cons s 1 (s / 2) w ws odd refl)
+      visit-cons (s - 1) 0 (s / 2) (takeFor h w) ws even half ∙ sym (visit-cons s 1 (s / 2) w ws odd refl)
 
   next-in : (k s : ℕ) (ws : List Node) (d : Node) → trailingZeros k s < k → trailingZeros k s < length ws
-      → actAll h (s - 2 ^ trailingZeros k s) (set ws (trailingZeros k s) (takeOf h (getD ws (trailingZeros k s) d))) ≡ actAll h s ws
+      → actAll h (s - 2 ^ trailingZeros k s) (set ws (trailingZeros k s) (takeFor h (getD ws (trailingZeros k s) d))) ≡ actAll h s ws
   unfolding trailingZeros
   next-in zero s ws d p q = absurd (not-suc-le-zero p)
   next-in (suc k) s [] d p q = absurd (not-suc-le-zero q)
   next-in (suc k) s (w ∷ ws) d p q = next-step k s (trailingZeros k (s / 2)) (s % 2) w ws d refl (next-in k (s / 2) ws d) p q
 
-  pub visit-next : (s : ℕ) (ws : List Node) (d : Node) → firstOf s < 32 → firstOf s < length ws → actAll h (withoutFirst s) (set ws (firstOf s) (takeOf h (getD ws (firstOf s) d))) ≡ actAll h s ws
+  pub visit-next : (s : ℕ) (ws : List Node) (d : Node) → firstOf s < 32 → firstOf s < length ws → actAll h (withoutFirst s) (set ws (firstOf s) (takeFor h (getD ws (firstOf s) d))) ≡ actAll h s ws
   visit-next s ws d p q = next-in 32 s ws d p q
 
   -- ---- none of a set is left that the table has

@@ -4,22 +4,25 @@ use mathlib.Core.Bool.{Bool, true, false, cond, _&&_}
 use mathlib.Core.List.{List, [], _∷_}
 use lib.ListN.{getD}
 use Rattle.wire.specs.declared.address.Address.{Address}
+use Rattle.wire.specs.declared.kind.Kind.the-variants.{Gate}
+use Rattle.node.specs.declared.state.Bench.{Bench}
 use Rattle.node.specs.declared.state.Node.{Node}
 use Rattle.node.specs.Setting.{zeroed}
-use Rattle.message.specs.declared.Message.{Message}
-use Rattle.message.specs.Message.{isAnswered}
+use Rattle.node.specs.Node.{nothing}
+use Rattle.message.specs.declared.Messages.{Messages}
+use Rattle.message.specs.Message.{isAnswered, messageTo}
 use Rattle.reply.specs.Reply.{replyOf}
 use Rattle.survey.specs.declared.sets.Replier.{Replier}
 use Rattle.survey.specs.declared.sets.Replier.the-variants.{None, One, Several}
 use Rattle.survey.specs.One.{doesHear, isAnswering, doesReply, turned, isRanged}
 
 -- each node after the packet; "Who hears is fixed before the packet acts", "Places are those before the packet acts"
-abbrev pub turnedFrom : Address → Message → Bool → List Node → List Node
+abbrev pub turnedFrom : Address → Messages → Bool → List Node → List Node
 turnedFrom to h near [] = []
 turnedFrom to h near (n ∷ ns) = turned to h near n ∷ turnedFrom to h (n .addressed) ns
 
 -- the nodes after a packet
-unfoldable pub after : Address → Message → List Node → List Node
+unfoldable pub after : Address → Messages → List Node → List Node
 after to h ns = turnedFrom to h true ns
 
 -- the indices of those that reply, in order, from index i on
@@ -44,24 +47,34 @@ pub data Said : Type 0 where
   reply : List ℕ → Said
   collided : Said
 
--- what an index past a list's end reads as
+-- bench values 0
+abbrev pub zeros : Bench
+zeros = record { counter = 0; home = 0; inputs = 0; velocity = 0; error = 0; analog0 = 0; analog1 = 0; analog2 = 0; ad = 0; auxiliary = 0; id = 0; version = 0 }
+
+-- what an index past a list's end reads as: all zero
 abbrev pub blankNode : Node
 blankNode = record {
   settings = zeroed;
+  bench = zeros;
+  captured = nothing;
+  position = 0;
   addressed = false;
-  bench = record { inputs = 0; counter = 0; analog0 = 0; analog1 = 0; analog2 = 0; id = 0; version = 0 };
-  captured = record { inputs = 0; counter = 0 };
+  kind = Gate;
 }
 
+-- a node replies to what the packet says to its kind
+abbrev pub replyFor : Messages → Node → List ℕ
+replyFor h n = replyOf (messageTo (n .kind) h) n
+
 -- "One replier: its packet ..  None: nothing .. Two or more: .."
-abbrev pub saidBy : Message → List Node → Replier → Said
+abbrev pub saidBy : Messages → List Node → Replier → Said
 saidBy h ns None = silence
-saidBy h ns (One i) = reply (replyOf h (getD ns i blankNode))
+saidBy h ns (One i) = reply (replyFor h (getD ns i blankNode))
 saidBy h ns Several = collided
 
--- "and the command isn't an intact Hard Reset of count 0"
-unfoldable pub said : Address → Message → List Node → Said
-said to h ns = cond (isAnswered h) (saidBy h ns (replierIn to ns)) silence
+-- "and the command isn't an intact Hard Reset of count 0": a shared command, which reads alike to either kind
+unfoldable pub said : Address → Messages → List Node → Said
+said to h ns = cond (isAnswered (h .gate)) (saidBy h ns (replierIn to ns)) silence
 
 -- each record is in range
 abbrev pub allRanged : List Node → Bool

@@ -9,10 +9,8 @@ use Rattle.wire.specs.declared.refusal.Refusal.{Refusal}
 use Rattle.buffer.specs.declared.Built.{Built}
 use Rattle.buffer.specs.declared.Built.the-variants as built
 use Rattle.node.specs.declared.state.Node.{Node}
-use Rattle.message.specs.declared.Message.{Message}
 use Rattle.message.specs.declared.Message.the-variants.{Other}
-use Rattle.node.specs.Node.{takeOf}
-use Rattle.reply.specs.Reply.{replyOf}
+use Rattle.message.specs.declared.Messages.{Messages}
 use Rattle.survey.specs.declared.sets.Replier.{Replier}
 use Rattle.survey.specs.declared.sets.Replier.the-variants.{None, One, Several}
 use Rattle.survey.specs.declared.plan.Plan.{Plan}
@@ -21,25 +19,27 @@ use Rattle.survey.specs.declared.plan.Survey.{Survey}
 use Rattle.survey.specs.declared.decision.Decided.{Decided}
 use Rattle.survey.specs.declared.decision.Delivery.{Delivery}
 use Rattle.survey.specs.declared.decision.Delivery.the-variants.{Silent, Replied, Collision, Refused}
+use Rattle.survey.specs.One.{toBoth, takeFor}
+use Rattle.survey.specs.Chain.{replyFor}
 use Rattle.survey.specs.Sets.{setWidth}
 
 -- a refusal: nobody acts
 abbrev pub decideRefusal : Refusal → Decided
-decideRefusal why = record { answer = Refused why; acting = 0; message = Other }
+decideRefusal why = record { answer = Refused why; acting = 0; messages = toBoth Other }
 
 -- no refusal: those that are to act do
-abbrev pub decideAnswer : Delivery → ℕ → Message → Decided
-decideAnswer answer acting h = record { answer = answer; acting = acting; message = h }
+abbrev pub decideAnswer : Delivery → ℕ → Messages → Decided
+decideAnswer answer acting h = record { answer = answer; acting = acting; messages = h }
 
-abbrev pub decideBuilt : Built → ℕ → Message → Decided
+abbrev pub decideBuilt : Built → ℕ → Messages → Decided
 decideBuilt (built.Bytes n) acting h = decideAnswer (Replied n) acting h
 decideBuilt (built.Refused why) acting h = decideRefusal why
 
 -- one node replies, if its reply has room
-unfoldable pub decideOne : Node → ℕ → Message → List ℕ → Outcome Decided (List ℕ)
-decideOne n acting h out = record { answer = decideBuilt (written (replyOf h n) out .answer) acting h; left = written (replyOf h n) out .left }
+unfoldable pub decideOne : Node → ℕ → Messages → List ℕ → Outcome Decided (List ℕ)
+decideOne n acting h out = record { answer = decideBuilt (written (replyFor h n) out .answer) acting h; left = written (replyFor h n) out .left }
 
-abbrev pub decideBy : Replier → Node → ℕ → Message → List ℕ → Outcome Decided (List ℕ)
+abbrev pub decideBy : Replier → Node → ℕ → Messages → List ℕ → Outcome Decided (List ℕ)
 decideBy None n acting h out = record { answer = decideAnswer Silent acting h; left = out }
 decideBy (One i) n acting h out = decideOne n acting h out
 decideBy Several n acting h out = record { answer = decideAnswer Collision acting h; left = out }
@@ -56,6 +56,6 @@ abbrev pub spanOf : ℕ → ℕ
 spanOf n = cond (ltb setWidth n) setWidth n
 
 -- the nodes of a set take the packet; the others stay
-abbrev pub actAll : Message → ℕ → List Node → List Node
+abbrev pub actAll : Messages → ℕ → List Node → List Node
 actAll h s [] = []
-actAll h s (n ∷ ns) = cond (eqb (s % 2) 1) (takeOf h n) n ∷ actAll h (s / 2) ns
+actAll h s (n ∷ ns) = cond (eqb (s % 2) 1) (takeFor h n) n ∷ actAll h (s / 2) ns

@@ -16,10 +16,10 @@ use Rattle.packet.specs.Packet.{frameOf}
 use Rattle.packet.specs.declared.Framed.{Framed}
 use Rattle.packet.specs.declared.Framed.the-variants as framed
 use Rattle.node.specs.declared.state.Node.{Node}
-use Rattle.message.specs.declared.Message.{Message}
+use Rattle.message.specs.declared.Messages.{Messages}
 use Rattle.survey.specs.declared.decision.Delivery.{Delivery}
 use Rattle.survey.specs.declared.decision.Delivery.the-variants.{Silent, Replied, Collision, Refused}
-use Rattle.survey.specs.One.{messageAs}
+use Rattle.survey.specs.One.{messagesAs}
 use Rattle.survey.specs.Chain.{after, Said, said, silence, reply, collided, allRanged}
 
 -- what is lent: the table's nodes, and the buffer for a reply
@@ -35,21 +35,21 @@ valid ns = leb 1 (length ns) && leb (length ns) mostNodes && allRanged ns
 abbrev pub refusedDelivery : Refusal → List Node → List ℕ → Outcome Delivery Lent
 refusedDelivery why ns out = record { answer = Refused why; left = record { nodes = ns; reply = out } }
 
-abbrev pub acted : Delivery → Address → Message → List Node → List ℕ → Outcome Delivery Lent
+abbrev pub acted : Delivery → Address → Messages → List Node → List ℕ → Outcome Delivery Lent
 acted answer to h ns out = record { answer = answer; left = record { nodes = after to h ns; reply = out } }
 
 -- the one reply "goes to the start of the reply buffer, the rest of the buffer stays"; 5 where it has no room, "tested .. before any node acts"
-abbrev pub onBuilt : Built → Address → Message → List Node → List ℕ → Outcome Delivery Lent
+abbrev pub onBuilt : Built → Address → Messages → List Node → List ℕ → Outcome Delivery Lent
 onBuilt (built.Bytes n) to h ns out = acted (Replied n) to h ns out
 onBuilt (built.Refused why) to h ns out = refusedDelivery why ns out
 
 -- "None: nothing is written. Two or more: they act, nothing is written, and 13 is returned"
-abbrev pub onSaid : Said → Address → Message → List Node → List ℕ → Outcome Delivery Lent
+abbrev pub onSaid : Said → Address → Messages → List Node → List ℕ → Outcome Delivery Lent
 onSaid silence to h ns out = acted Silent to h ns out
 onSaid (reply r) to h ns out = onBuilt (written r out .answer) to h ns (written r out .left)
 onSaid collided to h ns out = acted Collision to h ns out
 
-unfoldable pub deliveredTo : Address → Message → List Node → List ℕ → Outcome Delivery Lent
+unfoldable pub deliveredTo : Address → Messages → List Node → List ℕ → Outcome Delivery Lent
 deliveredTo to h ns out = onSaid (said to h ns) to h ns out
 
 -- "the chain and bench program then refuse left-over bytes with 3 themselves": 3, unless what reading finds ends where the bytes do
@@ -63,7 +63,7 @@ frameAlone p = alone p (frameOf p)
 
 -- "Wrong sum isn't refused by the chain"
 abbrev pub onFrame : Framed → List ℕ → List Node → List ℕ → Outcome Delivery Lent
-onFrame (framed.Whole to k n) p ns out = deliveredTo to (messageAs k p) ns out
+onFrame (framed.Whole to k n) p ns out = deliveredTo to (messagesAs k p) ns out
 onFrame (framed.Refused why) p ns out = refusedDelivery why ns out
 
 -- "For the chain 6 comes first"

@@ -1,4 +1,5 @@
--- Document 01, "The chain": one node and a packet. Who hears, is meant and answers goes by what every node has: its place, and whether it is addressed.
+-- Document 01, "The chain", and document 02, request 6: one node and a packet. Who hears, is meant and answers goes by what every node has: its place, and whether it is addressed.
+-- What the packet then says to it goes by its kind.
 -- `near`: the node is first, or the node before it is addressed, before the packet acts.
 use Prim.Native.Nat.{ℕ}
 use mathlib.Core.Bool.{Bool, cond, _&&_, _||_}
@@ -7,12 +8,14 @@ use lib.Dec.{eqb}
 use Rattle.wire.specs.Address.{individualInRange, groupInRange}
 use Rattle.wire.specs.declared.address.Address.{Address}
 use Rattle.wire.specs.declared.address.Address.the-variants as address
+use Rattle.wire.specs.declared.kind.Kind.the-variants.{Gate, Drive}
 use Rattle.packet.specs.Packet.{dataPart, isIntact}
-use Rattle.command.specs.Command.{commandRead}
+use Rattle.codec.specs.Reading.{codecRead}
 use Rattle.command.specs.declared.Place.{Place}
 use Rattle.node.specs.declared.state.Node.{Node}
 use Rattle.message.specs.declared.Message.{Message}
-use Rattle.message.specs.Message.{messageOf}
+use Rattle.message.specs.declared.Messages.{Messages}
+use Rattle.message.specs.Message.{messagesOf, messageTo}
 use Rattle.node.specs.Node.{takeOf}
 
 -- "A node hears exactly if it is addressed, is first, or the node before it is addressed"
@@ -37,14 +40,22 @@ doesAct to near n = doesHear near (n .addressed) && isMeant to (n .settings .pla
 unfoldable pub doesReply : Address → Bool → Node → Bool
 doesReply to near n = doesHear near (n .addressed) && isAnswering to (n .settings .place)
 
+-- the same to either kind
+abbrev pub toBoth : Message → Messages
+toBoth h = record { gate = h; drive = h }
+
+-- a node that acts takes what the packet says to its kind
+abbrev pub takeFor : Messages → Node → Node
+takeFor h n = takeOf (messageTo (n .kind) h) n
+
 -- a node after a packet: one that doesn't act stays as it is
-unfoldable pub turned : Address → Message → Bool → Node → Node
-turned to h near n = cond (doesAct to near n) (takeOf h n) n
+unfoldable pub turned : Address → Messages → Bool → Node → Node
+turned to h near n = cond (doesAct to near n) (takeFor h n) n
 
 -- 6: "a lent node record with individual address above 0x7F or group below 0x80"
 unfoldable pub isRanged : Place → Bool
 isRanged p = individualInRange (p .address .0) && groupInRange (p .group .0)
 
--- what a whole packet p with command nibble k says
-abbrev pub messageAs : ℕ → List ℕ → Message
-messageAs k p = messageOf (commandRead k (dataPart p)) (isIntact p)
+-- what a whole packet p with command nibble k says to either kind
+abbrev pub messagesAs : ℕ → List ℕ → Messages
+messagesAs k p = messagesOf (codecRead Gate k (dataPart p)) (codecRead Drive k (dataPart p)) (isIntact p)

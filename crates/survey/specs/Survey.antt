@@ -6,13 +6,14 @@ use lib.Dec.{leb}
 use lib.ListN.{length, getD}
 use Rattle.wire.specs.Numbers.{done, numberOf, mostNodes}
 use Rattle.wire.specs.declared.address.Address.{Address}
+use Rattle.wire.specs.declared.kind.Kind.the-variants.{Gate}
 use Rattle.wire.specs.declared.refusal.Refusal.the-variants.{Range}
 use Rattle.packet.specs.declared.Framed.{Framed}
 use Rattle.packet.specs.declared.Framed.the-variants as framed
 use Rattle.command.specs.declared.Place.{Place}
 use Rattle.node.specs.Node.{powerUp}
 use Rattle.node.specs.declared.state.Node.{Node}
-use Rattle.message.specs.declared.Message.{Message}
+use Rattle.message.specs.declared.Messages.{Messages}
 use Rattle.message.specs.Message.{isAnswered}
 use Rattle.survey.specs.declared.sets.Replier.{Replier}
 use Rattle.survey.specs.declared.sets.Replier.the-variants.{None, One, Several}
@@ -22,14 +23,14 @@ use Rattle.survey.specs.declared.plan.Seen.{Seen}
 use Rattle.survey.specs.declared.plan.Plan.{Plan}
 use Rattle.survey.specs.declared.plan.Plan.the-variants.{Refuse, Deliver}
 use Rattle.survey.specs.declared.plan.Survey.{Survey}
-use Rattle.survey.specs.One.{doesAct, doesReply, isRanged, messageAs}
-use Rattle.survey.specs.Chain.{searchOf}
+use Rattle.survey.specs.One.{doesAct, doesReply, isRanged, messagesAs}
+use Rattle.survey.specs.Chain.{searchOf, zeros}
 use Rattle.survey.specs.Delivery.{frameAlone}
 use Rattle.survey.specs.Sets.{setWidth, joinOf, members}
 
 -- a packet as it comes in
 abbrev pub receiveBy : Framed → List ℕ → Incoming
-receiveBy (framed.Whole to k n) p = Whole to (messageAs k p)
+receiveBy (framed.Whole to k n) p = Whole to (messagesAs k p)
 receiveBy (framed.Refused why) p = Unread why
 
 unfoldable pub receiveOf : List ℕ → Incoming
@@ -71,11 +72,11 @@ glancesOf c s [] = s
 glancesOf c s (n ∷ ns) = glancesOf c (glanceOf c s n) ns
 
 -- who replies, if the packet is answered at all: the nodes 0 to n - 1 are searched for those in the set s
-unfoldable pub replierTo : Message → ℕ → ℕ → Replier
-replierTo h s n = cond (isAnswered h) (searchOf (members n s)) None
+unfoldable pub replierTo : Messages → ℕ → ℕ → Replier
+replierTo h s n = cond (isAnswered (h .gate)) (searchOf (members n s)) None
 
 -- and who acts
-abbrev pub planFor : Message → Seen → ℕ → Plan
+abbrev pub planFor : Messages → Seen → ℕ → Plan
 planFor h s n = Deliver (replierTo h (s .replying) n) (s .acting) h
 
 abbrev pub planBy : Incoming → Seen → ℕ → Plan
@@ -105,7 +106,7 @@ abbrev pub surveyWith : Plan → Node → Survey
 surveyWith p n = record { plan = p; speaker = n }
 
 abbrev pub nobody : Node
-nobody = powerUp (record { inputs = 0; counter = 0; analog0 = 0; analog1 = 0; analog2 = 0; id = 0; version = 0 })
+nobody = powerUp Gate zeros
 
 abbrev pub surveyAlone : Plan → Survey
 surveyAlone p = surveyWith p nobody

@@ -4,6 +4,7 @@ use crate::plan::Survey;
 use crate::sets::Replier;
 use buffer::Built;
 use message::Message;
+use message::Messages;
 use node::Node;
 use wire::Refusal;
 ghost use mathlib.Core.Path.{_≡_};
@@ -36,7 +37,7 @@ impl Delivery {
 pub struct Decided {
     pub answer: Delivery,
     pub acting: u32,
-    pub message: Message,
+    pub messages: Messages,
 }
 
 // A refusal: nobody acts.
@@ -46,27 +47,31 @@ fn decide_refusal(why: Refusal) -> Decided
     Decided {
         answer: Delivery::Refused(why),
         acting: 0,
-        message: Message::Other,
+        messages: Messages {
+            gate: Message::Other,
+            drive: Message::Other,
+        },
     }
 }
 
 // No refusal: those that are to act do.
-fn decide_answer(answer: Delivery, acting: u32, message: Message) -> Decided
-    ensures { λ r. ⌜ r ≡ decideAnswer answer acting message ⌝ }
+fn decide_answer(answer: Delivery, acting: u32, messages: Messages) -> Decided
+    ensures { λ r. ⌜ r ≡ decideAnswer answer acting messages ⌝ }
 {
     Decided {
         answer,
         acting,
-        message,
+        messages,
     }
 }
 
-// One node replies: 5 where its reply has no room, before any node acts.
-fn decide_one(speaker: Node, acting: u32, message: Message, reply: &mut [u8]) -> Decided
-    ensures { λ r. ⌜ record { answer = r; left = now (reply .exit) } ≡ decideOne speaker acting message (now (reply .entry)) ⌝ }
+// One node replies, to what the packet says to its kind: 5 where its reply has no room, before any node acts.
+fn decide_one(speaker: Node, acting: u32, messages: Messages, reply: &mut [u8]) -> Decided
+    ensures { λ r. ⌜ record { answer = r; left = now (reply .exit) } ≡ decideOne speaker acting messages (now (reply .entry)) ⌝ }
 {
-    match reply::reply(speaker, message, reply) {
-        Built::Bytes(n) => decide_answer(Delivery::Replied(n), acting, message),
+    let kind = speaker.kind;
+    match reply::reply(speaker, messages.to(kind), reply) {
+        Built::Bytes(n) => decide_answer(Delivery::Replied(n), acting, messages),
         Built::Refused(why) => decide_refusal(why),
     }
 }
@@ -76,15 +81,15 @@ fn decide_by(
     replier: Replier,
     speaker: Node,
     acting: u32,
-    message: Message,
+    messages: Messages,
     reply: &mut [u8],
 ) -> Decided
-    ensures { λ r. ⌜ record { answer = r; left = now (reply .exit) } ≡ decideBy replier speaker acting message (now (reply .entry)) ⌝ }
+    ensures { λ r. ⌜ record { answer = r; left = now (reply .exit) } ≡ decideBy replier speaker acting messages (now (reply .entry)) ⌝ }
 {
     match replier {
-        Replier::None => decide_answer(Delivery::Silent, acting, message),
-        Replier::One(_) => decide_one(speaker, acting, message, reply),
-        Replier::Several => decide_answer(Delivery::Collision, acting, message),
+        Replier::None => decide_answer(Delivery::Silent, acting, messages),
+        Replier::One(_) => decide_one(speaker, acting, messages, reply),
+        Replier::Several => decide_answer(Delivery::Collision, acting, messages),
     }
 }
 
@@ -99,7 +104,7 @@ pub fn decide(survey: Survey, reply: &mut [u8]) -> Decided
         Plan::Deliver {
             replier,
             acting,
-            message,
-        } => decide_by(replier, speaker, acting, message, reply),
+            messages,
+        } => decide_by(replier, speaker, acting, messages, reply),
     }
 }

@@ -6,8 +6,9 @@ use crate::sets::Replier;
 use crate::sets::SET_WIDTH;
 use crate::sets::join;
 use crate::sets::search;
+use codec::Readings;
 use command::Place;
-use message::Message;
+use message::Messages;
 use node::Node;
 use packet::Framed;
 use wire::Address;
@@ -15,9 +16,9 @@ use wire::Refusal;
 ghost use mathlib.Core.Path.{_≡_};
 ghost use Rattle.survey.specs.Survey.{receiveOf, isStillRanged, glanceFor, glancePast, glanceOf, replierTo, planFor, planOf, speakerIn, speakerOf};
 
-// A packet as it comes in: whom it is for and what it says, or why it is refused.
+// A packet as it comes in: whom it is for and what it says to either kind of node, or why it is refused.
 pub enum Incoming {
-    Whole { to: Address, message: Message },
+    Whole { to: Address, messages: Messages },
     Unread(Refusal),
 }
 
@@ -37,7 +38,7 @@ pub enum Plan {
     Deliver {
         replier: Replier,
         acting: u32,
-        message: Message,
+        messages: Messages,
     },
 }
 
@@ -61,11 +62,13 @@ pub fn receive(p: &[u8]) -> Incoming
             if end < p.len() {
                 return Incoming::Unread(Refusal::Long);
             }
-            let reading = command::read(command, packet::data_part(p));
-            let message = Message::of(reading, packet::is_intact(p));
+            let readings = Readings::of(command, packet::data_part(p));
+            let gate = readings.gate;
+            let drive = readings.drive;
+            let messages = Messages::of(gate, drive, packet::is_intact(p));
             Incoming::Whole {
                 to: address,
-                message,
+                messages,
             }
         }
         Framed::Refused(why) => Incoming::Unread(why),
@@ -108,29 +111,31 @@ pub fn glance(seen: Seen, n: Node, incoming: Incoming) -> Seen
     ensures { λ r. ⌜ r ≡ glanceOf incoming seen n ⌝ }
 {
     match incoming {
-        Incoming::Whole { to, message: _ } => glance_for(seen, n, to),
+        Incoming::Whole { to, messages: _ } => glance_for(seen, n, to),
         Incoming::Unread(_) => glance_past(seen, n),
     }
 }
 
 // Who replies to a packet, of n nodes and those of them that reply.
-fn replier_to(message: Message, replying: u32, n: usize) -> Replier
-    ensures { λ r. ⌜ r ≡ replierTo message replying n ⌝ }
+fn replier_to(messages: Messages, replying: u32, n: usize) -> Replier
+    ensures { λ r. ⌜ r ≡ replierTo messages replying n ⌝ }
 {
-    if message.is_answered() {
+    // Hard Reset, which is not answered, reads alike to either kind.
+    let gate = messages.gate;
+    if gate.is_answered() {
         return search(replying, n);
     }
     Replier::None
 }
 
-// A packet that says `message`, to a table of n nodes that can be used.
-pub fn plan_for(message: Message, seen: Seen, n: usize) -> Plan
-    ensures { λ r. ⌜ r ≡ planFor message seen n ⌝ }
+// A packet that says `messages`, to a table of n nodes that can be used.
+pub fn plan_for(messages: Messages, seen: Seen, n: usize) -> Plan
+    ensures { λ r. ⌜ r ≡ planFor messages seen n ⌝ }
 {
     Plan::Deliver {
-        replier: replier_to(message, seen.replying, n),
+        replier: replier_to(messages, seen.replying, n),
         acting: seen.acting,
-        message,
+        messages,
     }
 }
 
@@ -146,7 +151,7 @@ pub fn plan_of(incoming: Incoming, seen: Seen, n: usize) -> Plan
     }
     if seen.ranged {
         return match incoming {
-            Incoming::Whole { to: _, message } => plan_for(message, seen, n),
+            Incoming::Whole { to: _, messages } => plan_for(messages, seen, n),
             Incoming::Unread(why) => Plan::Refuse(why),
         };
     }
@@ -163,7 +168,7 @@ pub fn speaker(p: Plan) -> usize
         Plan::Deliver {
             replier,
             acting: _,
-            message: _,
+            messages: _,
         } => speaker_in(replier),
     }
 }

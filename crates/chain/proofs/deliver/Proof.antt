@@ -238,8 +238,8 @@ module _ {M : Type 1} (𝓤 : URA M) (H : Heap 𝓤) (A : Atoms 𝓤) (W : Given
         -- [what `act_all` asks; _13; …; Toks; Packet; the reply's last list]
         calls-at ! (fmOf 𝓤 H (W .laws) 𝓣) (ActAll 𝓤 H A mem run) known-act (to-act d md) (and-then ! (load ! (from ! (stop !)) (look ! 1 refl)) (and-then ! (load ! (from ! (stop !)) (look ! 15 refl)) (no-more !))) (λ v.
         use1 W (later (some (λ (u : Unit {0}). ((‵ (flft κ₀ q₀) ⊛ ‵ ftrue) ⊛ ‵ (unit .own u (v ∷ []))) ⊛ raw (ensured 𝓤 H A act-all′.ended (act-all′.clauses 𝓤 H A mem run) (κ₀, tt) (x γ, (d, tt)) tt u)))) (id⊢ 𝓤 _) $ await ! tt $ pick ! (λ u.
-        split ! $ move ! (1 ∷ []) $ use1 W (some (λ (zs : List Node × (Unit {0} × Unit {0})). ‵ (lasts act-all′.ended (κ₀, tt) (x γ, (d, tt)) zs) ⊛ raw (fact 𝓤 (zs .0 ≡ actAll (d .message) (d .acting) ys)))) (id⊢ 𝓤 _) $ pick ! (λ zs.
-        split ! $ move ! (1 ∷ []) $ heard ! (zs .0 ≡ actAll (d .message) (d .acting) ys) (λ e. fsplit ! $ fsplit ! $ move ! (1 ∷ []) $ feqL ! (λ l.
+        split ! $ move ! (1 ∷ []) $ use1 W (some (λ (zs : List Node × (Unit {0} × Unit {0})). ‵ (lasts act-all′.ended (κ₀, tt) (x γ, (d, tt)) zs) ⊛ raw (fact 𝓤 (zs .0 ≡ actAll (d .messages) (d .acting) ys)))) (id⊢ 𝓤 _) $ pick ! (λ zs.
+        split ! $ move ! (1 ∷ []) $ heard ! (zs .0 ≡ actAll (d .messages) (d .acting) ys) (λ e. fsplit ! $ fsplit ! $ move ! (1 ∷ []) $ feqL ! (λ l.
         -- [the table's last list; true; the token and the result; _13; …; Toks; Packet; the reply's last list]
         move ! (2 ∷ []) $ split ! $ move ! (1 ∷ []) $ facts ! unit (Is unit) (shows 𝓤 H A unit) u (v ∷ []) (λ is.
         land ! (from ! (stop !)) (init ! 7 refl (nothing-lawful 𝓤 H A W .typed u _ is .0)) $

@@ -1,5 +1,7 @@
 pub mod Standing
-mod Same
 mod Sorting
+mod Nobody
+pub mod Twice
 pub mod Finding
+pub mod Busy
 pub mod Unique

@@ -9,6 +9,9 @@ use Rattle.wire.specs.Promise.{Promise, promised, Lending}
 use Rattle.wire.specs.declared.address.Individual.{Individual}
 use Rattle.wire.specs.declared.address.Group.{Group}
 use Rattle.wire.specs.declared.address.Address.{Address}
+use Rattle.text.specs.Same.{isSame}
+use Rattle.wire.specs.declared.kind.Kind.{Kind}
+use Rattle.wire.specs.declared.kind.Kind.the-variants.{Gate, Drive}
 use Rattle.wire.specs.declared.refusal.Refusal.{Refusal}
 use Rattle.wire.specs.declared.refusal.Refusal.the-variants.{Long}
 use Rattle.packet.specs.Packet.{framedNumber, readOf, dataPart}
@@ -19,7 +22,7 @@ use Rattle.command.specs.declared.Place.{Place}
 use Rattle.command.specs.declared.Reading.{Reading}
 use Rattle.command.specs.declared.Reading.the-variants as reading
 use Rattle.command.specs.declared.Role.{Role}
-use Rattle.command.specs.declared.Role.the-variants.{Plain, Places, Masks, Captures, Idles, Resets}
+use Rattle.command.specs.declared.Role.the-variants.{Plain, Places, Masks, Captures, Zeroes, Idles, Resets}
 use Rattle.command.specs.Role.{roleOf}
 use Rattle.codec.specs.Reading.{codecRead}
 use Rattle.session.specs.declared.Session.{Session}
@@ -36,7 +39,7 @@ use Rattle.calls.specs.declared.Sought.{Sought}
 use Rattle.calls.specs.declared.Source.the-variants.{Found, Missing}
 use Rattle.calls.specs.Calls.{callPerform}
 use Rattle.calls.specs.Understanding.{spokenNumber, spokenTo, understandOf}
-use Rattle.calls.specs.Finding.{isSame, missedOf, tryCall, earlyCall, lateCall, seekOf, findOf}
+use Rattle.calls.specs.Finding.{missedOf, tryCall, earlyCall, lateCall, seekOf, findAs, findOf}
 
 -- ---- perform: as the one call
 
@@ -62,17 +65,17 @@ says-known to r c e = rw e
 pub says-other : (to : Address) (r : Reading) → r ≡ reading.Other → spoken.Other ≡ spokenTo to r
 says-other to r e = rw e
 
-module _ (p : List ℕ) (f : Framed) (by : Promise framedNumber f (readOf p)) where
-  pub understood-long : (to : Address) (k end : ℕ) → f ≡ framed.Whole to k end → end < length p → Promise spokenNumber (spoken.Refused Long) (understandOf p)
+module _ (kind : Kind) (p : List ℕ) (f : Framed) (by : Promise framedNumber f (readOf p)) where
+  pub understood-long : (to : Address) (k end : ℕ) → f ≡ framed.Whole to k end → end < length p → Promise spokenNumber (spoken.Refused Long) (understandOf kind p)
   unfolding understandOf
   understood-long to k end e h = promised (rw (← (by .answer), e, lt-ltb _ _ h))
 
   pub understood : (to : Address) (k end : ℕ) (d : List ℕ) (r : Reading) (x : Spoken) → f ≡ framed.Whole to k end → length p ≤ end → d ≡ dataPart p
-      → r ≡ codecRead k d → x ≡ spokenTo to r → Promise spokenNumber x (understandOf p)
+      → r ≡ codecRead kind k d → x ≡ spokenTo to r → Promise spokenNumber x (understandOf kind p)
   unfolding understandOf
   understood to k end d r x e h i j l = promised (rw (← (by .answer), e, le-ltb _ _ h, ← i, ← j) l)
 
-  pub understood-not : (why : Refusal) → f ≡ framed.Refused why → Promise spokenNumber (spoken.Refused why) (understandOf p)
+  pub understood-not : (why : Refusal) → f ≡ framed.Refused why → Promise spokenNumber (spoken.Refused why) (understandOf kind p)
   unfolding understandOf
   understood-not why e = promised (rw (← (by .answer), e))
 
@@ -91,13 +94,16 @@ module _ (to : Address) (c : Command) (r : Role) (by : r ≡ roleOf c) where
   pub late-captures : r ≡ Captures → Order to c ≡ lateCall to c
   late-captures e = rw (← by, e)
 
+  pub late-zeroes : r ≡ Zeroes → Order to c ≡ lateCall to c
+  late-zeroes e = rw (← by, e)
+
   pub late-idles : r ≡ Idles → Order to c ≡ lateCall to c
   late-idles e = rw (← by, e)
 
   pub late-resets : r ≡ Resets → Order to c ≡ lateCall to c
   late-resets e = rw (← by, e)
 
--- ---- try_call, seek, find
+-- ---- try_call, seek, find_as, find
 
 module _ (s : Session) (c : Call) (p o : List ℕ) (r : Step) (by : Lending stepNumber r o (callPerform c s (replicate 19 0))) where
   pub tried-same : (n : ℕ) (d : List ℕ) (g : Bool) → r .end ≡ end.Sent n → d ≡ take n o → g ≡ isSame d p → g ≡ true
@@ -126,16 +132,25 @@ module _ (s : Session) (early late : Call) (p : List ℕ) (x : Sought) (by : x �
   unfolding seekOf
   sought-late y e f = rw (← by, e) f
 
-module _ (s : Session) (p : List ℕ) (x : Spoken) (by : Promise spokenNumber x (understandOf p)) where
+module _ (kind : Kind) (s : Session) (p : List ℕ) (x : Spoken) (by : Promise spokenNumber x (understandOf kind p)) where
   pub found-command : (to : Address) (c : Command) (early late : Call) (y : Sought) → x ≡ spoken.Command to c
-      → early ≡ earlyCall c → late ≡ lateCall to c → y ≡ seekOf s early late p → y ≡ findOf s p
-  unfolding findOf
+      → early ≡ earlyCall c → late ≡ lateCall to c → y ≡ seekOf s early late p → y ≡ findAs kind s p
+  unfolding findAs
   found-command to c early late y e f g h = rw (← (by .answer), e, ← f, ← g) h
 
-  pub found-other : (m : Sought) → x ≡ spoken.Other → m ≡ missedOf s → m ≡ findOf s p
-  unfolding findOf
+  pub found-other : (m : Sought) → x ≡ spoken.Other → m ≡ missedOf s → m ≡ findAs kind s p
+  unfolding findAs
   found-other m e j = rw (← (by .answer), e) j
 
-  pub found-refused : (m : Sought) (why : Refusal) → x ≡ spoken.Refused why → m ≡ missedOf s → m ≡ findOf s p
-  unfolding findOf
+  pub found-refused : (m : Sought) (why : Refusal) → x ≡ spoken.Refused why → m ≡ missedOf s → m ≡ findAs kind s p
+  unfolding findAs
   found-refused m why e j = rw (← (by .answer), e) j
+
+module _ (s : Session) (p : List ℕ) (x : Sought) (by : x ≡ findAs Gate s p) where
+  pub found-gate : (c : Call) → x .source ≡ Found c → x ≡ findOf s p
+  unfolding findOf
+  found-gate c e = rw (← by, e)
+
+  pub found-drive : (y : Sought) → x .source ≡ Missing → y ≡ findAs Drive s p → y ≡ findOf s p
+  unfolding findOf
+  found-drive y e f = rw (← by, e) f

@@ -1,48 +1,67 @@
 -- What any of the calls comes to: sent, its exchange is opened, as far as a Hard Reset has one; else the session is as it was.
 use Prim.Native.Nat.{ℕ, _+_}
-use mathlib.Core.Bool.{Bool, true, false, false≢true}
+use mathlib.Core.Bool.{Bool, true, false, cond, true≢false, false≢true}
 use mathlib.Core.List.{List}
 use mathlib.Core.Path.{_≡_, refl, sym, ap, subst, _∙_}
 use Rattle.wire.specs.Numbers.{done}
 use native.Mathlib.Omega.{arith}
+use lib.Dec.{eqb}
+use borrow.Author.Tests.{ne-eqb}
 use Rattle.wire.specs.Promise.{Outcome}
 use Rattle.wire.specs.Address.{inRange}
 use Rattle.wire.proofs.Impossible.{impossible}
 use Rattle.wire.specs.declared.address.Address.{Address}
 use Rattle.wire.specs.declared.address.Address.the-variants as address
+use Rattle.wire.specs.declared.kind.Kind.{Kind}
 use Rattle.command.specs.declared.Command.{Command}
 use Rattle.command.specs.declared.Command.the-variants.{SetAddress, Nop}
 use Rattle.command.specs.Role.{roleOf, isReset}
+use Rattle.command.specs.Owner.{has}
 use Rattle.command.specs.Ranges.{fitsOf}
 use Rattle.codec.specs.Build.{Typed}
-use Rattle.command.proofs.Roles.{ordinary-fits}
+use Rattle.codec.proofs.Commands.{unplaced-typed}
 use Rattle.node.specs.Effect.{addressUp}
 use Rattle.session.specs.declared.Session.{Session}
 use Rattle.session.specs.declared.Step.{Step}
 use Rattle.session.specs.declared.End.the-variants.{Done, Sent}
-use Rattle.session.specs.Session.{nodeAt, givenPlace, endNumber, stepNumber}
+use Rattle.session.specs.Session.{nodeAt, givenPlace, offChain, endNumber, stepNumber}
+use Rattle.session.proofs.Sessions.{on-chain}
 use Rattle.sending.specs.Sending.{openExchange}
 use Rattle.sending.proofs.Passing.{Free}
 use Rattle.sending.proofs.Sent.{sending, Sends, node-fits, opened-reset, opened-waits}
 use Rattle.walk.proofs.Passing.{next-says, ask-says}
 use Rattle.walk.proofs.Sent.{next-sent, ask-sent, next-went, ask-went}
 use Rattle.walk.proofs.Stands.{next-stands, ask-stands}
-use Rattle.host.proofs.Passing.{order-says, regroup-says}
+use Rattle.host.proofs.Passing.{OrderPasses, order-says, regroup-says}
 use Rattle.host.proofs.Sent.{to-fits, order-sent, regroup-sent, order-went, regroup-went}
 use Rattle.host.proofs.Stands.{order-stands, regroup-stands}
 use Rattle.calls.specs.declared.Call.{Call}
 use Rattle.calls.specs.declared.Call.the-variants.{Next, Ask, Order, Regroup}
 use Rattle.calls.specs.Calls.{callPerform, TypedCall}
 
--- a call with number 0: a command went out, in a session that was free to send; address and command are of their ranges, and go out with any buffer that has room
+-- whom a packet to this address is about: on the walk, what goes to address 0x00 is for the next node
+abbrev pub aboutOf : Session → Address → Address
+aboutOf s (address.Individual i) = cond (eqb (i .0) addressUp) (nodeAt (s .walk + 1)) (address.Individual i)
+aboutOf s (address.Group g) = address.Group g
+
+pub about-on-chain : (s : Session) (to : Address) → offChain (s .n) to ≡ false → to ≡ aboutOf s to
+about-on-chain s (address.Individual i) h =
+    let low = on-chain (s .n) i h .low in
+    rw (ne-eqb (i .0) addressUp (λ e. omega arith))
+about-on-chain s (address.Group g) h = refl
+
+-- a call with number 0: a command went out, in a session that was free to send; address and command are of their ranges, and go out with any buffer that has room;
+-- a command that a kind of node lacks is an order's
 pub record CallWent (k : Call) (s : Session) (out : List ℕ) : Type 0 where
   pub called : Address
   pub to : Address
   pub command : Command
+  pub about : to ≡ aboutOf s called
   pub free : Free s
   pub ranged : inRange called ≡ true
   pub fits : fitsOf command ≡ true
   pub typed : TypedCall k → Typed command
+  pub own : (kind : Kind) → has kind command ≡ false → (to ≡ called) × OrderPasses s called command
   pub sends : (o : List ℕ) → Sends s called to command o (callPerform k s o)
   pub result : callPerform k s out ≡ sending s called to command out
 
@@ -55,10 +74,12 @@ call-went Next s out d =
       called = nodeAt addressUp;
       to = nodeAt (s .walk + 1);
       command = SetAddress (givenPlace (s .walk + 1));
+      about = refl;
       free = t .session;
       ranged = refl;
       fits = rw (node-fits (s .n) (s .walk + 1) (t .session .valid .few) (omega arith));
       typed = λ u. omega arith;
+      own = λ kind e. absurd (true≢false e);
       sends = λ o. next-sent s o (w .passed);
       result = w .result;
     }
@@ -70,10 +91,12 @@ call-went Ask s out d =
       called = nodeAt (s .walk + 1);
       to = nodeAt (s .walk + 1);
       command = Nop;
+      about = rw (ne-eqb (s .walk + 1) addressUp (λ e. omega arith));
       free = t .session;
       ranged = node-fits (s .n) (s .walk + 1) (t .session .valid .few) (omega arith);
       fits = refl;
       typed = λ u. tt;
+      own = λ kind e. absurd (true≢false e);
       sends = λ o. ask-sent s o (w .passed);
       result = w .result;
     }
@@ -84,10 +107,12 @@ call-went (Order to c) s out d =
       called = to;
       to = to;
       command = c;
+      about = about-on-chain s to (t .node);
       free = t .session;
       ranged = to-fits (s .n) to (t .session .valid .few) (t .group) (t .node);
-      fits = ordinary-fits c (t .ordinary) .0;
-      typed = λ u. ordinary-fits c (t .ordinary) .1;
+      fits = t .fits;
+      typed = λ u. unplaced-typed c (t .ordinary);
+      own = λ kind e. (refl, t);
       sends = λ o. order-sent s to c o (w .passed);
       result = w .result;
     }
@@ -99,10 +124,12 @@ call-went (Regroup i g leader) s out d =
       called = address.Individual i;
       to = address.Individual i;
       command = SetAddress (record { address = i; group = g; leader = leader });
+      about = let low = t .node .low in rw (ne-eqb (i .0) addressUp (λ e. omega arith));
       free = t .session;
       ranged = f;
       fits = rw (f, t .group);
       typed = λ u. u;
+      own = λ kind e. absurd (true≢false e);
       sends = λ o. regroup-sent s i g leader o (w .passed);
       result = w .result;
     }

@@ -1,14 +1,16 @@
 -- The call that gives some bytes, as the code looks for it. Whoever wants to know what it means reads Calls: what is found is such a call, and where none is found there is none (proofs/Finding).
 use Prim.Native.Nat.{ℕ}
-use mathlib.Core.Bool.{Bool, true, false, cond}
-use mathlib.Core.List.{List, [], _∷_}
-use lib.Dec.{eqb}
+use mathlib.Core.Bool.{cond}
+use mathlib.Core.List.{List}
 use lib.ListN.{take, replicate}
 use Rattle.wire.specs.Promise.{Outcome}
+use Rattle.text.specs.Same.{isSame}
 use Rattle.wire.specs.declared.address.Address.{Address}
+use Rattle.wire.specs.declared.kind.Kind.{Kind}
+use Rattle.wire.specs.declared.kind.Kind.the-variants.{Gate, Drive}
 use Rattle.command.specs.declared.Command.{Command}
 use Rattle.command.specs.declared.Role.{Role}
-use Rattle.command.specs.declared.Role.the-variants.{Plain, Places, Masks, Captures, Idles, Resets}
+use Rattle.command.specs.declared.Role.the-variants.{Plain, Places, Masks, Captures, Zeroes, Idles, Resets}
 use Rattle.command.specs.Role.{roleOf, isPlacing}
 use Rattle.session.specs.declared.Session.{Session}
 use Rattle.session.specs.declared.Step.{Step}
@@ -23,13 +25,6 @@ use Rattle.calls.specs.declared.Source.{Source}
 use Rattle.calls.specs.declared.Source.the-variants.{Found, Missing}
 use Rattle.calls.specs.Calls.{callPerform}
 use Rattle.calls.specs.Understanding.{understandOf}
-
--- the same bytes
-abbrev pub isSame : List ℕ → List ℕ → Bool
-isSame [] [] = true
-isSame [] (y ∷ b) = false
-isSame (x ∷ a) [] = false
-isSame (x ∷ a) (y ∷ b) = cond (eqb x y) (isSame a b) false
 
 -- none gives these bytes
 abbrev pub missedOf : Session → Sought
@@ -59,6 +54,7 @@ lateBy to c Plain = Order to c
 lateBy to c (Places p) = Regroup (p .address) (p .group) (p .leader)
 lateBy to c (Masks m) = Order to c
 lateBy to c Captures = Order to c
+lateBy to c Zeroes = Order to c
 lateBy to c Idles = Order to c
 lateBy to c Resets = Order to c
 
@@ -81,6 +77,10 @@ findBy s p (spoken.Command to c) = seekOf s (earlyCall c) (lateCall to c) p
 findBy s p spoken.Other = missedOf s
 findBy s p (spoken.Refused why) = missedOf s
 
--- the call that gives these bytes in this session, and the session after it
+-- as a kind of node reads them
+unfoldable pub findAs : Kind → Session → List ℕ → Sought
+findAs kind s p = findBy s p (understandOf kind p)
+
+-- the call that gives these bytes in this session, and the session after it: an LS-773's command first; where none is found, an LS-173AP's
 unfoldable pub findOf : Session → List ℕ → Sought
-findOf s p = findBy s p (understandOf p)
+findOf s p = bySource (findAs Gate s p .source) (findAs Gate s p) (findAs Drive s p)

@@ -1,3 +1,4 @@
 pub mod Calls
 pub mod Understanding
 pub mod Finding
+pub mod Alike

@@ -1,4 +1,4 @@
--- What some bytes of the command line say, all of them.
+-- What some bytes of the command line say to a kind of node, all of them.
 use Prim.Native.Nat.{ℕ}
 use mathlib.Core.Bool.{cond}
 use mathlib.Core.List.{List}
@@ -6,6 +6,7 @@ use lib.Dec.{ltb}
 use lib.ListN.{length}
 use Rattle.wire.specs.Numbers.{done, numberOf}
 use Rattle.wire.specs.declared.address.Address.{Address}
+use Rattle.wire.specs.declared.kind.Kind.{Kind}
 use Rattle.wire.specs.declared.refusal.Refusal.the-variants.{Long}
 use Rattle.packet.specs.Packet.{readOf, dataPart}
 use Rattle.packet.specs.declared.Framed.{Framed}
@@ -22,13 +23,13 @@ spokenTo to (reading.Known c) = Command to c
 spokenTo to reading.Other = Other
 
 -- a packet that reads is all of the bytes, or some are left over, 3
-abbrev pub spokenAs : List ℕ → Framed → Spoken
-spokenAs p (framed.Whole to k end) = cond (ltb end (length p)) (Refused Long) (spokenTo to (codecRead k (dataPart p)))
-spokenAs p (framed.Refused why) = Refused why
+abbrev pub spokenAs : Kind → List ℕ → Framed → Spoken
+spokenAs kind p (framed.Whole to k end) = cond (ltb end (length p)) (Refused Long) (spokenTo to (codecRead kind k (dataPart p)))
+spokenAs kind p (framed.Refused why) = Refused why
 
--- what bytes between two gaps say, all of them
-unfoldable pub understandOf : List ℕ → Spoken
-understandOf p = spokenAs p (readOf p)
+-- what bytes between two gaps say, all of them: "Synch Output and Start Motion share a byte and are two commands here"
+unfoldable pub understandOf : Kind → List ℕ → Spoken
+understandOf kind p = spokenAs kind p (readOf p)
 
 -- the number of what is understood
 abbrev pub spokenNumber : Spoken → ℕ

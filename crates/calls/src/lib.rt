@@ -1,5 +1,6 @@
 // The host's calls that send, as one type: made, and found again by the bytes that they put on the line.
 // Promised: a call that is made is the one of walk or host; the call found for some bytes gives them in that session with number 0, and where none is found none does.
+// The two kinds of node read some bytes as two commands: found is the one that the nodes it may reach have, and where it reaches nobody it makes no difference.
 // Left to others: what each call does (walk, host), and which bytes came after which (recording).
 use command::Command;
 use command::Reading;
@@ -11,13 +12,14 @@ use session::Step;
 use wire::Address;
 use wire::Group;
 use wire::Individual;
+use wire::Kind;
 use wire::Refusal;
 ghost use mathlib.Core.Path.{_≡_};
 ghost use Rattle.wire.specs.Promise.{Promise, Lending};
 ghost use Rattle.session.specs.Session.{stepNumber};
 ghost use Rattle.calls.specs.Calls.{callPerform};
 ghost use Rattle.calls.specs.Understanding.{spokenNumber, spokenTo, understandOf};
-ghost use Rattle.calls.specs.Finding.{isSame, missedOf, tryCall, earlyCall, lateCall, seekOf, findOf};
+ghost use Rattle.calls.specs.Finding.{missedOf, tryCall, earlyCall, lateCall, seekOf, findAs, findOf};
 
 // A call that sends, with its arguments.
 pub enum Call {
@@ -52,7 +54,7 @@ impl Call {
     }
 }
 
-// What some bytes of the command line say, all of them: a command to an address; a packet of another command; or why they are no packet, 3 for bytes left over.
+// What some bytes of the command line say to a kind of node, all of them: a command to an address; a packet of another command; or why they are no packet, 3 for bytes left over.
 pub enum Spoken {
     Command { to: Address, command: Command },
     Other,
@@ -94,9 +96,9 @@ fn spoken_to(to: Address, reading: Reading) -> Spoken
     }
 }
 
-// What the bytes between two gaps say: 1, 2, 1, 4 as reading has them, then 3.
-pub fn understand(bytes: &[u8]) -> Spoken
-    ensures { λ r. ⌜ Promise spokenNumber r (understandOf (now (bytes .entry))) ⌝ }
+// What the bytes between two gaps say to a kind of node: 1, 2, 1, 4 as reading has them, then 3.
+pub fn understand(kind: Kind, bytes: &[u8]) -> Spoken
+    ensures { λ r. ⌜ Promise spokenNumber r (understandOf kind (now (bytes .entry))) ⌝ }
 {
     match packet::read(bytes) {
         Framed::Whole {
@@ -107,27 +109,13 @@ pub fn understand(bytes: &[u8]) -> Spoken
             if end < bytes.len() {
                 return Spoken::Refused(Refusal::Long);
             }
-            spoken_to(address, codec::read(command, packet::data_part(bytes)))
+            spoken_to(
+                address,
+                codec::read(kind, command, packet::data_part(bytes)),
+            )
         }
         Framed::Refused(why) => Spoken::Refused(why),
     }
-}
-
-// Whether two runs of bytes are the same.
-fn is_same(a: &[u8], b: &[u8]) -> bool
-    ensures { λ r. ⌜ r ≡ isSame (now (a .entry)) (now (b .entry)) ⌝ }
-{
-    if a.len() != b.len() {
-        return false;
-    }
-    let mut i = 0;
-    while i < a.len() {
-        if a[i] != b[i] {
-            return false;
-        }
-        i += 1;
-    }
-    true
 }
 
 // None gives these bytes.
@@ -150,7 +138,7 @@ fn try_call(s: Session, call: Call, bytes: &[u8]) -> Sought
     let session = step.session;
     match end {
         End::Sent(n) => {
-            if is_same(text::first(&out, n), bytes) {
+            if text::is_same(text::first(&out, n), bytes) {
                 return Sought {
                     source: Source::Found(call),
                     session,
@@ -190,6 +178,7 @@ fn late_call(to: Address, c: Command) -> Call
         Role::Plain => Call::Order { to, command: c },
         Role::Masks(_) => Call::Order { to, command: c },
         Role::Captures => Call::Order { to, command: c },
+        Role::Zeroes => Call::Order { to, command: c },
         Role::Idles => Call::Order { to, command: c },
         Role::Resets => Call::Order { to, command: c },
     }
@@ -207,15 +196,28 @@ fn seek(s: Session, early: Call, late: Call, bytes: &[u8]) -> Sought
     }
 }
 
-// The call that gives these bytes in this session: a host in it could have sent them, or could not.
-pub fn find(s: Session, bytes: &[u8]) -> Sought
-    ensures { λ r. ⌜ r ≡ findOf s (now (bytes .entry)) ⌝ }
+// The call that sends what these bytes say to a kind of node.
+fn find_as(kind: Kind, s: Session, bytes: &[u8]) -> Sought
+    ensures { λ r. ⌜ r ≡ findAs kind s (now (bytes .entry)) ⌝ }
 {
-    match understand(bytes) {
+    match understand(kind, bytes) {
         Spoken::Command { to, command } => {
             seek(s, early_call(command), late_call(to, command), bytes)
         }
         Spoken::Other => missed(s),
         Spoken::Refused(_) => missed(s),
+    }
+}
+
+// The call that gives these bytes in this session: a host in it could have sent them, or could not. Where both kinds read a command of their own, the host refuses the one
+// that a node it may reach lacks.
+pub fn find(s: Session, bytes: &[u8]) -> Sought
+    ensures { λ r. ⌜ r ≡ findOf s (now (bytes .entry)) ⌝ }
+{
+    let sought = find_as(Kind::Gate, s, bytes);
+    let source = sought.source;
+    match source {
+        Source::Found(_) => sought,
+        Source::Missing => find_as(Kind::Drive, s, bytes),
     }
 }

@@ -12,7 +12,7 @@ use Rattle.command.specs.declared.Command.the-variants.{SetAddress, SynchOutput
 use Rattle.codec.specs.Build.{buildFor, codecBuild}
 use Rattle.status.specs.declared.Answer.the-variants as answer
 use Rattle.entry.specs.declared.Entry.{Entry}
-use Rattle.ledger.specs.Ledger.{ledgerLeast, eachFrom, settleOf, ledFrom, isLed}
+use Rattle.ledger.specs.Ledger.{ledgerLeast, eachFrom, settleOf, anyFrom, isLed, isLacked}
 use Rattle.session.specs.declared.Exchange.the-variants.{Waiting}
 use Rattle.session.specs.declared.Session.{Session}
 use Rattle.session.specs.declared.End.the-variants.{Done, Sent, Refused}
@@ -43,7 +43,7 @@ module _ (rest : List Entry) where
   waiting k c r = pair (r .walk) (Waiting (nodeAt k) c) (r .first) (r .second) rest
 
   sent-held : stepOf (order (nodeAt 2) (SetSynchOutput someHeld)) (shown fresh rest) ≡ record { end = Sent 8; session = waiting 2 (SetSynchOutput someHeld) fresh }
-  unfolding total written buildFor codecBuild isValid isClosed isWaiting freeCheck orderCheck openExchange transmitOf orderOf
+  unfolding total written buildFor codecBuild isValid isClosed isWaiting freeCheck orderCheck isLacked anyFrom ledgerLeast openExchange transmitOf orderOf
   sent-held = refl
 
   lost-held : finishOf (waiting 2 (SetSynchOutput someHeld) fresh) answer.Silent ≡ record { end = Done; session = shown unheld rest }
@@ -51,7 +51,7 @@ module _ (rest : List Entry) where
   lost-held = refl
 
   sent-copy : stepOf (order (nodeAt 2) SynchOutput) (shown unheld rest) ≡ record { end = Sent 4; session = waiting 2 SynchOutput unheld }
-  unfolding total written buildFor codecBuild isValid isClosed isWaiting freeCheck orderCheck openExchange transmitOf orderOf
+  unfolding total written buildFor codecBuild isValid isClosed isWaiting freeCheck orderCheck isLacked anyFrom ledgerLeast openExchange transmitOf orderOf
   sent-copy = refl
 
   copied : finishOf (waiting 2 SynchOutput unheld) answer.Clear ≡ record { end = Done; session = shown uncopied rest }
@@ -60,7 +60,7 @@ module _ (rest : List Entry) where
 
   sent-join : stepOf (regroup (record { 0 = 2 }) (record { 0 = 0x80 }) false) (shown (ready leads80 (addressed 2)) rest)
       ≡ record { end = Sent 6; session = waiting 2 joins (ready leads80 (addressed 2)) }
-  unfolding total written buildFor codecBuild isValid isClosed isWaiting hasRival ledgerLeast ledFrom isLed freeCheck regroupCheck openExchange transmitOf regroupOf
+  unfolding total written buildFor codecBuild isValid isClosed isWaiting hasRival ledgerLeast anyFrom isLed freeCheck regroupCheck openExchange transmitOf regroupOf
   sent-join = refl
 
   joined : finishOf (waiting 2 joins (ready leads80 (addressed 2))) answer.Clear ≡ record { end = Done; session = shown (ready leads80 joined80) rest }
@@ -69,7 +69,7 @@ module _ (rest : List Entry) where
 
   led : stepOf (regroup (record { 0 = 2 }) (record { 0 = 0x80 }) true) (shown (ready leads80 (addressed 2)) rest)
       ≡ record { end = Refused Led; session = shown (ready leads80 (addressed 2)) rest }
-  unfolding isValid isClosed isWaiting hasRival ledgerLeast ledFrom isLed freeCheck regroupCheck regroupOf
+  unfolding isValid isClosed isWaiting hasRival ledgerLeast anyFrom isLed freeCheck regroupCheck regroupOf
   led = refl
 
   -- the walk's first Set Address

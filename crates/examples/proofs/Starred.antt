@@ -7,11 +7,11 @@ use Rattle.buffer.specs.Buffer.{written}
 use Rattle.packet.specs.Packet.{dataPart, frameOf, isIntact, readOf}
 use Rattle.packet.specs.Build.{buildOf}
 use Rattle.command.specs.declared.Command.the-variants.{SetOutputs}
-use Rattle.codec.specs.Reading.{listedOf, codecRead}
+use Rattle.codec.specs.Reading.{sharedRows, gateRows, codecRead}
 use Rattle.codec.specs.Build.{buildFor, codecBuild}
 use Rattle.status.specs.declared.Answer.the-variants as answer
 use Rattle.entry.specs.declared.Entry.{Entry}
-use Rattle.ledger.specs.Ledger.{ledgerLeast, eachFrom, settleOf}
+use Rattle.ledger.specs.Ledger.{ledgerLeast, eachFrom, settleOf, anyFrom, isLacked}
 use Rattle.session.specs.declared.Exchange.the-variants.{Idle, Waiting}
 use Rattle.session.specs.declared.Session.{Session}
 use Rattle.session.specs.declared.End.the-variants.{Done, Sent}
@@ -29,7 +29,7 @@ module _ (rest : List Entry) where
   waiting b = pair 2 (Waiting (nodeAt 2) (SetOutputs 5)) (addressed 1) (entryWith (givenPlace 2) 0 (knownBut b true true)) rest
 
   sent : (b : Bool) → stepOf outputs5 (pair 2 Idle (addressed 1) (entryWith (givenPlace 2) 0 (knownBut b true true)) rest) ≡ record { end = Sent 6; session = waiting b }
-  unfolding total written buildFor codecBuild isValid isClosed isWaiting freeCheck orderCheck openExchange transmitOf orderOf
+  unfolding total written buildFor codecBuild isValid isClosed isWaiting freeCheck orderCheck isLacked anyFrom ledgerLeast openExchange transmitOf orderOf
   sent b = refl
 
   lost : finishOf (waiting true) answer.Silent ≡ record { end = Done; session = shown doubtful rest }
@@ -45,7 +45,7 @@ module _ (rest : List Entry) where
   kept = refl
 
   pub starred : Starred rest
-  unfolding total endsInSum dataPart frameOf isIntact readOf buildOf listedOf codecRead buildFor codecBuild
+  unfolding total endsInSum dataPart frameOf isIntact readOf buildOf sharedRows gateRows codecRead buildFor codecBuild
   starred =
       (record { built = λ out. refl; packed = λ out. refl; reads = record { command = 0xE; whole = refl; known = refl } }) and
       (record { built = λ out. refl; packed = λ out. refl; reads = record { command = 0x1; whole = refl; known = refl } }) and

@@ -7,6 +7,7 @@ use lib.ListN.{length, replicate}
 use Rattle.wire.specs.Promise.{Outcome}
 use Rattle.wire.specs.Address.{byteOf}
 use Rattle.buffer.specs.Buffer.{written}
+use Rattle.wire.specs.declared.kind.Kind.the-variants.{Gate}
 use Rattle.wire.specs.declared.address.Individual.{Individual}
 use Rattle.wire.specs.declared.address.Group.{Group}
 use Rattle.wire.specs.declared.address.Address.{Address}
@@ -21,6 +22,7 @@ use Rattle.node.specs.declared.state.Settings.{Settings}
 use Rattle.node.specs.Effect.{settingsPowerUp}
 use Rattle.entry.specs.declared.Known.{Known}
 use Rattle.entry.specs.declared.Entry.{Entry}
+use Rattle.entry.specs.Entry.{entryPowerUp}
 use Rattle.session.specs.declared.Exchange.{Exchange}
 use Rattle.session.specs.declared.Exchange.the-variants.{Idle}
 use Rattle.session.specs.declared.Session.{Session}
@@ -56,28 +58,26 @@ abbrev pub ran : List Event → Session → Outcome (List ℕ) Session
 ran [] s = record { answer = []; left = s }
 ran (e ∷ es) s = record { answer = stepNumber (stepOf e s) ∷ ran es (stepOf e s .session) .answer; left = ran es (stepOf e s .session) .left }
 
--- all six known, but for outputs, PWM pair and held set as given
+-- a gate's settings known, but for outputs, PWM pair and held set as given
 abbrev pub knownBut : Bool → Bool → Bool → Known
-knownBut outputs pwm held = record { place = true; mask = true; outputs = outputs; pwm = pwm; held = held; timer = true }
+knownBut outputs pwm held = record { place = true; mask = true; gate = record { outputs = outputs; pwm = pwm; held = held; timer = true }; drive = entryPowerUp Gate .known .drive }
 
 -- a node's settings: its place, its outputs; all else as power-up has it
 abbrev pub settingsWith : Place → ℕ → Settings
 settingsWith written outputs = record {
+  drive = settingsPowerUp .drive;
+  gate = record { outputs = outputs; held = settingsPowerUp .gate .held; pwm = settingsPowerUp .gate .pwm; timer = 0 };
   place = written;
   mask = 0;
-  outputs = outputs;
-  pwm = record { first = 0; second = 0 };
-  held = record { outputs = 0; pwm = record { first = 0; second = 0 } };
-  timer = 0;
 }
 
 -- and its entry, with what is known
 abbrev pub entryWith : Place → ℕ → Known → Entry
-entryWith written outputs known = record { settings = settingsWith written outputs; known = known }
+entryWith written outputs known = record { settings = settingsWith written outputs; known = known; kind = Gate }
 
 -- a node at power-up whose place, and nothing else, is in doubt
 abbrev pub placeInDoubt : Entry
-placeInDoubt = entryWith (settingsPowerUp .place) 0 (record { place = false; mask = true; outputs = true; pwm = true; held = true; timer = true })
+placeInDoubt = entryWith (settingsPowerUp .place) 0 (record { place = false; mask = true; gate = entryPowerUp Gate .known .gate; drive = entryPowerUp Gate .known .drive })
 
 -- a node that was given its address and nothing else
 abbrev pub addressed : ℕ → Entry
@@ -112,13 +112,13 @@ pub data Example : Type 0 where
 pub record Packets (to : Address) (c : Command) (bytes : List ℕ) : Type 0 where
   pub built : (out : List ℕ) → codecBuild to c out ≡ written bytes out
   pub packed : (out : List ℕ) → buildOf (byteOf to) (codeOf c) (ownData c) out ≡ written bytes out
-  pub reads : ReadsAs bytes to c (length bytes)
+  pub reads : ReadsAs Gate bytes to c (length bytes)
 
 -- what an example says, whatever the further 29 entries are
 abbrev pub Holds : List Entry → Example → Type 0
 Holds rest (packet to c bytes) = Packets to c bytes
 Holds rest (number bytes n) = framedNumber (readOf bytes) ≡ n
-Holds rest (reading bytes to c end) = ReadsAs bytes to c end
+Holds rest (reading bytes to c end) = ReadsAs Gate bytes to c end
 Holds rest (course r es numbers t) = ran es (shown r rest) ≡ record { answer = numbers; left = shown t rest }
 
 -- every example of a table holds

@@ -2,6 +2,7 @@
 use mathlib.Core.Bool.{true, false}
 use mathlib.Core.List.{List, [], _∷_, _++_}
 use lib.ListN.{replicate}
+use Rattle.wire.specs.declared.kind.Kind.the-variants.{Gate}
 use Rattle.command.specs.declared.Held.{Held}
 use Rattle.command.specs.declared.Command.the-variants.{SynchOutput, SetSynchOutput}
 use Rattle.entry.specs.declared.Entry.{Entry}
@@ -23,13 +24,13 @@ joined80 = entryWith (record { address = record { 0 = 2 }; group = record { 0 = 
 
 -- no address is given yet; address 1 is in doubt; address 1 is confirmed
 abbrev pub up : TwoNodes
-up = record { walk = 0; first = entryPowerUp; second = entryPowerUp }
+up = record { walk = 0; first = entryPowerUp Gate; second = entryPowerUp Gate }
 
 abbrev pub unplaced : TwoNodes
-unplaced = record { walk = 0; first = placeInDoubt; second = entryPowerUp }
+unplaced = record { walk = 0; first = placeInDoubt; second = entryPowerUp Gate }
 
 abbrev pub confirmed1 : TwoNodes
-confirmed1 = record { walk = 1; first = addressed 1; second = entryPowerUp }
+confirmed1 = record { walk = 1; first = addressed 1; second = entryPowerUp Gate }
 
 abbrev pub others : List Example
 others =

@@ -1,4 +1,5 @@
 pub mod Parts
 mod Numerals
+pub mod Sameness
 pub mod Meaning
 pub mod Unique

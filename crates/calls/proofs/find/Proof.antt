@@ -1,6 +1,6 @@
--- By what the bytes say.
+-- As an LS-773's command, or as an LS-173AP's.
 use borrow.Author.Needs.{needs}
-use Rattle.calls.proofs.Sorting.{found-command, found-other, found-refused}
+use Rattle.calls.proofs.Sorting.{found-gate, found-drive}
 use Rattle.calls.proofs.find.Statement.{statement}
 use Rattle.calls.proofs.find.Tie as tie
 
@@ -10,13 +10,7 @@ find-spec =
     (tie.spec
     (λ c κs. search needs)
     (λ c. search needs)
-    (λ c κs. search needs)
-    (λ c κs. search needs)
-    (λ c κs. search needs)
     (λ c. search needs)
     (λ c κs. search needs)
-    (λ c. search needs)
-    (λ c κs. search needs)
-    (λ c. search found-command)
-    (λ c. search found-other)
-    (λ c. search found-refused))
+    (λ c. search found-gate)
+    (λ c. search found-drive))

@@ -1,6 +1,6 @@
 -- One law for each role.
 use borrow.Author.Needs.{needs}
-use Rattle.calls.proofs.Sorting.{late-place, late-plain, late-masks, late-captures, late-idles, late-resets}
+use Rattle.calls.proofs.Sorting.{late-place, late-plain, late-masks, late-captures, late-zeroes, late-idles, late-resets}
 use Rattle.calls.proofs.late_call.Statement.{statement}
 use Rattle.calls.proofs.late_call.Tie as tie
 
@@ -15,9 +15,11 @@ late-call-spec =
     (λ c. search needs)
     (λ c. search needs)
     (λ c. search needs)
+    (λ c. search needs)
     (λ c. search late-place)
     (λ c. search late-plain)
     (λ c. search late-masks)
     (λ c. search late-captures)
+    (λ c. search late-zeroes)
     (λ c. search late-idles)
     (λ c. search late-resets))

@@ -3,9 +3,9 @@ use Prim.Native.Nat.{_≤_, _-_}
 use mathlib.Core.Path.{_≡_}
 use borrow.Author.Needs.{needs}
 use lib.ListN.{length}
-use Rattle.calls.proofs.Same.{AsFar, differ-long, far-start, far-next, far-differ, far-end}
-use Rattle.calls.proofs.is_same.Statement.{statement}
-use Rattle.calls.proofs.is_same.Tie as tie
+use Rattle.text.proofs.Sameness.{AsFar, differ-long, far-start, far-next, far-differ, far-end}
+use Rattle.text.proofs.same.is_same.Statement.{statement}
+use Rattle.text.proofs.same.is_same.Tie as tie
 
 abbrev Inv-loop : tie.InvT-loop
 Inv-loop a b i₀ i = (i ≤ length a) × (length a ≡ length b) × AsFar a b i

@@ -9,7 +9,7 @@ use lib.Dec.{eqb}
 use lib.ListN.{length, getD, drop, drop-of-length-le}
 use lib.Seq.{drop-cons}
 use borrow.Author.Tests.{eq-eqb, ne-eqb, eqb-true}
-use Rattle.calls.specs.Finding.{isSame}
+use Rattle.text.specs.Same.{isSame}
 
 -- of different length
 differ-on : (g : Bool) (a b : List ℕ) → false ≡ isSame a b → false ≡ cond g (isSame a b) false

@@ -174,8 +174,8 @@ fn own_data(c: Command) -> [u8; 14]
     }
 }
 
-// The packet of a command whose values are of their range, to the address byte `a`.
-fn put_packet_to(a: u8, c: Command, out: &mut [u8]) -> Built
+// The packet of a command, to the address byte `a`, whatever its values: 5 where it has no room.
+pub fn put_packet_to(a: u8, c: Command, out: &mut [u8]) -> Built
     ensures { λ r. ⌜ Lending builtNumber r (now (out .exit)) (written (packetTo a c) (now (out .entry))) ⌝ }
 {
     let command_byte = head(c);

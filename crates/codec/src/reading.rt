@@ -42,7 +42,7 @@ fn long(one: u8, two: u8, three: u8, four: u8) -> u32
 }
 
 // The data byte at a position.
-fn byte(bytes: &[u8], at: usize) -> u8
+pub(crate) fn byte(bytes: &[u8], at: usize) -> u8
     ensures { λ r. ⌜ r ≡ getD (now (bytes .entry)) at 0 ⌝ }
 {
     if at < bytes.len() {
@@ -60,7 +60,7 @@ fn word_at(bytes: &[u8], at: u8) -> u16
 }
 
 // The value of four bytes from a position on, if it is brought.
-fn long_if(brought: bool, bytes: &[u8], at: u8) -> u32
+pub(crate) fn long_if(brought: bool, bytes: &[u8], at: u8) -> u32
     ensures { λ r. ⌜ r ≡ longIf brought (now (bytes .entry)) at ⌝ }
 {
     if brought {
@@ -117,7 +117,7 @@ pub(crate) fn load_count(control: u8) -> u8
 }
 
 // What a load's data bytes bring.
-fn motion_of(bytes: &[u8]) -> Motion
+pub(crate) fn motion_of(bytes: &[u8]) -> Motion
     ensures { λ r. ⌜ r ≡ motionOf (now (bytes .entry)) ⌝ }
 {
     let control = byte(bytes, 0);
@@ -155,7 +155,7 @@ fn loading_two(bytes: &[u8]) -> Reading
 }
 
 // What the data bytes of Set Gain bring.
-fn gains_of(bytes: &[u8]) -> Gains
+pub(crate) fn gains_of(bytes: &[u8]) -> Gains
     ensures { λ r. ⌜ r ≡ gainsOf (now (bytes .entry)) ⌝ }
 {
     Gains {

@@ -7,7 +7,7 @@ use native.Mathlib.Omega.{arith}
 use borrow.Author.Tests.{lt-ltb, le-ltb, le-leb, lt-leb, leb-true}
 use lib.Dec.{leb}
 use lib.ListN.{length, drop, replicate, length-replicate, List·getD-eq-default}
-use Rattle.fields.specs.Field.{fieldsByte, fieldsWord, tripleOf, longOf}
+use Rattle.fields.specs.Field.{fieldsByte, fieldsWord, tripleOf, fieldsLong}
 use Rattle.fields.specs.Lending.{filledTo, roomField, roomOf, isLending}
 
 -- past the end
@@ -23,7 +23,7 @@ pub triple-is : (s p : List ℕ) (at low high : ℕ) → p ≡ drop at s → low
 triple-is s p at low high e l h = rw (l, h, e)
 
 -- two words of the rest
-pub long-is : (s p : List ℕ) (at low high : ℕ) → p ≡ drop at s → low ≡ fieldsWord p 0 → high ≡ fieldsWord p 2 → low + high * 65536 ≡ longOf s at
+pub long-is : (s p : List ℕ) (at low high : ℕ) → p ≡ drop at s → low ≡ fieldsWord p 0 → high ≡ fieldsWord p 2 → low + high * 65536 ≡ fieldsLong s at
 long-is s p at low high e l h = rw (l, h, e)
 
 -- a buffer filled with 55, of any length: to count the bytes of a large one is too much for the checker

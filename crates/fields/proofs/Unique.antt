@@ -20,6 +20,11 @@ use Rattle.fields.proofs.read.filled_word.Reads as filled-word
 use Rattle.fields.proofs.read.filled_triple.Reads as filled-triple
 use Rattle.fields.proofs.read.room.Reads as room
 use Rattle.fields.proofs.read.is_lending.Reads as is-lending
+use Rattle.fields.proofs.kind.is_kind.Reads as is-kind
+use Rattle.fields.proofs.kind.read_kind.Reads as read-kind
+use Rattle.fields.proofs.answer.Answer.put_kind.Reads as put-kind
+use Rattle.fields.proofs.kind.are_kinds.Reads as are-kinds
+use Rattle.fields.proofs.kind.read_kinds.Reads as read-kinds
 
 pub byte-unique : OneResult byte.Post
 byte-unique κs a r r′ s s′ p q = p ∙ sym q
@@ -77,3 +82,18 @@ room-unique κs a r r′ s s′ p q = p ∙ sym q
 
 pub is-lending-unique : OneResult is-lending.Post
 is-lending-unique κs a r r′ s s′ p q = p ∙ sym q
+
+pub is-kind-unique : OneResult is-kind.Post
+is-kind-unique κs a r r′ s s′ p q = p ∙ sym q
+
+pub read-kind-unique : OneResult read-kind.Post
+read-kind-unique κs a r r′ s s′ p q = p ∙ sym q
+
+pub put-kind-unique : OneResult put-kind.Post
+put-kind-unique κs a r r′ s s′ p q = p ∙ sym q
+
+pub are-kinds-unique : OneResult are-kinds.Post
+are-kinds-unique κs a r r′ s s′ p q = p ∙ sym q
+
+pub read-kinds-unique : OneResult read-kinds.Post
+read-kinds-unique κs a r r′ s s′ p q = p ∙ sym q

@@ -16,5 +16,5 @@ abbrev pub tripleOf : List ℕ → ℕ → ℕ
 tripleOf s at = fieldsWord (drop at s) 0 + getD (drop at s) 2 0 * 65536
 
 -- four bytes
-abbrev pub longOf : List ℕ → ℕ → ℕ
-longOf s at = fieldsWord (drop at s) 0 + fieldsWord (drop at s) 2 * 65536
+abbrev pub fieldsLong : List ℕ → ℕ → ℕ
+fieldsLong s at = fieldsWord (drop at s) 0 + fieldsWord (drop at s) 2 * 65536

@@ -2,6 +2,7 @@
 // Promised: one to four bytes at a place of a line; what it lends; each byte put into an answer, in its place, and nothing past its room.
 // Left to others: what the fields mean (layout, state, and the crates whose names start with try), and how bytes are written as text (hex).
 mod answer;
+mod kind;
 mod read;
 
 pub use answer::Answer;
@@ -10,6 +11,10 @@ pub use answer::malformed;
 pub use answer::nothing;
 pub use answer::numbered;
 pub use answer::valued;
+pub use kind::are_kinds;
+pub use kind::is_kind;
+pub use kind::read_kind;
+pub use kind::read_kinds;
 pub use read::MOST_ROOM;
 pub use read::MOST_TRIPLE_ROOM;
 pub use read::MOST_WORD_ROOM;

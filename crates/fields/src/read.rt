@@ -1,7 +1,7 @@
 // Fields of a line's bytes. Every place may be asked for: past the end is a 0.
 ghost use mathlib.Core.Path.{_≡_};
 ghost use lib.ListN.{drop};
-ghost use Rattle.fields.specs.Field.{fieldsByte, fieldsWord, tripleOf, longOf};
+ghost use Rattle.fields.specs.Field.{fieldsByte, fieldsWord, tripleOf, fieldsLong};
 ghost use Rattle.fields.specs.Lending.{filledOf, filledWord, filledTriple, roomField, roomOf, isLending};
 
 // The byte at a position.
@@ -36,7 +36,7 @@ pub fn triple(s: &[u8], at: usize) -> usize
 
 // Four bytes.
 pub fn long(s: &[u8], at: usize) -> u32
-    ensures { λ r. ⌜ r ≡ longOf (now (s .entry)) at ⌝ }
+    ensures { λ r. ⌜ r ≡ fieldsLong (now (s .entry)) at ⌝ }
 {
     let four = text::rest(s, at);
     let low = word(four, 0);

@@ -1,4 +1,4 @@
 mod Fields
-mod Turns
 mod Answers
+mod Known
 pub mod Unique

@@ -1,4 +1,3 @@
-pub mod Record
 pub mod Settings
 pub mod Nodes
 pub mod Entries

@@ -1,71 +1,134 @@
--- NODE, 31 bytes: what a node of the chain holds.
-use Prim.Native.Nat.{ℕ, _*_}
+-- NODE: what a node of the chain holds. "KIND and then: for 00 the 31 bytes as before; for 01 these 63".
+use Prim.Native.Nat.{ℕ}
 use mathlib.Core.Bool.{Bool, false, cond, _&&_}
 use mathlib.Core.List.{List, [], _∷_, map}
 use lib.Dec.{eqb, ltb, leb}
 use lib.ListN.{length, take, drop}
+use Rattle.wire.specs.declared.kind.Kind.{Kind}
+use Rattle.wire.specs.declared.kind.Kind.the-variants.{Gate, Drive}
 use Rattle.fields.specs.declared.answer.Answer.{Answer}
-use Rattle.fields.specs.Answer.{answerPutFlag, answerPutWord, answerPutLong, answerPutAll}
-use Rattle.fields.specs.Field.{fieldsByte, fieldsWord, longOf}
+use Rattle.fields.specs.Answer.{answerPut, answerPutFlag, answerPutWord, answerPutLong, answerPutAll}
+use Rattle.fields.specs.Field.{fieldsByte, fieldsWord, fieldsLong}
+use Rattle.fields.specs.Kind.{isKind, readKind, answerPutKind}
+use Rattle.fields.specs.Record.{recordsFrom, recordsLength, allAre, putEach}
 use Rattle.node.specs.declared.state.Bench.{Bench}
 use Rattle.node.specs.declared.state.Captured.{Captured}
 use Rattle.node.specs.declared.state.Node.{Node}
-use Rattle.layout.specs.Record.{recordsFrom, allAre, putEach}
 use Rattle.layout.specs.Settings.{readPlace, readSettings, putPlace, putSettings}
 
--- a record is there, and its flags, leader and addressed, are 00 or 01
+-- how many bytes a record has, with its KIND
+abbrev pub nodeBytes : Kind → ℕ
+nodeBytes Gate = 32
+nodeBytes Drive = 64
+
+unfoldable pub nodeLength : List ℕ → ℕ
+nodeLength s = nodeBytes (readKind (fieldsByte s 0))
+
+-- its KIND is one, all of it is there, and its flags, leader and addressed, are 00 or 01
 unfoldable pub isNode : List ℕ → Bool
-isNode s = leb 31 (length s) && (ltb (fieldsByte s 2) 2 && ltb (fieldsByte s 3) 2)
+isNode s = isKind (fieldsByte s 0) && leb (nodeLength s) (length s) && ltb (fieldsByte s 3) 2 && ltb (fieldsByte s 4) 2
 
 -- so many records are there, and "n = 00 to 21 hex"
 unfoldable pub areNodes : List ℕ → ℕ → Bool
-areNodes s n = leb n 33 && allAre isNode (recordsFrom 31 0 n s)
+areNodes s n = leb n 33 && allAre isNode (recordsFrom nodeLength n s)
 
 -- how many bytes so many records have, where a line may lend them
-abbrev pub nodesLength : ℕ → ℕ
-nodesLength n = cond (leb n 33) (n * 31) 0
+unfoldable pub nodesLength : List ℕ → ℕ → ℕ
+nodesLength s n = cond (leb n 33) (recordsLength nodeLength n s) 0
 
 -- "inputs (2), counter (4), analog 0, 1, 2, device ID, version"
-unfoldable pub readBench : List ℕ → Bench
-readBench s = record {
+unfoldable pub gateBench : List ℕ → Bench
+gateBench s = record {
+  counter = fieldsLong s 2;
+  home = 0;
   inputs = fieldsWord s 0;
-  counter = longOf s 2;
+  velocity = 0;
+  error = 0;
   analog0 = fieldsByte s 6;
   analog1 = fieldsByte s 7;
   analog2 = fieldsByte s 8;
+  ad = 0;
+  auxiliary = 0;
   id = fieldsByte s 9;
   version = fieldsByte s 10;
 }
 
+-- "position(4), A/D value, velocity(2), auxiliary status, home position(4), device ID, version, position error(2)"
+unfoldable pub driveBench : List ℕ → Bench
+driveBench s = record {
+  counter = 0;
+  home = fieldsLong s 8;
+  inputs = 0;
+  velocity = fieldsWord s 5;
+  error = fieldsWord s 14;
+  analog0 = 0;
+  analog1 = 0;
+  analog2 = 0;
+  ad = fieldsByte s 4;
+  auxiliary = fieldsByte s 7;
+  id = fieldsByte s 12;
+  version = fieldsByte s 13;
+}
+
 -- "captured inputs (2), captured counter (4)"
 unfoldable pub readCaptured : List ℕ → Captured
-readCaptured s = record { inputs = fieldsWord s 0; counter = longOf s 2 }
+readCaptured s = record { counter = fieldsLong s 2; inputs = fieldsWord s 0 }
 
--- place (3), addressed, the settings behind the place (10), bench values (11), captured ones (6)
-unfoldable pub readNode : List ℕ → Node
-readNode s = record {
-  settings = readSettings (readPlace s) (drop 4 s);
-  addressed = eqb (fieldsByte s 3) 1;
-  bench = readBench (drop 14 s);
+-- behind its KIND, of a gate: place (3), addressed, the settings behind the place (10), bench values (11), captured ones (6)
+unfoldable pub readGateNode : List ℕ → Node
+readGateNode s = record {
+  settings = readSettings Gate (readPlace s) (drop 4 s);
+  bench = gateBench (drop 14 s);
   captured = readCaptured (drop 25 s);
+  position = 0;
+  addressed = eqb (fieldsByte s 3) 1;
+  kind = Gate;
 }
+
+-- of a drive: place (3), addressed, the settings behind the place (43), position and bench values (16)
+unfoldable pub readDriveNode : List ℕ → Node
+readDriveNode s = record {
+  settings = readSettings Drive (readPlace s) (drop 4 s);
+  bench = driveBench (drop 47 s);
+  captured = record { counter = 0; inputs = 0 };
+  position = fieldsLong (drop 47 s) 0;
+  addressed = eqb (fieldsByte s 3) 1;
+  kind = Drive;
+}
+
+abbrev pub nodeBy : Kind → List ℕ → Node
+nodeBy Gate s = readGateNode s
+nodeBy Drive s = readDriveNode s
+
+-- the record at the start of s
+unfoldable pub readNode : List ℕ → Node
+readNode s = nodeBy (readKind (fieldsByte s 0)) (drop 1 s)
 
 -- as many as a table has room for; past the line's end all is 0
 unfoldable pub readNodes : List ℕ → List Node
-readNodes s = map readNode (recordsFrom 31 0 33 s)
+readNodes s = map readNode (recordsFrom nodeLength 33 s)
 
--- bench values more in an answer
-unfoldable pub putBench : Answer → Bench → Answer
-putBench a b =
+-- bench values more in an answer, and captured ones
+unfoldable pub putGateBench : Answer → Bench → Answer
+putGateBench a b =
     answerPutAll (answerPutLong (answerPutWord a (b .inputs)) (b .counter)) (b .analog0 ∷ b .analog1 ∷ b .analog2 ∷ b .id ∷ b .version ∷ [])
 
--- captured ones
 unfoldable pub putCaptured : Answer → Captured → Answer
 putCaptured a k = answerPutLong (answerPutWord a (k .inputs)) (k .counter)
 
+unfoldable pub putDriveBench : Answer → ℕ → Bench → Answer
+putDriveBench a p b =
+    answerPutWord (answerPut (answerPut (answerPutLong (answerPut (answerPutWord (answerPut (answerPutLong a p) (b .ad)) (b .velocity)) (b .auxiliary)) (b .home)) (b .id)) (b .version)) (b .error)
+
+-- what stands behind the settings, by the kind
+unfoldable pub putShown : Answer → Kind → Node → Answer
+putShown a Gate n = putCaptured (putGateBench a (n .bench)) (n .captured)
+putShown a Drive n = putDriveBench a (n .position) (n .bench)
+
 -- a record
 unfoldable pub putNode : Answer → Node → Answer
-putNode a n = putCaptured (putBench (putSettings (answerPutFlag (putPlace a (n .settings .place)) (n .addressed)) (n .settings)) (n .bench)) (n .captured)
+putNode a n =
+    putShown (putSettings (answerPutFlag (putPlace (answerPutKind a (n .kind)) (n .settings .place)) (n .addressed)) (n .kind) (n .settings)) (n .kind) n
 
 -- "NODE*n"
 unfoldable pub putNodes : Answer → List Node → ℕ → Answer

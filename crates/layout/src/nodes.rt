@@ -1,36 +1,49 @@
-// NODE: place (3), addressed, the settings behind the place (10), bench values (11), captured ones (6).
+// NODE: KIND, place (3), addressed, mask, and then
+// of a gate its settings (9), bench values (11), captured ones (6); of a drive its settings (42), its position and bench values (16).
 use crate::settings::put_place;
 use crate::settings::put_settings;
 use crate::settings::read_place;
 use crate::settings::read_settings;
 use fields::Answer;
 use fields::byte;
+use fields::is_kind;
 use fields::long;
+use fields::read_kind;
 use fields::word;
 use node::Bench;
 use node::Captured;
 use node::Node;
 use text::rest;
+use wire::Kind;
 ghost use mathlib.Core.Path.{_≡_};
-ghost use Rattle.layout.specs.Nodes.{isNode, areNodes, nodesLength, readBench, readCaptured, readNode, readNodes, putBench, putCaptured, putNode, putNodes};
+ghost use Prim.Native.Nat.{_≤_};
+ghost use Rattle.layout.specs.Nodes.{nodeLength, isNode, areNodes, nodesLength, gateBench, driveBench, readCaptured, readGateNode, readDriveNode, readNode, readNodes};
+ghost use Rattle.layout.specs.Nodes.{putGateBench, putDriveBench, putCaptured, putShown, putNode, putNodes};
 
-// How many bytes a record has.
-const NODE: usize = 31;
+// How many bytes a record has, by its kind.
+const GATE_NODE: usize = 32;
+
+const DRIVE_NODE: usize = 64;
 
 // How many records a line may lend, and a table has room for.
 const MOST_LENT: usize = wire::MOST_NODES + 2;
 
-// Whether s starts with a record: leader and addressed are flags, 00 or 01.
+// How many bytes the record at the start of s has.
+fn node_length(s: &[u8]) -> usize
+    ensures { λ r. ⌜ r ≡ nodeLength (now (s .entry)) ⌝ }
+    ensures within { λ r. ⌜ r ≤ 64 ⌝ }
+{
+    match read_kind(byte(s, 0)) {
+        Kind::Gate => GATE_NODE,
+        Kind::Drive => DRIVE_NODE,
+    }
+}
+
+// Whether s starts with a record: its kind is one, all of it is there, leader and addressed are flags, 00 or 01.
 fn is_node(s: &[u8]) -> bool
     ensures { λ r. ⌜ r ≡ isNode (now (s .entry)) ⌝ }
 {
-    if s.len() < NODE {
-        return false;
-    }
-    if byte(s, 2) < 2 {
-        return byte(s, 3) < 2;
-    }
-    false
+    is_kind(byte(s, 0)) & (node_length(s) <= s.len()) & (byte(s, 3) < 2) & (byte(s, 4) < 2)
 }
 
 // Whether s starts with so many records, and a line may lend them.
@@ -40,40 +53,72 @@ pub fn are_nodes(s: &[u8], count: usize) -> bool
     if MOST_LENT < count {
         return false;
     }
+    let mut at = 0;
     let mut i = 0;
     while i < count {
-        if !is_node(rest(s, i * NODE)) {
+        let record = rest(s, at);
+        if !is_node(record) {
             return false;
         }
+        at += node_length(record);
         i += 1;
     }
     true
 }
 
-// How many bytes so many records have, where a line may lend them.
-pub fn nodes_length(count: usize) -> usize
-    ensures { λ r. ⌜ r ≡ nodesLength count ⌝ }
+// How many bytes the first records of s have, as many as `count` says, where a line may lend them.
+pub fn nodes_length(s: &[u8], count: usize) -> usize
+    ensures { λ r. ⌜ r ≡ nodesLength (now (s .entry)) count ⌝ }
 {
-    if count <= MOST_LENT {
-        return count * NODE;
+    if MOST_LENT < count {
+        return 0;
     }
-    0
+    let mut at = 0;
+    let mut i = 0;
+    while i < count {
+        at += node_length(rest(s, at));
+        i += 1;
+    }
+    at
 }
 
-// Inputs (2), counter (4), analog 0, 1, 2, device ID, version.
-fn read_bench(s: &[u8]) -> Bench
-    ensures { λ r. ⌜ r ≡ readBench (now (s .entry)) ⌝ }
+// A gate's: inputs (2), counter (4), analog 0, 1, 2, device ID, version.
+fn gate_bench(s: &[u8]) -> Bench
+    ensures { λ r. ⌜ r ≡ gateBench (now (s .entry)) ⌝ }
 {
-    let inputs = word(s, 0);
-    let counter = long(s, 2);
     Bench {
-        inputs,
-        counter,
+        counter: long(s, 2),
+        home: 0,
+        inputs: word(s, 0),
+        velocity: 0,
+        error: 0,
         analog0: byte(s, 6),
         analog1: byte(s, 7),
         analog2: byte(s, 8),
+        ad: 0,
+        auxiliary: 0,
         id: byte(s, 9),
         version: byte(s, 10),
+    }
+}
+
+// A drive's, behind its position (4): A/D value, velocity (2), auxiliary status, home position (4), device ID, version, position error (2).
+fn drive_bench(s: &[u8]) -> Bench
+    ensures { λ r. ⌜ r ≡ driveBench (now (s .entry)) ⌝ }
+{
+    Bench {
+        counter: 0,
+        home: long(s, 8),
+        inputs: 0,
+        velocity: word(s, 5),
+        error: word(s, 14),
+        analog0: 0,
+        analog1: 0,
+        analog2: 0,
+        ad: byte(s, 4),
+        auxiliary: byte(s, 7),
+        id: byte(s, 12),
+        version: byte(s, 13),
     }
 }
 
@@ -83,22 +128,56 @@ fn read_captured(s: &[u8]) -> Captured
 {
     let inputs = word(s, 0);
     let counter = long(s, 2);
-    Captured { inputs, counter }
+    Captured { counter, inputs }
+}
+
+// What a gate's record has behind its kind.
+fn read_gate_node(s: &[u8]) -> Node
+    ensures { λ r. ⌜ r ≡ readGateNode (now (s .entry)) ⌝ }
+{
+    let addressed = byte(s, 3) == 1;
+    let settings = read_settings(Kind::Gate, read_place(s), rest(s, 4));
+    let bench = gate_bench(rest(s, 14));
+    let captured = read_captured(rest(s, 25));
+    Node {
+        settings,
+        bench,
+        captured,
+        position: 0,
+        addressed,
+        kind: Kind::Gate,
+    }
+}
+
+// What a drive's has.
+fn read_drive_node(s: &[u8]) -> Node
+    ensures { λ r. ⌜ r ≡ readDriveNode (now (s .entry)) ⌝ }
+{
+    let addressed = byte(s, 3) == 1;
+    let settings = read_settings(Kind::Drive, read_place(s), rest(s, 4));
+    let shown = rest(s, 47);
+    let bench = drive_bench(shown);
+    let captured = Captured {
+        counter: 0,
+        inputs: 0,
+    };
+    Node {
+        settings,
+        bench,
+        captured,
+        position: long(shown, 0),
+        addressed,
+        kind: Kind::Drive,
+    }
 }
 
 // The record at the start of s.
 fn read_node(s: &[u8]) -> Node
     ensures { λ r. ⌜ r ≡ readNode (now (s .entry)) ⌝ }
 {
-    let addressed = byte(s, 3) == 1;
-    let settings = read_settings(read_place(s), rest(s, 4));
-    let bench = read_bench(rest(s, 14));
-    let captured = read_captured(rest(s, 25));
-    Node {
-        settings,
-        addressed,
-        bench,
-        captured,
+    match read_kind(byte(s, 0)) {
+        Kind::Gate => read_gate_node(rest(s, 1)),
+        Kind::Drive => read_drive_node(rest(s, 1)),
     }
 }
 
@@ -108,18 +187,21 @@ pub fn read_nodes(s: &[u8]) -> [Node; MOST_LENT]
 {
     let n = read_node(s);
     let mut nodes = [n; MOST_LENT];
+    let mut at = 0;
     let mut i = 0;
     while i < MOST_LENT {
-        let n = read_node(rest(s, i * NODE));
+        let record = rest(s, at);
+        let n = read_node(record);
         nodes[i] = n;
+        at += node_length(record);
         i += 1;
     }
     nodes
 }
 
-// With bench values more.
-fn put_bench(a: Answer, b: Bench) -> Answer
-    ensures { λ r. ⌜ r ≡ putBench a b ⌝ }
+// With a gate's bench values more.
+fn put_gate_bench(a: Answer, b: Bench) -> Answer
+    ensures { λ r. ⌜ r ≡ putGateBench a b ⌝ }
 {
     a.put_word(b.inputs)
         .put_long(b.counter)
@@ -133,13 +215,38 @@ fn put_captured(a: Answer, k: Captured) -> Answer
     a.put_word(k.inputs).put_long(k.counter)
 }
 
+// With a drive's position and bench values more.
+fn put_drive_bench(a: Answer, position: u32, b: Bench) -> Answer
+    ensures { λ r. ⌜ r ≡ putDriveBench a position b ⌝ }
+{
+    a.put_long(position)
+        .put(b.ad)
+        .put_word(b.velocity)
+        .put(b.auxiliary)
+        .put_long(b.home)
+        .put(b.id)
+        .put(b.version)
+        .put_word(b.error)
+}
+
+// With what stands behind a node's settings more, by its kind.
+fn put_shown(a: Answer, kind: Kind, n: Node) -> Answer
+    ensures { λ r. ⌜ r ≡ putShown a kind n ⌝ }
+{
+    match kind {
+        Kind::Gate => put_captured(put_gate_bench(a, n.bench), n.captured),
+        Kind::Drive => put_drive_bench(a, n.position, n.bench),
+    }
+}
+
 // With a node more.
 fn put_node(a: Answer, n: Node) -> Answer
     ensures { λ r. ⌜ r ≡ putNode a n ⌝ }
 {
+    let kind = n.kind;
     let s = n.settings;
-    let a = put_settings(put_place(a, s.place).put_flag(n.addressed), s);
-    put_captured(put_bench(a, n.bench), n.captured)
+    let a = put_place(a.put_kind(kind), s.place).put_flag(n.addressed);
+    put_shown(put_settings(a, kind, s), kind, n)
 }
 
 // With the first `count` nodes more.

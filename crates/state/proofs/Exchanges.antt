@@ -20,7 +20,7 @@ module _ (s : List ℕ) (k : ℕ) (e : k ≡ fieldsByte s 0) where
   unfolding exchangeLength
   length-idle h = rw (← e, lt-ltb k 1 h)
 
-  pub length-waiting : (n : ℕ) (p : List ℕ) → 1 ≤ k → p ≡ drop 1 s → n ≡ dataCount p → 4 + n ≡ exchangeLength s
+  pub length-waiting : (n : ℕ) (p : List ℕ) → 1 ≤ k → p ≡ drop 1 s → n ≡ dataCount p → 5 + n ≡ exchangeLength s
   unfolding exchangeLength
   length-waiting n p h d q = rw (← e, le-ltb k 1 h, ← d, ← q)
 

@@ -1,4 +1,4 @@
--- EXCHANGE: "00", or "01 kind target command-byte data..".
+-- EXCHANGE: "00", or "01 kind target FAMILY command-byte data..".
 use Prim.Native.Nat.{ℕ, _+_}
 use mathlib.Core.Bool.{Bool, true, false, cond}
 use mathlib.Core.List.{List}
@@ -13,7 +13,7 @@ use Rattle.state.specs.Order.{dataCount, isOrder, readTarget, readComman
 
 -- how many bytes the exchange at the start of s has
 unfoldable pub exchangeLength : List ℕ → ℕ
-exchangeLength s = cond (ltb (fieldsByte s 0) 1) 1 (4 + dataCount (drop 1 s))
+exchangeLength s = cond (ltb (fieldsByte s 0) 1) 1 (5 + dataCount (drop 1 s))
 
 -- s is an exchange
 unfoldable pub isExchange : List ℕ → Bool

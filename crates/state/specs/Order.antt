@@ -1,4 +1,4 @@
--- ORDER: "kind target command-byte data..", a command with whom it is for.
+-- ORDER: "kind target FAMILY command-byte data..", a command with whom it is for.
 use Prim.Native.Nat.{ℕ, _+_, _/_, _%_}
 use mathlib.Core.Bool.{Bool, true, false, cond}
 use mathlib.Core.List.{List, [], _∷_}
@@ -7,9 +7,13 @@ use lib.ListN.{length, drop, getD, replicate}
 use Rattle.wire.specs.Address.{byteOf}
 use Rattle.wire.specs.declared.address.Address.{Address}
 use Rattle.wire.specs.declared.address.Address.the-variants as address
+use Rattle.wire.specs.declared.kind.Kind.the-variants.{Gate}
+use Rattle.buffer.specs.Buffer.{written}
 use Rattle.packet.specs.Packet.{dataPart}
-use Rattle.command.specs.Command.{commandRead}
-use Rattle.command.specs.Build.{commandBuild}
+use Rattle.codec.specs.Reading.{codecRead}
+use Rattle.codec.specs.Own.{driveOwn}
+use Rattle.codec.specs.Build.{packetTo}
+use Rattle.command.specs.Owner.{has}
 use Rattle.command.specs.declared.Command.{Command}
 use Rattle.command.specs.declared.Command.the-variants.{Nop}
 use Rattle.command.specs.declared.Reading.{Reading}
@@ -20,17 +24,21 @@ use Rattle.fields.specs.Answer.{answerPutAll}
 
 -- how many data bytes "the command byte with its count" says
 abbrev pub dataCount : List ℕ → ℕ
-dataCount s = fieldsByte s 2 / 16
+dataCount s = fieldsByte s 3 / 16
 
--- the command of the command byte and what stands behind it
+-- "FAMILY 00, the command as the LS-773 has it ..; FAMILY 01, as the LS-173AP has it, only its own five"; "Values off their range are the call's to refuse"
+unfoldable pub readFamily : ℕ → ℕ → List ℕ → Reading
+readFamily f k d = cond (eqb f 0) (codecRead Gate k d) (cond (eqb f 1) (driveOwn k d) Other)
+
+-- the command of its family, of the command byte and of what stands behind it
 abbrev pub orderCommand : List ℕ → Reading
-orderCommand s = commandRead (fieldsByte s 2 % 16) (drop 3 s)
+orderCommand s = readFamily (fieldsByte s 2) (fieldsByte s 3 % 16) (drop 4 s)
 
--- the command, where s has three bytes and as many data bytes, and its kind is 00 or 01
+-- the command, where s has four bytes and as many data bytes, and its kind is 00 or 01
 unfoldable pub readOrder : List ℕ → Reading
 readOrder s =
-    cond (ltb (length s) 3) Other
-    (cond (eqb (length s) (3 + dataCount s)) (cond (ltb 1 (fieldsByte s 0)) Other (orderCommand s)) Other)
+    cond (ltb (length s) 4) Other
+    (cond (eqb (length s) (4 + dataCount s)) (cond (ltb 1 (fieldsByte s 0)) Other (orderCommand s)) Other)
 
 -- a command was read
 abbrev pub isKnown : Reading → Bool
@@ -60,10 +68,15 @@ abbrev pub targetKind : Address → ℕ
 targetKind (address.Individual i) = 0
 targetKind (address.Group g) = 1
 
+-- 01 for what only the LS-173AP has
+abbrev pub familyOf : Command → ℕ
+familyOf c = cond (has Gate c) 0 1
+
 -- the packet of a command: "the command byte with its count as in a packet", whoever it is for
 abbrev pub packetShown : Command → List ℕ
-packetShown c = commandBuild (address.Individual (record { 0 = 0 })) c (replicate 19 0) .left
+packetShown c = written (packetTo 0 c) (replicate 19 0) .left
 
--- an order more: whom it is for, the command byte and the data bytes
+-- an order more: whom it is for, the family, the command byte and the data bytes
 unfoldable pub putOrder : Answer → Address → Command → Answer
-putOrder a to c = answerPutAll (answerPutAll a (targetKind to ∷ byteOf to ∷ getD (packetShown c) 2 0 ∷ [])) (dataPart (packetShown c))
+putOrder a to c =
+    answerPutAll (answerPutAll a (targetKind to ∷ byteOf to ∷ familyOf c ∷ getD (packetShown c) 2 0 ∷ [])) (dataPart (packetShown c))

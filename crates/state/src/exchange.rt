@@ -18,7 +18,7 @@ pub(crate) fn exchange_length(s: &[u8]) -> usize
     if byte(s, 0) < 1 {
         return 1;
     }
-    4 + data_count(rest(s, 1)) as usize
+    5 + data_count(rest(s, 1)) as usize
 }
 
 // Whether s is an EXCHANGE.

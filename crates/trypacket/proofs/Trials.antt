@@ -1,15 +1,16 @@
 -- What the exits of the functions of trypacket need, in the form in which the code gives it.
 use Prim.Native.Nat.{ℕ, _-_, _<_, _≤_}
-use mathlib.Core.Bool.{Bool, true, false}
+use mathlib.Core.Bool.{Bool, true, false, not}
 use mathlib.Core.List.{List}
 use mathlib.Core.Path.{_≡_, sym, _∙_}
 use native.Mathlib.Nat.{sub-zero}
-use borrow.Author.Tests.{lt-ltb, le-ltb}
+use borrow.Author.Tests.{lt-ltb, le-ltb, not-true, not-false}
 use native.Mathlib.Omega.{arith}
 use lib.ListN.{length, getD, take, drop}
 use Rattle.wire.specs.Promise.{Promise, Lending}
 use Rattle.wire.specs.Address.{byteOf}
 use Rattle.wire.specs.declared.address.Address.{Address}
+use Rattle.wire.specs.declared.kind.Kind.{Kind}
 use Rattle.wire.specs.declared.refusal.Refusal.{Refusal}
 use Rattle.buffer.specs.declared.Built.{Built}
 use Rattle.buffer.specs.Buffer.{builtNumber}
@@ -24,6 +25,7 @@ use Rattle.status.specs.Status.{statusNumber, itemsPart}
 use Rattle.mask.specs.Mask.{maskRead}
 use Rattle.fields.specs.declared.answer.Answer.{Answer}
 use Rattle.fields.specs.Field.{fieldsByte}
+use Rattle.fields.specs.Kind.{isKind, readKind}
 use Rattle.fields.specs.Lending.{mostRoom, filledOf, roomOf, isLending}
 use Rattle.fields.specs.Answer.{fieldsNothing, answerPut, answerPutAll, malformedOf, numberedOf}
 use Rattle.trypacket.specs.Trial.{buildInto, trypacketBuild, trypacketRead, readUnder, readStatus}
@@ -62,25 +64,31 @@ module _ (s : List ℕ) (f : Framed) (n : ℕ) (x₀ x₁ : Answer) (p : Promise
   unfolding trypacketRead answerPutAll
   read-refused why ef = rw (sym (p .answer) ∙ ef, e₁, e₀, en, ef)
 
-module _ (s : List ℕ) (m n : ℕ) (f : Status) (x₀ x₁ : Answer) (p : Promise statusNumber f (maskRead m s)) (en : n ≡ statusNumber f)
+module _ (s : List ℕ) (k : Kind) (m n : ℕ) (f : Status) (x₀ x₁ : Answer) (p : Promise statusNumber f (maskRead k m s)) (en : n ≡ statusNumber f)
     (e₀ : x₀ ≡ fieldsNothing) (e₁ : x₁ ≡ answerPut x₀ n) where
   -- the parts of a status packet
   pub under-whole : (b : ℕ) (x₂ r : Answer) (d : List ℕ) → f ≡ status.Whole b → x₂ ≡ answerPut x₁ b → d ≡ itemsPart s → r ≡ answerPutAll x₂ d
-      → r ≡ readUnder m s
+      → r ≡ readUnder k m s
   unfolding readUnder answerPutAll
   under-whole b x₂ r d ef e₂ ed er = rw (sym (p .answer) ∙ ef, er, ed, e₂, e₁, e₀, en, ef)
 
   -- the refusal alone
-  pub under-refused : (why : Refusal) → f ≡ status.Refused why → x₁ ≡ readUnder m s
+  pub under-refused : (why : Refusal) → f ≡ status.Refused why → x₁ ≡ readUnder k m s
   unfolding readUnder answerPutAll
   under-refused why ef = rw (sym (p .answer) ∙ ef, e₁, e₀, en, ef)
 
--- a line with no mask
-pub no-mask : (s : List ℕ) (r : Answer) → length s < 1 → r ≡ malformedOf → r ≡ readStatus s
+-- a line with no kind and mask
+pub no-mask : (s : List ℕ) (r : Answer) → length s < 2 → r ≡ malformedOf → r ≡ readStatus s
 unfolding readStatus
-no-mask s r h e = rw (lt-ltb (length s) 1 h, e)
+no-mask s r h e = rw (lt-ltb (length s) 2 h, e)
 
--- and one with a mask
-pub with-mask : (s d : List ℕ) (m : ℕ) (r : Answer) → 1 ≤ length s → m ≡ fieldsByte s 0 → d ≡ drop 1 s → r ≡ readUnder m d → r ≡ readStatus s
-unfolding readStatus
-with-mask s d m r h em ed er = rw (le-ltb (length s) 1 h, er, em, ed)
+module _ (s : List ℕ) (b : ℕ) (t : Bool) (r : Answer) (h : 2 ≤ length s) (eb : b ≡ fieldsByte s 0) (et : t ≡ isKind b) where
+  -- one whose kind is none
+  pub no-kind : not t ≡ true → r ≡ malformedOf → r ≡ readStatus s
+  unfolding readStatus
+  no-kind y e = rw (le-ltb (length s) 2 h, ← eb, ← et, not-true t y, e)
+
+  -- and one with both
+  pub with-mask : (d : List ℕ) (m : ℕ) (k : Kind) → not t ≡ false → k ≡ readKind b → m ≡ fieldsByte s 1 → d ≡ drop 2 s → r ≡ readUnder k m d → r ≡ readStatus s
+  unfolding readStatus
+  with-mask d m k y ek em ed er = rw (le-ltb (length s) 2 h, ← eb, ← et, not-false t y, er, ek, em, ed)

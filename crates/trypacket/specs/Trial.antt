@@ -7,6 +7,7 @@ use lib.ListN.{length, take, drop}
 use Rattle.wire.specs.Promise.{Outcome}
 use Rattle.wire.specs.Numbers.{done, numberOf}
 use Rattle.wire.specs.Address.{byteOf}
+use Rattle.wire.specs.declared.kind.Kind.{Kind}
 use Rattle.buffer.specs.declared.Built.{Built}
 use Rattle.buffer.specs.Buffer.{builtNumber}
 use Rattle.packet.specs.declared.Framed.{Framed}
@@ -19,6 +20,7 @@ use Rattle.status.specs.Status.{itemsPart}
 use Rattle.mask.specs.Mask.{maskRead}
 use Rattle.fields.specs.declared.answer.Answer.{Answer}
 use Rattle.fields.specs.Field.{fieldsByte}
+use Rattle.fields.specs.Kind.{isKind, readKind}
 use Rattle.fields.specs.Lending.{mostRoom, filledOf, roomOf, isLending}
 use Rattle.fields.specs.Answer.{malformedOf, numberedOf}
 
@@ -48,10 +50,12 @@ abbrev pub statusShown : List ℕ → Status → Answer
 statusShown s (status.Whole b) = numberedOf done (b ∷ itemsPart s)
 statusShown s (status.Refused why) = numberedOf (numberOf why) []
 
--- a status packet read under a mask
-unfoldable pub readUnder : ℕ → List ℕ → Answer
-readUnder m s = statusShown s (maskRead m s)
+-- a status packet of a kind of node, read under a mask
+unfoldable pub readUnder : Kind → ℕ → List ℕ → Answer
+readUnder k m s = statusShown s (maskRead k m s)
 
--- "`12 mask bytes..` read a status packet under a mask: `00 status items..`, else `NN`"
+-- "`12 KIND mask bytes..` reads a status packet of that kind": `00 status items..`, else `NN`
 unfoldable pub readStatus : List ℕ → Answer
-readStatus s = cond (ltb (length s) 1) malformedOf (readUnder (fieldsByte s 0) (drop 1 s))
+readStatus s =
+    cond (ltb (length s) 2) malformedOf
+    (cond (isKind (fieldsByte s 0)) (readUnder (readKind (fieldsByte s 0)) (fieldsByte s 1) (drop 2 s)) malformedOf)

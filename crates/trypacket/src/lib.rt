@@ -5,14 +5,17 @@ use fields::Answer;
 use fields::MOST_ROOM;
 use fields::byte;
 use fields::filled;
+use fields::is_kind;
 use fields::is_lending;
 use fields::malformed;
 use fields::nothing;
 use fields::numbered;
+use fields::read_kind;
 use fields::room;
 use packet::Framed;
 use status::Status;
 use text::rest;
+use wire::Kind;
 ghost use mathlib.Core.Path.{_≡_};
 ghost use Rattle.trypacket.specs.Trial.{buildInto, trypacketBuild, trypacketRead, readUnder, readStatus};
 
@@ -56,11 +59,11 @@ pub fn read(args: &[u8]) -> Answer
     }
 }
 
-// A status packet under a mask: `00 status items..`, else `NN`.
-fn read_under(mask: u8, s: &[u8]) -> Answer
-    ensures { λ r. ⌜ r ≡ readUnder mask (now (s .entry)) ⌝ }
+// A status packet of a kind of node, under a mask: `00 status items..`, else `NN`.
+fn read_under(kind: Kind, mask: u8, s: &[u8]) -> Answer
+    ensures { λ r. ⌜ r ≡ readUnder kind mask (now (s .entry)) ⌝ }
 {
-    let found = mask::read(s, mask);
+    let found = mask::read(kind, s, mask);
     let answer = nothing().put(found.number());
     match found {
         Status::Whole(first) => answer.put(first).put_all(status::items_part(s)),
@@ -68,12 +71,16 @@ fn read_under(mask: u8, s: &[u8]) -> Answer
     }
 }
 
-// `mask bytes..`: `00 status items..`, else `NN`.
+// `KIND mask bytes..`: `00 status items..`, else `NN`.
 pub fn read_status(args: &[u8]) -> Answer
     ensures { λ r. ⌜ r ≡ readStatus (now (args .entry)) ⌝ }
 {
-    if args.len() < 1 {
+    let kind = byte(args, 0);
+    if args.len() < 2 {
         return malformed();
     }
-    read_under(byte(args, 0), rest(args, 1))
+    if !is_kind(kind) {
+        return malformed();
+    }
+    read_under(read_kind(kind), byte(args, 1), rest(args, 2))
 }

@@ -1,6 +1,6 @@
--- The mask, then the packet.
+-- The kind and the mask, then the packet.
 use borrow.Author.Needs.{needs}
-use Rattle.trypacket.proofs.Trials.{no-mask, with-mask}
+use Rattle.trypacket.proofs.Trials.{no-mask, no-kind, with-mask}
 use Rattle.trypacket.proofs.read_status.Statement.{statement}
 use Rattle.trypacket.proofs.read_status.Tie as tie
 
@@ -9,7 +9,12 @@ read-status-spec =
     tie.close
     (tie.spec
     (λ c κs. search needs)
+    (λ c κs. search needs)
     (λ c. search no-mask)
+    (λ c κs. search needs)
+    (λ c κs. search needs)
+    (λ c. search no-kind)
+    (λ c κs. search needs)
     (λ c κs. search needs)
     (λ c κs. search needs)
     (λ c κs. search needs)

@@ -1,20 +1,21 @@
--- Invariant: what the looks at the records that are left will say is the answer.
-use Prim.Native.Nat.{_≤_, _-_}
-use mathlib.Core.Path.{_≡_}
+-- Invariant: what the looks at the entries that are left will say, and how many bytes they have, is the answer.
+use Prim.Native.Nat.{_≤_, _+_, _-_, _*_}
+use mathlib.Core.Path.{_≡_, refl}
 use native.Mathlib.Omega.{arith}
+use lib.ListN.{drop}
 use borrow.Author.Needs.{needs}
-use Rattle.layout.specs.Record.{recordsFrom, allAre}
-use Rattle.layout.specs.Entries.{isEntry, areEntries}
-use Rattle.layout.proofs.Fields.{entries-long, entries-start}
-use Rattle.layout.proofs.Turns.{bad, good, all-good}
+use Rattle.fields.specs.Record.{recordsLength}
+use Rattle.fields.proofs.Turns.{good, one-long}
+use Rattle.layout.specs.Entries.{entryLength}
+use Rattle.layout.proofs.Known.{Looking, entries-start, entries-bad, entries-good}
 use Rattle.layout.proofs.entries.are_entries.Statement.{statement}
 use Rattle.layout.proofs.entries.are_entries.Tie as tie
 
 abbrev Inv-loop : tie.InvT-loop
-Inv-loop s i₀ i = (i ≤ 31) × (allAre isEntry (recordsFrom 14 i (31 - i) s) ≡ areEntries s)
+Inv-loop s at₀ i₀ at i = (i ≤ 31) × (at ≤ 49 * i) × Looking s i at × (at + recordsLength entryLength (31 - i) (drop at s) ≡ recordsLength entryLength 31 s)
 
 abbrev μ-loop : tie.MeasureT-loop
-μ-loop s i₀ i = 31 - i
+μ-loop s at₀ i₀ at i = 31 - i
 
 pub are-entries-spec : {M : Type 1} → statement M
 are-entries-spec =
@@ -22,14 +23,13 @@ are-entries-spec =
     (tie.spec
     Inv-loop
     μ-loop
-    (λ c. search needs)
-    (λ c. search entries-long)
-    (λ c. (omega arith, search entries-start))
-    (λ c. search needs)
+    (λ c. (omega arith, omega arith, refl, search entries-start))
     (λ c κs. search needs)
     (λ c κs. search needs)
-    (λ c. search bad)
+    (λ c. search entries-bad)
+    (λ c κs. search needs)
     (λ c. search needs)
     (λ c. search needs)
-    (λ c. (omega arith, search good))
-    (λ c. search all-good))
+    (λ c. search needs)
+    (λ c. (omega arith, search needs, search good, search one-long))
+    (λ c. search entries-good))

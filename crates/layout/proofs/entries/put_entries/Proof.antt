@@ -4,9 +4,10 @@ use mathlib.Core.Path.{_≡_}
 use native.Mathlib.Omega.{arith}
 use lib.ListN.{length, drop}
 use borrow.Author.Needs.{needs}
-use Rattle.layout.specs.Record.{putEach}
+use Rattle.fields.specs.Record.{putEach}
+use Rattle.fields.proofs.Turns.{one-put, all-put}
 use Rattle.layout.specs.Entries.{putEntry, putEntries}
-use Rattle.layout.proofs.Answers.{entries-begin, one-put, all-put}
+use Rattle.layout.proofs.Known.{entries-begin}
 use Rattle.layout.proofs.entries.put_entries.Statement.{statement}
 use Rattle.layout.proofs.entries.put_entries.Tie as tie
 

@@ -1,6 +1,6 @@
 -- Part by part.
 use borrow.Author.Needs.{needs}
-use Rattle.layout.proofs.Fields.{entry-is}
+use Rattle.layout.proofs.Known.{entry-is}
 use Rattle.layout.proofs.entries.read_entry.Statement.{statement}
 use Rattle.layout.proofs.entries.read_entry.Tie as tie
 
@@ -8,6 +8,9 @@ pub read-entry-spec : {M : Type 1} → statement M
 read-entry-spec =
     tie.close
     (tie.spec
+    (λ c κs. search needs)
+    (λ c κs. search needs)
+    (λ c κs. search needs)
     (λ c κs. search needs)
     (λ c κs. search needs)
     (λ c κs. search needs)

@@ -1,6 +1,6 @@
--- By the tests, in order.
+-- By the tests.
 use borrow.Author.Needs.{needs}
-use Rattle.layout.proofs.Fields.{node-short, node-flags, node-flag}
+use Rattle.layout.proofs.Fields.{node-formed}
 use Rattle.layout.proofs.nodes.is_node.Statement.{statement}
 use Rattle.layout.proofs.nodes.is_node.Tie as tie
 
@@ -8,8 +8,9 @@ pub is-node-spec : {M : Type 1} → statement M
 is-node-spec =
     tie.close
     (tie.spec
-    (λ c. search node-short)
     (λ c κs. search needs)
     (λ c κs. search needs)
-    (λ c. search node-flags)
-    (λ c. search node-flag))
+    (λ c κs. search needs)
+    (λ c κs. search needs)
+    (λ c κs. search needs)
+    (λ c. search node-formed))

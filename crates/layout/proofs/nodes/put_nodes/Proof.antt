@@ -4,9 +4,10 @@ use mathlib.Core.Path.{_≡_}
 use native.Mathlib.Omega.{arith}
 use lib.ListN.{length, take, drop}
 use borrow.Author.Needs.{needs}
-use Rattle.layout.specs.Record.{putEach}
+use Rattle.fields.specs.Record.{putEach}
+use Rattle.fields.proofs.Turns.{one-counted, all-counted, all-there}
 use Rattle.layout.specs.Nodes.{putNode, putNodes}
-use Rattle.layout.proofs.Answers.{nodes-begin, node-more, nodes-counted, nodes-all}
+use Rattle.layout.proofs.Answers.{nodes-begin}
 use Rattle.layout.proofs.nodes.put_nodes.Statement.{statement}
 use Rattle.layout.proofs.nodes.put_nodes.Tie as tie
 
@@ -23,11 +24,11 @@ put-nodes-spec =
     Inv-loop
     μ-loop
     (λ c. (omega arith, search needs, nodes-begin _ _ _))
-    (λ c. search nodes-counted)
+    (λ c. search all-counted)
     (λ c. search needs)
     (λ c. search needs)
     (λ c κs. search needs)
     (λ c. search needs)
     (λ c. search needs)
-    (λ c. (omega arith, search needs, search (node-more, needs)))
-    (λ c. search nodes-all))
+    (λ c. (omega arith, search needs, search (one-counted, needs)))
+    (λ c. search all-there))

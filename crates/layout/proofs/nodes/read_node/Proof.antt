@@ -1,6 +1,6 @@
--- Part by part.
+-- By the kind.
 use borrow.Author.Needs.{needs}
-use Rattle.layout.proofs.Fields.{node-is}
+use Rattle.layout.proofs.Fields.{reads-gate, reads-drive}
 use Rattle.layout.proofs.nodes.read_node.Statement.{statement}
 use Rattle.layout.proofs.nodes.read_node.Tie as tie
 
@@ -10,10 +10,11 @@ read-node-spec =
     (tie.spec
     (λ c κs. search needs)
     (λ c κs. search needs)
+    (λ c. search needs)
     (λ c κs. search needs)
     (λ c κs. search needs)
+    (λ c. search needs)
     (λ c κs. search needs)
     (λ c κs. search needs)
-    (λ c κs. search needs)
-    (λ c κs. search needs)
-    (λ c. search node-is))
+    (λ c. search reads-gate)
+    (λ c. search reads-drive))

@@ -1,6 +1,6 @@
--- Both sets of outputs and PWM pair, and what stands around them.
+-- By the kind.
 use borrow.Author.Needs.{needs}
-use Rattle.layout.proofs.Answers.{settings-put}
+use Rattle.layout.proofs.Answers.{gate-settings-put, drive-settings-put}
 use Rattle.layout.proofs.settings.put_settings.Statement.{statement}
 use Rattle.layout.proofs.settings.put_settings.Tie as tie
 
@@ -9,7 +9,9 @@ put-settings-spec =
     tie.close
     (tie.spec
     (λ c κs. search needs)
+    (λ c. search needs)
     (λ c κs. search needs)
+    (λ c. search needs)
     (λ c κs. search needs)
-    (λ c κs. search needs)
-    (λ c. search settings-put))
+    (λ c. search gate-settings-put)
+    (λ c. search drive-settings-put))

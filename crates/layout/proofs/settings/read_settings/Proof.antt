@@ -1,6 +1,6 @@
--- Both sets of outputs and PWM pair, and what stands around them.
+-- By the kind.
 use borrow.Author.Needs.{needs}
-use Rattle.layout.proofs.Fields.{settings-is}
+use Rattle.layout.proofs.Fields.{gate-settings, drive-settings}
 use Rattle.layout.proofs.settings.read_settings.Statement.{statement}
 use Rattle.layout.proofs.settings.read_settings.Tie as tie
 
@@ -9,9 +9,13 @@ read-settings-spec =
     tie.close
     (tie.spec
     (λ c κs. search needs)
+    (λ c. search needs)
     (λ c κs. search needs)
     (λ c κs. search needs)
     (λ c κs. search needs)
+    (λ c. search needs)
     (λ c κs. search needs)
     (λ c κs. search needs)
-    (λ c. search settings-is))
+    (λ c κs. search needs)
+    (λ c. search gate-settings)
+    (λ c. search drive-settings))

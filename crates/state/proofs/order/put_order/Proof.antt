@@ -1,4 +1,4 @@
--- Whom it is for and the command byte, then the data bytes.
+-- Whom it is for, the family and the command byte, then the data bytes.
 use borrow.Author.Needs.{needs}
 use Rattle.state.proofs.Orders.{order-put}
 use Rattle.state.proofs.order.put_order.Statement.{statement}
@@ -9,6 +9,7 @@ put-order-spec =
     tie.close
     (tie.spec
     (λ c. search needs)
+    (λ c κs. search needs)
     (λ c κs. search needs)
     (λ c κs. search needs)
     (λ c κs. search needs)

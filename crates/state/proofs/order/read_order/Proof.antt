@@ -1,4 +1,4 @@
--- One law for each exit.
+-- By the tests, in order.
 use borrow.Author.Needs.{needs}
 use Rattle.state.proofs.Orders.{order-short, order-counted, order-kind, order-read}
 use Rattle.state.proofs.order.read_order.Statement.{statement}
@@ -15,6 +15,7 @@ read-order-spec =
     (λ c. search order-counted)
     (λ c κs. search needs)
     (λ c. search order-kind)
+    (λ c κs. search needs)
     (λ c κs. search needs)
     (λ c κs. search needs)
     (λ c κs. search needs)

@@ -1,10 +1,11 @@
 //! Hand-written cases for deliveries, `20`.
 
 use crate::case::{damaged, of_count, packet, Case};
-use crate::command::{Held, Place, Settings};
+use crate::command::{Held, Place};
 use crate::hex;
 use crate::layout;
-use crate::node::{BenchValues, Captured, Node};
+use crate::node::{BenchValues, Captured, Node, Values};
+use crate::settings::{GateSettings, Own, Settings};
 
 /// A record whose every byte tells where it comes from.
 fn record(address: u8, group: u8, leader: bool, addressed: bool) -> Node {
@@ -16,25 +17,29 @@ fn record(address: u8, group: u8, leader: bool, addressed: bool) -> Node {
                 leader,
             },
             mask: 0,
-            outputs: 0x9291,
-            pwm: [0x31, 0x32],
-            held: Held {
-                outputs: 0xC2C1,
-                pwm: [0x43, 0x44],
-            },
-            timer_mode: 0xCD,
+            own: Own::Gate(GateSettings {
+                outputs: 0x9291,
+                pwm: [0x31, 0x32],
+                held: Held {
+                    outputs: 0xC2C1,
+                    pwm: [0x43, 0x44],
+                },
+                timer_mode: 0xCD,
+            }),
         },
         addressed,
-        bench: BenchValues {
-            inputs: 0x6261,
-            counter: 0x7473_7271,
-            analog: [0x81, 0x82, 0x83],
-            device_id: 0x02,
-            version: 0x32,
-        },
-        captured: Captured {
-            inputs: 0xB2B1,
-            counter: 0xD4D3_D2D1,
+        values: Values::Gate {
+            bench: BenchValues {
+                inputs: 0x6261,
+                counter: 0x7473_7271,
+                analog: [0x81, 0x82, 0x83],
+                device_id: 0x02,
+                version: 0x32,
+            },
+            captured: Captured {
+                inputs: 0xB2B1,
+                counter: 0xD4D3_D2D1,
+            },
         },
     }
 }

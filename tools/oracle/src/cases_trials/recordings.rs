@@ -4,6 +4,7 @@
 use super::{own, story};
 use crate::case::{bytes, damaged, packet, Case};
 use crate::hex;
+use crate::kind::gates;
 use crate::layout;
 use crate::recording::{Capture, Recording};
 
@@ -46,6 +47,7 @@ fn timed(nodes: u8, commands: (&str, &[u32]), replies: (&str, &[u32])) -> String
 fn line_of(nodes: u8, commands: Capture, replies: Capture) -> String {
     let recording = Recording {
         nodes,
+        kinds: gates(usize::from(nodes)),
         commands,
         replies,
     };
@@ -197,18 +199,20 @@ fn every_command() -> Vec<String> {
 /// "The session of `30` to `38` isn't touched."
 fn session_stays() -> Vec<String> {
     let walked = walk(1, &[], &[]);
-    story(&format!("30 02; 31 06; {walked}; 35 00 00; 37"))
+    story(&format!("30 02 00 00; 31 06; {walked}; 35 00 00; 37"))
 }
 
 /// Cut short, with more than 1024 bytes or times, with a byte too many.
 fn wrong_forms() -> Vec<String> {
     own(&[
         "50",
-        "50 01 00 00 00 00 00 00 00 00 00",
-        "50 01 01 00 AA 01 00 00 00 00",
-        "50 01 01 04 00 00 00 00 00 00",
-        "50 01 00 00 01 04 00 00 00 00",
-        "50 01 00 00 00 00 01 04 00 00",
-        "50 01 00 00 00 00 00 00 01 04",
+        "50 01 00 00 00 00 00 00 00 00",
+        "50 01 02 00 00 00 00 00 00 00 00",
+        "50 01 00 00 00 00 00 00 00 00 00 00",
+        "50 01 00 01 00 AA 01 00 00 00 00",
+        "50 01 00 01 04 00 00 00 00 00 00",
+        "50 01 00 00 00 01 04 00 00 00 00",
+        "50 01 00 00 00 00 00 01 04 00 00",
+        "50 01 00 00 00 00 00 00 00 01 04",
     ])
 }

@@ -9,9 +9,11 @@ use crate::cases_bench::further_inputs;
 use crate::command::COMMAND_BYTES;
 use crate::coverage::{answerable, Coverage};
 use crate::hex::{self, MOST_INPUT};
-use crate::layout::NODE_BYTES;
+use crate::kind::Kind;
+use crate::layout::node_bytes;
 use crate::manuals::{self, DOCUMENTS, PRINTED, PRINTED_STATUS};
-use crate::node::{BenchValues, Node};
+use crate::node::Node;
+use crate::rules::Rules;
 use crate::{cases_replay, cases_sheets, layout};
 use crate::{make_bench, make_play, make_replay, make_sheets, make_trials};
 
@@ -217,7 +219,9 @@ fn the_manuals_status_packets_read() {
 }
 
 #[test]
-fn a_node_record_has_31_bytes() {
-    let node = Node::powered_up(BenchValues::ZERO);
-    assert_eq!(layout::node(&node).len(), NODE_BYTES);
+fn a_node_record_has_31_bytes_or_63() {
+    for kind in Kind::ALL {
+        let node = Node::powered_up(Rules::RIGHT, kind);
+        assert_eq!(layout::node(&node).len(), 1 + node_bytes(kind));
+    }
 }

@@ -1,16 +1,18 @@
-//! Hand-written cases for the `trials` program.
+//! Hand-written cases for the `trials` program, of gates. Those of drives are in
+//! `cases_carousels`.
 
-mod chain;
-mod host;
-mod recordings;
+pub mod chain;
+pub mod host;
+pub mod recordings;
 mod sheets;
 
 use std::collections::HashSet;
 
 use crate::case::{manual_cases, of_count, Case};
 use crate::hex;
+use crate::kind::Kind;
 use crate::layout;
-use crate::manuals::PRINTED_STATUS;
+use crate::manuals::{PrintedStatus, PRINTED_STATUS};
 use crate::packet::{HEADER, MOST_DATA};
 
 /// The cases in order.
@@ -31,12 +33,12 @@ pub fn cases() -> Vec<Case> {
     cases
 }
 
-fn own(lines: &[&str]) -> Vec<String> {
+pub fn own(lines: &[&str]) -> Vec<String> {
     lines.iter().map(|line| line.to_string()).collect()
 }
 
 /// The lines of a story: one call after another, parted by semicolons.
-fn story(lines: &str) -> Vec<String> {
+pub fn story(lines: &str) -> Vec<String> {
     lines.split("; ").map(str::to_string).collect()
 }
 
@@ -71,8 +73,26 @@ fn document_packets_built() -> Vec<String> {
 }
 
 /// The packets that each manual prints and that none before it does: reading
-/// remembers nothing, so once is enough.
+/// remembers nothing, so once is enough. Those of the servo drives' manuals, which
+/// come first, are read by `carousels`.
 fn manual_packets_read() -> Vec<Case> {
+    let mut cases = manual_packets_once();
+    cases.retain(|case| !is_of_drives(&case.name));
+    cases
+}
+
+/// The packets of 000 and 002.
+pub fn drive_manuals_read() -> Vec<Case> {
+    let mut cases = manual_packets_once();
+    cases.retain(|case| is_of_drives(&case.name));
+    cases
+}
+
+fn is_of_drives(name: &str) -> bool {
+    name.ends_with("000") || name.ends_with("002")
+}
+
+fn manual_packets_once() -> Vec<Case> {
     let mut read = HashSet::new();
     let mut cases = manual_cases("11 ");
     for case in &mut cases {
@@ -167,15 +187,19 @@ const RANGES_AND_ROOMS: [&str; 17] = [
     "10 06 01 06 FF FF",
 ];
 
+/// The status packets that the manuals of nodes of this kind print.
+pub fn printed_status(kind: Kind) -> Vec<String> {
+    let printed = PRINTED_STATUS.iter().filter(|own| own.kind() == kind);
+    let line = |own: &PrintedStatus| {
+        let kind = layout::kind(kind);
+        format!("12 {kind:02X} {:02X} {}", own.mask, own.bytes)
+    };
+    printed.map(line).collect()
+}
+
 /// The manuals' status packets, then every mask bit and every refusal.
 fn status_packets() -> Vec<String> {
-    let mut lines: Vec<String> = PRINTED_STATUS
-        .iter()
-        .map(|packet| {
-            let kind = layout::kind(packet.kind());
-            format!("12 {kind:02X} {:02X} {}", packet.mask, packet.bytes)
-        })
-        .collect();
+    let mut lines = printed_status(Kind::Gate);
     lines.extend(own(&[
         "12 00 00",
         "12 00 FF",
@@ -256,7 +280,7 @@ fn wrong_forms() -> Vec<String> {
         " 30 01 00",
         "30 01 00 ",
         "30 01 0g",
-        "30 0a",
+        "32 0a",
         "37",
     ])
 }

@@ -231,9 +231,9 @@ pub struct Stop {
 impl Stop {
     /// Of one data byte, or of five "exactly if bit 4 is set"; else None.
     pub fn from_data(data: &[u8]) -> Option<Stop> {
-        match data {
-            &[byte] if byte & STOP_HERE == 0 => Some(Stop { byte, position: 0 }),
-            &[byte, a, b, c, d] if byte & STOP_HERE != 0 => Some(Stop {
+        match *data {
+            [byte] if byte & STOP_HERE == 0 => Some(Stop { byte, position: 0 }),
+            [byte, a, b, c, d] if byte & STOP_HERE != 0 => Some(Stop {
                 byte,
                 position: i32::from_le_bytes([a, b, c, d]),
             }),

@@ -9,6 +9,7 @@ pub mod call;
 pub mod case;
 pub mod cases;
 pub mod cases_bench;
+pub mod cases_carousels;
 pub mod cases_replay;
 pub mod cases_sheets;
 pub mod cases_trials;

@@ -85,7 +85,7 @@ fn regroup_packet(prng: &mut Prng, nodes: &[Node]) -> Vec<u8> {
 /// among the nodes, often one of theirs.
 fn command_packet(prng: &mut Prng, nodes: &[Node]) -> Vec<u8> {
     let drives = nodes.iter().filter(|node| node.kind() == Kind::Drive);
-    let share = 80 * drives.count() / nodes.len().max(1);
+    let share = 90 * drives.count() / nodes.len().max(1);
     if share > 0 && prng.percent(share) {
         return drive_packet(prng, nodes);
     }
@@ -178,12 +178,21 @@ pub fn group(prng: &mut Prng) -> u8 {
 /// or a count or a byte isn't as it must be.
 fn drive_packet(prng: &mut Prng, nodes: &[Node]) -> Vec<u8> {
     let to = drive_address(prng, nodes);
+    match prng.below(100) {
+        0..=5 => return whole(to, 0x7, &uncounted_stop(prng)),
+        6..=11 => {
+            let mut data = gains(prng).data();
+            data[9] = prng.between(1, 0xFF);
+            return whole(to, 0x6, &data);
+        }
+        _ => {}
+    }
     let command = match prng.percent(25) {
         true => off_range_command(prng),
         false => drive_command(prng),
     };
     let mut data = command.data();
-    if prng.percent(15) {
+    if prng.percent(30) {
         misshape_data(prng, &mut data);
     }
     whole(to, command.nibble(), &data)
@@ -199,14 +208,23 @@ fn drive_address(prng: &mut Prng, nodes: &[Node]) -> u8 {
     }
 }
 
-/// A data byte more or less, or the first or tenth another.
+/// A stop byte that has bit 4 and no position, or a position without it.
+fn uncounted_stop(prng: &mut Prng) -> Vec<u8> {
+    let byte = prng.between(0, 1);
+    match prng.percent(50) {
+        true => vec![0x10 | byte],
+        false => [vec![0x04 | byte], prng.telling_bytes(4)].concat(),
+    }
+}
+
+/// A data byte more or less, the first another, or one bit of it.
 fn misshape_data(prng: &mut Prng, data: &mut Vec<u8>) {
-    match prng.below(4) {
+    match prng.below(5) {
+        _ if data.is_empty() => data.push(prng.telling_byte()),
         0 => drop(data.pop()),
-        1 if data.len() < MOST_DATA => data.push(prng.telling_byte()),
-        2 if data.len() > 9 => data[9] = prng.byte(),
-        _ if !data.is_empty() => data[0] = prng.byte(),
-        _ => {}
+        1 => data.push(prng.telling_byte()),
+        2..=3 => data[0] ^= 0x10,
+        _ => data[0] = prng.byte(),
     }
 }
 
@@ -325,7 +343,7 @@ fn off_range_gains(prng: &mut Prng) -> Gains {
         1 => gains.kd = high,
         2 => gains.ki = high,
         3 => gains.il = high,
-        4 => gains.el = prng.pick(&[0x4000, 0x7FFF, 0x8000, 0xFFFF]),
+        4 => gains.el = prng.pick(&[0x4000, 0x4000, 0x7FFF, 0x8000]),
         _ => gains.sr = 0,
     }
     gains

@@ -155,8 +155,8 @@ fn foreign(prng: &mut Prng, nodes: u8, heard: &[Heard]) -> Heard {
         true => whole(0x00, 0x1, &[1, 0xFF]),
         false => own[prng.below(own.len())].clone(),
     };
-    Heard::Command(match prng.below(13) {
-        0 => damage(prng, again),
+    Heard::Command(match prng.below(14) {
+        0 | 12 => damage(prng, again),
         1 => some(prng, again),
         2 => whole(0x00, 0x1, &[node, 0xFF]),
         3 => whole(node, 0x1, &[prng.between(0, nodes), group(prng)]),

@@ -92,10 +92,10 @@ impl Story {
             0..=4 => self.build_line(),
             5..=10 => self.read_line(),
             11..=14 => self.status_line(),
-            15..=20 => self.delivery_line(),
-            21 => vec![self.prng.pick(&UNKNOWN_KINDS), self.prng.byte()],
-            22..=26 => self.sheet_line(),
-            27..=28 => self.recording_line(),
+            15..=21 => self.delivery_line(),
+            22 => vec![self.prng.pick(&UNKNOWN_KINDS), self.prng.byte()],
+            23..=27 => self.sheet_line(),
+            28..=29 => self.recording_line(),
             _ => self.host_line(),
         }
     }
@@ -194,7 +194,9 @@ impl Story {
             _ => self.prng.between(1, 5),
         };
         let addressed = self.prng.between(0, length);
-        let kinds = kinds(&mut self.prng, usize::from(length));
+        // A drive's record is twice as long as a gate's, so that a long table has few.
+        let mut kinds = kinds(&mut self.prng, usize::from(length.min(5)));
+        kinds.resize(usize::from(length), Kind::Gate);
         let mut nodes: Vec<Node> = kinds.into_iter().map(|kind| self.node(kind)).collect();
         for (index, node) in nodes.iter_mut().enumerate() {
             node.addressed = index < usize::from(addressed);

@@ -88,7 +88,7 @@ pub const PRINTED: &[Printed] = &[
     printed("000", "Procedure Initialize, line 8", "AA 01 17 05 1D"),
     printed("000", "Procedure FindHomePosition, line 1", "AA 01 E6 C8 00 20 03 46 00 28 00 FF 00 40 1F 01 00 9F"),
     printed("000", "Procedure FindHomePosition, line 2", "AA 01 17 09 21"),
-    printed("000", "Procedure FindHomePosition, line 3", "AA 01 94 37 25 06 01 00 58 01 00 00 51"),
+    misprint("000", "Procedure FindHomePosition, line 3", "AA 01 94 37 25 06 01 00 58 01 00 00 51", "control byte 37 brings a position too, for which there are no bytes: 36 is meant"),
     printed("000", "Procedure FindHomePosition, line 4", "AA 01 19 18 32"),
     printed("000", "Procedure FindHomePosition, line 5", "AA 01 05 06"),
     printed("000", "Procedure Go To Absolute Position, line 1", "AA 01 17 09 21"),

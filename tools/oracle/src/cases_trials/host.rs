@@ -237,12 +237,12 @@ fn ending_cases() -> Vec<Case> {
 
 // ---- Sessions handed in -----------------------------------------------
 
-fn hand_in(session: &Session) -> String {
+pub fn hand_in(session: &Session) -> String {
     hex::format(&[vec![0x38], layout::session(session)].concat())
 }
 
 /// An open session of n nodes whose walk stands so far.
-fn session(n: u8, walk: u8, exchange: Exchange) -> Session {
+pub fn session(n: u8, walk: u8, exchange: Exchange) -> Session {
     let mut session = Session::fresh(Rules::RIGHT);
     (session.open, session.n, session.walk) = (true, n, walk);
     session.exchange = exchange;
@@ -255,12 +255,12 @@ fn session(n: u8, walk: u8, exchange: Exchange) -> Session {
     session
 }
 
-fn waits(target: Target, command: Command) -> Exchange {
+pub fn waits(target: Target, command: Command) -> Exchange {
     Exchange::Waiting { target, command }
 }
 
 /// A session handed in, then lines.
-fn handed(name: &str, session: &Session, lines: &str) -> Case {
+pub fn handed(name: &str, session: &Session, lines: &str) -> Case {
     Case::new(name, [vec![hand_in(session)], story(lines)].concat())
 }
 

@@ -17,8 +17,8 @@ impl Story {
     pub fn host_line(&mut self) -> Vec<u8> {
         self.show = self.prng.percent(60);
         match self.prng.below(100) {
-            0..=1 => return self.hand_in(),
-            2..=9 => return self.any_call(),
+            0 => return self.hand_in(),
+            1..=9 => return self.any_call(),
             _ => {}
         }
         let session = &self.model.session;
@@ -161,7 +161,7 @@ impl Story {
                         .pick(&[0x05, 0x05, 0x47, 0x47, 0x24, 0x26, 0x18, 0x0C]);
                     any_command(&mut self.prng, byte)
                 }
-                Kind::Drive if self.prng.percent(8) => off_range_command(&mut self.prng),
+                Kind::Drive if self.prng.percent(16) => off_range_command(&mut self.prng),
                 Kind::Drive => drive_command(&mut self.prng),
             },
         };
@@ -201,9 +201,27 @@ impl Story {
         line
     }
 
+    /// A group for a node to be in, mostly one that has no other kind.
+    fn group_for(&mut self, node: u8) -> u8 {
+        let group = self.own_group();
+        let nodes = usize::from(self.model.session.n.min(MOST_NODES));
+        let entries = &self.model.session.entries;
+        let kind = entries[usize::from(node - 1)].kind();
+        let mut members = entries[..nodes]
+            .iter()
+            .filter(|entry| entry.settings.place.group == group);
+        if members.all(|entry| entry.kind() == kind) || self.prng.percent(15) {
+            return group;
+        }
+        match kind {
+            Kind::Gate => self.prng.pick(&[0x80, 0x81]),
+            Kind::Drive => self.prng.pick(&[0x90, 0x91]),
+        }
+    }
+
     fn regroup(&mut self) -> Vec<u8> {
         let node = self.own_node();
-        let group = self.own_group();
+        let group = self.group_for(node);
         let leader = u8::from(self.prng.percent(50));
         vec![0x34, self.room(6), node, group, leader]
     }
@@ -259,7 +277,23 @@ impl Story {
         for _ in 0..self.prng.below(3) {
             self.twist(&mut session);
         }
-        [vec![0x38], layout::session(&session)].concat()
+        let mut line = [vec![0x38], layout::session(&session)].concat();
+        if self.prng.percent(4) {
+            self.misform_state(&mut line);
+        }
+        line
+    }
+
+    /// A KIND or a bit of `known` that is none, or a byte too few or too many. The
+    /// last entry is mostly a gate's, and ends with what is known of it.
+    fn misform_state(&mut self, line: &mut Vec<u8>) {
+        let last = line.len() - 1;
+        match self.prng.below(4) {
+            0 => line[last] |= self.prng.pick(&[0x40, 0x80]),
+            1 => line[last - 14] = self.prng.between(1, 3),
+            2 => drop(line.pop()),
+            _ => line.push(self.prng.telling_byte()),
+        }
     }
 
     /// A session that is ready, or walks, with a record of any kind.
@@ -303,9 +337,10 @@ impl Story {
             6..=8 => Target::Group(group(&mut self.prng)),
             _ => return Exchange::Idle,
         };
-        let command = match self.prng.percent(40) {
-            true => drive_command(&mut self.prng),
-            false => {
+        let command = match self.prng.below(10) {
+            0 => off_range_command(&mut self.prng),
+            1..=3 => drive_command(&mut self.prng),
+            _ => {
                 let byte = self.prng.pick(&COMMAND_BYTES);
                 any_command(&mut self.prng, byte)
             }

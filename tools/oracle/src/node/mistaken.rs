@@ -134,10 +134,10 @@ pub fn slipped_settings(rules: Rules, old: Settings, command: Command) -> Settin
             new.place.leader = old.place.leader;
         }
         Command::ReadStatus(mask) if rules.slips(Mistake::ReadStatusSticks) => new.mask = mask,
-        Command::DefineStatus(mask) if rules.slips(Mistake::MaskBit7Dropped) => {
-            if new.kind() == Kind::Drive {
-                new.mask = mask & 0x7F;
-            }
+        Command::DefineStatus(mask)
+            if rules.slips(Mistake::MaskBit7Dropped) && new.kind() == Kind::Drive =>
+        {
+            new.mask = mask & 0x7F;
         }
         _ => {}
     }

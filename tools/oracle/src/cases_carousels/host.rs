@@ -1,6 +1,6 @@
 //! Hand-written cases for the host's calls, `30` to `38`, with drives.
 
-use crate::case::Case;
+use crate::case::{bytes, Case};
 use crate::cases_trials::host::{hand_in, handed, session, waits};
 use crate::cases_trials::story;
 use crate::command::{Command, Place};
@@ -289,16 +289,14 @@ fn doubting(mut session: Session, node: usize, settings: &[Setting]) -> Session 
     session
 }
 
-/// The same line with another last byte but one: the known bits of node 31, made
-/// a drive, have bit 14 set.
+/// A session whose entry 31 is a drive's, its known bits with bit 14 among them.
 fn unknown_bit() -> String {
     let mut made = gate_and_drives(Exchange::Idle);
     made.entries[30] = made.entries[1];
-    let line = hand_in(&made);
-    let mut bytes = crate::case::bytes(&line);
-    let last = bytes.len() - 1;
-    bytes[last] |= 0x40;
-    hex::format(&bytes)
+    let mut line = bytes(&hand_in(&made));
+    let last = line.len() - 1;
+    line[last] |= 0x40;
+    hex::format(&line)
 }
 
 pub fn handed_in_cases() -> Vec<Case> {

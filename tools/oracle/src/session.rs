@@ -106,36 +106,23 @@ impl Session {
         buffer: &mut [u8],
     ) -> Result<usize, Refusal> {
         self.slip_into_range_check(target)?;
-        if self.rules.slips(Mistake::ValuesBeforeOpen) {
-            self.require_range(command)?;
-        }
+        self.mistake_range_at(Mistake::ValuesBeforeOpen, command)?;
         self.require_idle()?;
         if let (Target::Node(node), true) = (target, self.rules.slips(Mistake::NodeBeforeRange)) {
             self.require_node(node)?;
         }
         self.mistake_kind_before_node(target, command)?;
-        let ordered = !matches!(command, Command::SetAddress(_))
-            || self.rules.slips(Mistake::SetAddressOrdered);
-        require(ordered, Refusal::OffRange)?;
-        let later = [Mistake::ValuesAfterNode, Mistake::ValuesAfterKind];
-        let values_later = later.map(|mistake| self.rules.slips(mistake));
-        if !values_later.contains(&true) {
-            self.require_range(command)?;
-        }
+        self.require_range(command)?;
         match target {
             Target::Group(group) => require(group >= 0x80, Refusal::OffRange)?,
             Target::Node(node) => self.require_node(node)?,
         }
-        if values_later[0] {
-            self.require_range(command)?;
-        }
+        self.mistake_range_at(Mistake::ValuesAfterNode, command)?;
         if self.rules.slips(Mistake::WalkBeforeKind) {
             self.require_walk_ended()?;
         }
         self.require_kinds(target, command)?;
-        if values_later[1] {
-            self.require_range(command)?;
-        }
+        self.mistake_range_at(Mistake::ValuesAfterKind, command)?;
         self.require_walk_ended()?;
         let length = self.send(target.address(), target, command, buffer)?;
         if command == Command::HardReset {
@@ -253,10 +240,16 @@ impl Session {
         require(!refused, Refusal::KindLacks)
     }
 
-    /// 6: a value off its range.
+    /// 6: a Set Address, which isn't ordered so, or a value off its range.
     fn require_range(&self, command: Command) -> Result<(), Refusal> {
-        let in_range = command.is_in_range(self.rules) || self.rules.slips(Mistake::OffRangeSent);
-        require(in_range, Refusal::OffRange)
+        let slips = |mistake| self.rules.slips(mistake);
+        let ordered =
+            !matches!(command, Command::SetAddress(_)) || slips(Mistake::SetAddressOrdered);
+        let passed_over = slips(Mistake::OffRangeSent)
+            || slips(Mistake::ValuesAfterNode)
+            || slips(Mistake::ValuesAfterKind);
+        let in_range = command.is_in_range(self.rules) || passed_over;
+        require(ordered && in_range, Refusal::OffRange)
     }
 
     /// 9: walk not ended.
@@ -337,6 +330,12 @@ impl Session {
             let kinds = self.entries.map(|entry| entry.kind());
             new.entries = kinds.map(|kind| Entry::power_up(self.rules, kind));
         }
+    }
+
+    /// A value's range, where a mistaken host looks at it.
+    fn mistake_range_at(&self, place: Mistake, command: Command) -> Result<(), Refusal> {
+        let in_range = command.is_in_range(self.rules) || !self.rules.slips(place);
+        require(in_range, Refusal::OffRange)
     }
 
     /// 17 for a node off the chain, before 10.

@@ -2,7 +2,8 @@
 
 use crate::chain::{deliver, Delivery, MOST_NODES};
 use crate::hex;
-use crate::node::{BenchValues, Node};
+use crate::kind::Kind;
+use crate::node::Node;
 use crate::refusal::Refusal;
 use crate::rules::{Mistake, Rules};
 use crate::status::T;
@@ -25,7 +26,7 @@ pub fn run(rules: Rules, input: &[u8]) -> String {
     answers.iter().map(|answer| format!("{answer}\n")).collect()
 }
 
-/// A bench at work: a chain of nodes in power-up state, bench values 0.
+/// A bench at work: a chain of LS-773 nodes in power-up state, bench values 0.
 pub struct Bench {
     rules: Rules,
     pub nodes: Vec<Node>,
@@ -37,7 +38,7 @@ impl Bench {
     pub fn new(rules: Rules, count: usize) -> Bench {
         Bench {
             rules,
-            nodes: vec![Node::powered_up(BenchValues::ZERO); count],
+            nodes: vec![Node::powered_up(rules, Kind::Gate); count],
             stopped: false,
         }
     }

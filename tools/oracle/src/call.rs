@@ -32,30 +32,46 @@ impl Call {
     }
 }
 
+/// A command that was sent, and the session then.
+#[derive(Clone, Debug, PartialEq, Eq)]
+pub struct Sent {
+    pub command: Command,
+    pub session: Session,
+}
+
 /// The session once it has sent these bytes. None for "a command the host
 /// couldn't have sent": no call, in the session as it is, gives these bytes with
 /// number 0.
-pub fn after_sending(host: &Session, bytes: &[u8]) -> Option<Session> {
+pub fn after_sending(host: &Session, bytes: &[u8]) -> Option<Sent> {
     let calls = calls(host.rules, bytes).into_iter();
     let mut sent = calls.filter_map(|call| after_call(host, call, bytes));
     sent.next()
 }
 
 /// The session after a call that gives these bytes with number 0.
-fn after_call(host: &Session, call: Call, bytes: &[u8]) -> Option<Session> {
+fn after_call(host: &Session, call: Call, bytes: &[u8]) -> Option<Sent> {
     let mut tried = mistaken_before(host, call);
     let mut buffer = [0; MOST_PACKET];
     let length = call.make(&mut tried, &mut buffer).ok()?;
     if !is_same(host.rules, &buffer[..length], bytes) {
         return None;
     }
+    let command = match (call, tried.exchange) {
+        (Call::Order(_, command), _) | (_, Exchange::Waiting { command, .. }) => command,
+        (_, Exchange::Idle) => return None, // which no call leaves
+    };
     mistaken_after(host, call, &mut tried);
-    Some(tried)
+    Some(Sent {
+        command,
+        session: tried,
+    })
 }
 
 /// The calls that may give these bytes. "Next" and "ask" take no arguments; of
 /// the others a packet says all: address byte, command and data. With other
-/// arguments they give other bytes, or none.
+/// arguments they give other bytes, or none. Where two commands share a byte, the
+/// nodes that it may reach decide (17); to a group that nobody may be in both give
+/// it, and nothing differs.
 fn calls(rules: Rules, bytes: &[u8]) -> Vec<Call> {
     let mut calls = vec![Call::Next];
     if !rules.slips(Mistake::AskForeign) {
@@ -64,7 +80,7 @@ fn calls(rules: Rules, bytes: &[u8]) -> Vec<Call> {
     let [_, address, command_byte, data @ .., _] = own_bytes(rules, bytes) else {
         return calls;
     };
-    if let Some(command) = Command::decode(*command_byte, data) {
+    for command in readings(rules, *command_byte, data) {
         let targets = [Target::Node(*address), Target::Group(*address)];
         calls.extend(targets.map(|target| Call::Order(target, command)));
     }
@@ -79,6 +95,18 @@ fn calls(rules: Rules, bytes: &[u8]) -> Vec<Call> {
 }
 
 // ---- Mistakes alone ----------------------------------------------------
+
+/// The commands that these may be; a mistaken reader knows one for each byte.
+fn readings(rules: Rules, command_byte: u8, data: &[u8]) -> Vec<Command> {
+    let mut commands = Command::readings(command_byte, data);
+    if rules.slips(Mistake::SharedByteIsGates) {
+        commands.truncate(1);
+    }
+    if rules.slips(Mistake::SharedByteIsDrives) {
+        commands.drain(..commands.len().saturating_sub(1));
+    }
+    commands
+}
 
 /// All of the bytes; a mistaken reader leaves what stands behind the packet.
 fn own_bytes(rules: Rules, bytes: &[u8]) -> &[u8] {

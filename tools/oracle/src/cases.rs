@@ -4,6 +4,7 @@
 use crate::bench::Bench;
 use crate::case::Case;
 use crate::cases_bench;
+use crate::cases_carousels;
 use crate::cases_trials;
 use crate::hex;
 use crate::make_bench;
@@ -13,9 +14,10 @@ use crate::rules::Rules;
 /// The most stored input for one program.
 pub const MOST_STORED: usize = hex::MOST_INPUT;
 
-/// What the stored trials input leaves free at least, for the cases of requests
-/// to come.
+/// What the stored inputs of `trials` and `carousels` leave free at least, for the
+/// cases of requests to come.
 pub const LEFT_FREE: usize = 1024;
+pub const LEFT_FREE_CAROUSELS: usize = 4096;
 
 /// The most lines of the generated block, and its seed.
 const BENCH_LINES: usize = 1500;
@@ -73,6 +75,14 @@ fn further_bench_bytes() -> usize {
 /// newline.
 pub fn trials() -> Vec<u8> {
     let mut input = text(&cases_trials::cases());
+    input.pop();
+    input
+}
+
+/// The stored input of `carousels`, which answers the lines that `trials` does: all
+/// of it hand-written, too, and its last line lacks its newline.
+pub fn carousels() -> Vec<u8> {
+    let mut input = text(&cases_carousels::cases());
     input.pop();
     input
 }

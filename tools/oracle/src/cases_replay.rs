@@ -112,9 +112,63 @@ pub const ASK: &str = "\
 < 406 00 00
 ";
 
+/// `shows/carousel.txt`: a carousel beside two gates. The reply to a load is lost;
+/// it is loaded again, which moves nothing, and then started.
+pub const CAROUSEL: &str = "\
+3 gate gate drive
+> 0 AA 00
+> 1 21 01
+> 2 FF 21
+< 6 00 00
+> 20 AA 00
+> 21 21 02
+> 22 FF 22
+< 26 00 00
+> 40 AA 00
+> 41 21 03
+> 42 FF 23
+< 46 00 00
+> 100 AA 03
+> 101 17 05
+> 102 1F
+< 105 00 00
+> 200 AA 03
+> 201 D4 17
+> 202 00 00
+> 203 00 00
+> 204 00 80
+> 205 01 00
+> 206 00 64
+> 207 00 00
+> 208 D3
+< 212 00 00
+> 1000 AA 01
+> 1001 26 01
+> 1002 00 28
+< 1006 00 00
+> 1500 AA 03
+> 1501 54 11
+> 1502 00 28
+> 1503 00 00
+> 1504 90
+> 1540 AA 02
+> 1541 26 01
+> 1542 00 29
+< 1546 00 00
+> 1600 AA 03
+> 1601 54 11
+> 1602 00 28
+> 1603 00 00
+> 1604 90
+< 1608 00 00
+> 2000 AA 03
+> 2001 05 08
+< 2005 00 00
+";
+
 /// Commands as address, command byte and data, to which header and sum are put,
 /// and replies; each packet at its time.
-const STORY: [(char, u32, &str); 70] = [
+const STORY: [(char, u32, &str); 96] = [
     // The walk: a reply before any command, not clear, sent again, a second
     // reply; silence and asks; a reply that isn't good.
     ('<', 0, "00"),
@@ -133,6 +187,11 @@ const STORY: [(char, u32, &str); 70] = [
     ('<', 44, "00 01"),
     ('>', 50, "03 0E"),
     ('<', 54, "00 00"),
+    // The fourth is a drive, in a group of its own.
+    ('>', 60, "00 21 04 FF"),
+    ('<', 64, "00 00"),
+    ('>', 70, "04 21 04 11"),
+    ('<', 74, "00 00"),
     // A group with a leader, for whom alone its replies confirm; replies with
     // items; the longest, and one longer.
     ('>', 100, "01 21 01 00"),
@@ -189,6 +248,31 @@ const STORY: [(char, u32, &str); 70] = [
     ('>', 410, "02 26 AA AA"),
     ('<', 412, "00 00 00 00"),
     ('>', 420, "03 05"),
+    // The drive: gains, a stop byte, loads that wait and one that starts, each
+    // value in doubt by itself; 05 and 24, which the gates read otherwise.
+    ('>', 430, "04 E6 64 00 00 04 46 00 28 00 FA 00 00 08 03 05"),
+    ('<', 434, "00 00"),
+    ('>', 436, "04 57 11 FF FF FF FF"),
+    ('<', 438, "00 00"),
+    ('>', 440, "04 E4 1F E0 B1 FF FF 00 80 01 00 00 64 00 00 40"),
+    ('<', 444, "00 00"),
+    ('>', 446, "04 54 32 25 06 01 00"),
+    ('>', 450, "91 05"),
+    ('<', 454, "00 00"),
+    ('>', 456, "04 24 88 AA"),
+    ('<', 458, "00 00"),
+    ('>', 460, "04 17 02"),
+    ('>', 462, "04 00"),
+    ('<', 464, "00 00"),
+    ('>', 466, "04 54 B2 25 06 01 00"),
+    ('<', 468, "00 00"),
+    ('>', 470, "91 14 80"),
+    ('<', 472, "00 00"),
+    ('>', 474, "04 D4 97 01 00 00 80 FF FF FF 7F 00 00 00 00"),
+    // To a group that nobody may be in.
+    ('>', 480, "A0 05"),
+    ('>', 482, "A0 24 08 01"),
+    ('>', 484, "A0 17 05"),
     // The leader's reply that isn't clear; then its place in doubt.
     ('>', 500, "02 18 03"),
     ('<', 504, "00 00"),
@@ -210,7 +294,7 @@ fn run(mark: char, time: u32, bytes: &str) -> String {
     format!("{mark} {time} {bytes}\n")
 }
 
-/// The stored input: all eleven commands, accepted up to the end of the
+/// The stored input: all sixteen commands, accepted up to the end of the
 /// recording. One packet is several runs, and the last line lacks its newline.
 pub fn stored() -> Vec<u8> {
     let runs: String = STORY
@@ -221,7 +305,7 @@ pub fn stored() -> Vec<u8> {
         "> 40 AA 00 21 03 FF 23\n",
         "> 40 AA 00\n> 41 21\n> 41 03 FF\n> 42 23\n",
     );
-    format!("3\n{}", several.trim_end()).into_bytes()
+    format!("4 gate gate gate drive\n{}", several.trim_end()).into_bytes()
 }
 
 /// Further inputs: the recordings of `shows/`, endings of each sort, what is
@@ -229,6 +313,7 @@ pub fn stored() -> Vec<u8> {
 pub fn further() -> Vec<Named> {
     let mut inputs = told_whole();
     inputs.extend(ended_by_a_command());
+    inputs.extend(ended_by_kinds());
     inputs.extend(refused());
     inputs.extend(sizes());
     inputs
@@ -246,11 +331,15 @@ fn told_whole() -> Texts {
         ("lost-reply", LOST_REPLY.to_string()),
         ("missed-pass", MISSED_PASS.to_string()),
         ("ask", ASK.to_string()),
+        ("carousel", CAROUSEL.to_string()),
         (
             "document",
             "2\n> 0 AA 00 21 01\n> 1 FF 21\n< 4 00 00\n".to_string(),
         ),
         ("count-alone", "2".to_string()),
+        ("kinds-alone", "2 drive gate".to_string()),
+        ("kinds-of-gates", with_kinds("2 gate gate", 2)),
+        ("kinds-of-31", format!("31{}\n", " drive".repeat(31))),
         ("count-ended", "31\n".to_string()),
         ("one-node", walk(1)),
         ("walk-of-31", walk(31)),
@@ -331,6 +420,38 @@ fn ended_by_a_command() -> Texts {
     ]
 }
 
+/// The same with kinds: node 1 is a gate, node 2 a drive. What a command says is
+/// as its node reads it; elsewhere as a gate does, or else as a drive.
+fn ended_by_kinds() -> Texts {
+    let by = |parts: &str| {
+        let ready = with_kinds("2 gate drive", 2);
+        format!("{ready}> 50 {}\n", packet(parts))
+    };
+    vec![
+        ("not-a-drive-s", by("02 26 05 00")),
+        ("not-a-drive-s-0c", by("02 0C")),
+        ("not-a-drive-s-address", by("02 21 00 FF")),
+        ("not-a-drive-s-nibble", by("02 24 31 40")),
+        (
+            "not-a-drive-s-count",
+            by("02 94 37 25 06 01 00 58 01 00 00"),
+        ),
+        (
+            "not-a-drive-s-gains",
+            by("02 E6 00 80 00 00 00 00 00 00 00 00 00 00 01 00"),
+        ),
+        ("not-a-drive-s-stop", by("02 17 06")),
+        ("not-a-gate-s", by("01 17 05")),
+        ("not-a-mixed-group-s", by("FF 05")),
+        ("not-a-mixed-group-s-pwm", by("FF 24 18 40")),
+        ("not-a-mixed-group-s-load", by("FF 54 11 E0 B1 FF FF")),
+        ("not-a-group-s-range", by("A0 57 10 00 00 00 80")),
+        ("not-node-9-s", by("09 57 10 01 00 00 80")),
+        ("not-node-9-s-05", by("09 05")),
+        ("not-address-00-s", by("00 00")),
+    ]
+}
+
 /// Each test in its sequence.
 fn refused() -> Texts {
     let one = |line: &str| format!("2\n> 5 AA\n{line}\n> 6 01\n");
@@ -342,6 +463,16 @@ fn refused() -> Texts {
         ("count-02", "02\n".to_string()),
         ("count-return", "2\r\n> 0 AA\n".to_string()),
         ("no-count", "> 0 AA\n".to_string()),
+        ("kinds-fewer", with_kinds("2 drive", 2)),
+        ("kinds-more", with_kinds("2 drive gate gate", 2)),
+        ("kinds-in-capitals", with_kinds("2 gate Drive", 2)),
+        ("kinds-of-another-name", with_kinds("1 drives", 1)),
+        ("kinds-two-spaces", with_kinds("2 gate  drive", 2)),
+        ("kinds-space-behind", with_kinds("1 gate ", 1)),
+        ("kinds-comma", with_kinds("2 gate, drive", 2)),
+        ("kinds-return", with_kinds("1 drive\r", 1)),
+        ("kinds-without-count", with_kinds("gate", 1)),
+        ("kinds-and-count-0", "0 gate\n> 0\n".to_string()),
         ("bad-count-and-line", "0\n\n".to_string()),
         ("blank-line", one("")),
         ("blank-last", "2\n> 0 AA\n\n".to_string()),
@@ -418,7 +549,12 @@ fn nops() -> String {
 
 /// The count, and the walk of so many nodes, eight milliseconds each.
 fn walk(nodes: u8) -> String {
-    let mut text = format!("{nodes}\n");
+    with_kinds(&nodes.to_string(), nodes)
+}
+
+/// The same behind another first line.
+fn with_kinds(first: &str, nodes: u8) -> String {
+    let mut text = format!("{first}\n");
     for node in 1..=nodes {
         let (sent, came) = (8 * u32::from(node - 1), 8 * u32::from(node - 1) + 3);
         text += &run('>', sent, &format!("00 21 {node:02X} FF"));

@@ -1,15 +1,18 @@
-//! Hand-written cases for the `trials` program.
+//! Hand-written cases for the `trials` program, of gates. Those of drives are in
+//! `cases_carousels`.
 
-mod chain;
-mod host;
-mod recordings;
+pub mod chain;
+pub mod host;
+pub mod recordings;
 mod sheets;
 
 use std::collections::HashSet;
 
 use crate::case::{manual_cases, of_count, Case};
 use crate::hex;
-use crate::manuals::PRINTED_STATUS;
+use crate::kind::Kind;
+use crate::layout;
+use crate::manuals::{PrintedStatus, PRINTED_STATUS};
 use crate::packet::{HEADER, MOST_DATA};
 
 /// The cases in order.
@@ -30,12 +33,12 @@ pub fn cases() -> Vec<Case> {
     cases
 }
 
-fn own(lines: &[&str]) -> Vec<String> {
+pub fn own(lines: &[&str]) -> Vec<String> {
     lines.iter().map(|line| line.to_string()).collect()
 }
 
 /// The lines of a story: one call after another, parted by semicolons.
-fn story(lines: &str) -> Vec<String> {
+pub fn story(lines: &str) -> Vec<String> {
     lines.split("; ").map(str::to_string).collect()
 }
 
@@ -70,8 +73,26 @@ fn document_packets_built() -> Vec<String> {
 }
 
 /// The packets that each manual prints and that none before it does: reading
-/// remembers nothing, so once is enough.
+/// remembers nothing, so once is enough. Those of the servo drives' manuals, which
+/// come first, are read by `carousels`.
 fn manual_packets_read() -> Vec<Case> {
+    let mut cases = manual_packets_once();
+    cases.retain(|case| !is_of_drives(&case.name));
+    cases
+}
+
+/// The packets of 000 and 002.
+pub fn drive_manuals_read() -> Vec<Case> {
+    let mut cases = manual_packets_once();
+    cases.retain(|case| is_of_drives(&case.name));
+    cases
+}
+
+fn is_of_drives(name: &str) -> bool {
+    name.ends_with("000") || name.ends_with("002")
+}
+
+fn manual_packets_once() -> Vec<Case> {
     let mut read = HashSet::new();
     let mut cases = manual_cases("11 ");
     for case in &mut cases {
@@ -166,32 +187,39 @@ const RANGES_AND_ROOMS: [&str; 17] = [
     "10 06 01 06 FF FF",
 ];
 
+/// The status packets that the manuals of nodes of this kind print.
+pub fn printed_status(kind: Kind) -> Vec<String> {
+    let printed = PRINTED_STATUS.iter().filter(|own| own.kind() == kind);
+    let line = |own: &PrintedStatus| {
+        let kind = layout::kind(kind);
+        format!("12 {kind:02X} {:02X} {}", own.mask, own.bytes)
+    };
+    printed.map(line).collect()
+}
+
 /// The manuals' status packets, then every mask bit and every refusal.
 fn status_packets() -> Vec<String> {
-    let mut lines: Vec<String> = PRINTED_STATUS
-        .iter()
-        .map(|packet| format!("12 {:02X} {}", packet.mask, packet.bytes))
-        .collect();
+    let mut lines = printed_status(Kind::Gate);
     lines.extend(own(&[
-        "12 00",
-        "12 FF",
         "12 00 00",
-        "12 00 02 02",
-        "12 00 02 03",
-        "12 00 00 00 00",
-        "12 01 00 00",
-        "12 01 00 01 02 03",
-        "12 01 00 01 02 04",
-        "12 01 00 01 02 00 03",
-        "12 FF FF 01 02 03 04 05 06 07 08 09 0A 0B 0C 0D 0E 0F 10 11 98",
-        "12 FF FF 01 02 03 04 05 06 07 08 09 0A 0B 0C 0D 0E 0F 10 11 99",
-        "12 FF FF 01 02 03 04 05 06 07 08 09 0A 0B 0C 0D 0E 0F 10 87",
+        "12 00 FF",
+        "12 00 00 00",
+        "12 00 00 02 02",
+        "12 00 00 02 03",
+        "12 00 00 00 00 00",
+        "12 00 01 00 00",
+        "12 00 01 00 01 02 03",
+        "12 00 01 00 01 02 04",
+        "12 00 01 00 01 02 00 03",
+        "12 00 FF FF 01 02 03 04 05 06 07 08 09 0A 0B 0C 0D 0E 0F 10 11 98",
+        "12 00 FF FF 01 02 03 04 05 06 07 08 09 0A 0B 0C 0D 0E 0F 10 11 99",
+        "12 00 FF FF 01 02 03 04 05 06 07 08 09 0A 0B 0C 0D 0E 0F 10 87",
     ]));
     for bit in 0..8 {
         let mask = 1u8 << bit;
-        lines.push(format!("12 {mask:02X} 00 01 01"));
-        lines.push(format!("12 {mask:02X} 00 01 02 03"));
-        lines.push(format!("12 {mask:02X} 00 01 02 03 04 0A"));
+        lines.push(format!("12 00 {mask:02X} 00 01 01"));
+        lines.push(format!("12 00 {mask:02X} 00 01 02 03"));
+        lines.push(format!("12 00 {mask:02X} 00 01 02 03 04 0A"));
     }
     lines
 }
@@ -211,13 +239,17 @@ fn wrong_forms() -> Vec<String> {
         "10 04 01",
         "10 41 01 0E",
         "12",
+        "12 00",
+        "12 02 00 00 00",
         "20",
         "20 04",
         "20 04 22",
         "20 04 01",
         "20 41 00",
         "30",
-        "30 01 01",
+        "30 01",
+        "30 01 02",
+        "30 01 00 00",
         "31",
         "31 06 00",
         "31 41",
@@ -225,13 +257,15 @@ fn wrong_forms() -> Vec<String> {
         "32 04 00",
         "33",
         "33 04 00 01",
-        "33 04 02 01 0E",
-        "33 04 00 01 0E 00",
-        "33 06 00 01 26 05",
-        "33 06 00 01 21 01 FF",
-        "33 06 00 01 1A 3F",
-        "33 06 00 01 1E 00",
-        "33 41 00 01 0E",
+        "33 04 00 01 0E",
+        "33 04 02 01 00 0E",
+        "33 04 00 01 02 0E",
+        "33 04 00 01 00 0E 00",
+        "33 06 00 01 00 26 05",
+        "33 06 00 01 00 21 01 FF",
+        "33 06 00 01 00 1A 3F",
+        "33 06 00 01 00 1E 00",
+        "33 41 00 01 00 0E",
         "34",
         "34 06 01 80",
         "34 06 01 80 02",
@@ -242,11 +276,11 @@ fn wrong_forms() -> Vec<String> {
         "38",
         "38 00 00 00 00",
         "3",
-        "30  02",
-        " 30 02",
-        "30 02 ",
-        "30 0g",
-        "30 1f",
+        "30  01 00",
+        " 30 01 00",
+        "30 01 00 ",
+        "30 01 0g",
+        "32 0a",
         "37",
     ])
 }

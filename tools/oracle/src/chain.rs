@@ -1,6 +1,7 @@
 //! "The chain": delivering a packet to a lent table of node records.
 
 use crate::command::Command;
+use crate::kind::Kind;
 use crate::node::Node;
 use crate::packet::{frame, Packet, HEADER, OVERHEAD};
 use crate::refusal::{require, Refusal};
@@ -115,16 +116,18 @@ fn replies(rules: Rules, nodes: &[Node], index: usize, packet: &Packet) -> bool 
     let node = &nodes[index];
     let speaks = node.settings.place.leader || rules.slips(Mistake::MembersReply);
     let answers = packet.address == node.address() || packet.address == node.group() && speaks;
-    hears(rules, nodes, index) && answers && !goes_unanswered(rules, packet)
+    hears(rules, nodes, index) && answers && !goes_unanswered(rules, node.kind(), packet)
 }
 
-/// Whether nobody answers such a packet: an intact Hard Reset of count 0.
-fn goes_unanswered(rules: Rules, packet: &Packet) -> bool {
-    let kind = Command::decode(packet.command_byte, packet.data);
-    if kind.is_none() && rules.slips(Mistake::OthersSilent) {
+/// Whether no node of this kind answers such a packet: an intact Hard Reset of
+/// count 0.
+fn goes_unanswered(rules: Rules, kind: Kind, packet: &Packet) -> bool {
+    let command = Command::decode(kind, packet.command_byte, packet.data);
+    let acted_on = command.filter(|command| command.is_in_range(rules));
+    if acted_on.is_none() && mistaken_silence(rules, command) {
         return true;
     }
-    kind == Some(Command::HardReset)
+    command == Some(Command::HardReset)
         && (packet.intact || rules.slips(Mistake::DamagedResetSilent))
         && !rules.slips(Mistake::ResetReplies)
 }
@@ -208,6 +211,15 @@ fn fill(bytes: &[u8], buffer: &mut [u8]) {
 }
 
 // ---- Mistakes alone ----------------------------------------------------
+
+/// Whether a mistaken node keeps silent where it doesn't act: on an other, or on a
+/// value off its range.
+fn mistaken_silence(rules: Rules, command: Option<Command>) -> bool {
+    rules.slips(match command {
+        None => Mistake::OthersSilent,
+        Some(_) => Mistake::OffRangeSilent,
+    })
+}
 
 /// What a mistaken chain leaves of a reply that has no room.
 fn mistakes_without_room(rules: Rules, reply: &[u8], buffer: &mut [u8]) {

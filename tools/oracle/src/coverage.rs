@@ -2,8 +2,11 @@
 //! packet is read with bytes behind it, and the same of recordings.
 
 use crate::bench::Bench;
+use crate::command::Command;
 use crate::hex;
-use crate::layout::Cursor;
+use crate::kind::Kind;
+use crate::layout::{self, Cursor};
+use crate::node::Node;
 use crate::recording::{self, Did};
 use crate::refusal::{Refusal, COLLISION, DONE};
 use crate::rules::Rules;
@@ -27,14 +30,40 @@ pub struct Coverage {
     /// Each number as itself; the last is the answer FF.
     pub numbers: [usize; 256],
     pub commands: [usize; 256],
+    /// Of an LS-173AP: its own five, and what is delivered where there is one.
+    pub drive_commands: [usize; 256],
     /// Packets that are read with bytes behind them.
     pub followed: usize,
     /// Lines `50`, by their numbers.
     pub walked: [usize; 256],
     /// Recordings that a command ends which the host couldn't have sent.
     pub foreign: usize,
-    /// Commands that the host of a recording sends.
+    /// Commands that the host of a recording sends; a drive's own apart.
     pub sent: [usize; 256],
+    pub sent_to_drives: [usize; 256],
+}
+
+/// A command byte that is tried.
+struct Tried {
+    byte: u8,
+    to_drives: bool,
+}
+
+impl Tried {
+    fn of(command: Command) -> Option<Tried> {
+        Some(Tried {
+            byte: command.byte(),
+            to_drives: command.owner() == Some(Kind::Drive),
+        })
+    }
+
+    fn plain(byte: Option<&u8>) -> Option<Tried> {
+        let to_drives = false;
+        byte.map(|byte| Tried {
+            byte: *byte,
+            to_drives,
+        })
+    }
 }
 
 impl Coverage {
@@ -43,10 +72,12 @@ impl Coverage {
             lines: 0,
             numbers: [0; 256],
             commands: [0; 256],
+            drive_commands: [0; 256],
             followed: 0,
             walked: [0; 256],
             foreign: 0,
             sent: [0; 256],
+            sent_to_drives: [0; 256],
         }
     }
 
@@ -54,9 +85,13 @@ impl Coverage {
         self.numbers[usize::from(number)] += 1;
     }
 
-    fn command(&mut self, byte: Option<&u8>) {
-        if let Some(byte) = byte {
-            self.commands[usize::from(*byte)] += 1;
+    fn command(&mut self, tried: Option<Tried>) {
+        if let Some(tried) = tried {
+            let counts = match tried.to_drives {
+                true => &mut self.drive_commands,
+                false => &mut self.commands,
+            };
+            counts[usize::from(tried.byte)] += 1;
         }
     }
 
@@ -70,7 +105,7 @@ impl Coverage {
         for line in packets {
             coverage.lines += 1;
             let bytes = hex::parse(Rules::RIGHT, line).unwrap_or_default();
-            coverage.command(bytes.get(2));
+            coverage.command(Tried::plain(bytes.get(2)));
             let answer = bench.answer(line).unwrap_or_default();
             coverage.number(bench_number(&answer));
         }
@@ -107,11 +142,17 @@ impl Coverage {
         };
         self.foreign += usize::from(walk.foreign);
         for step in &walk.steps {
-            if matches!(step.did, Did::Sent | Did::Closed) {
-                let byte = recording.bytes(step.part)[2];
-                self.sent[usize::from(byte)] += 1;
-                self.command(Some(&byte));
-            }
+            let sent = match step.did {
+                Did::Sent(command) => command,
+                Did::Closed => Command::HardReset,
+                _ => continue,
+            };
+            let counts = match sent.owner() {
+                Some(Kind::Drive) => &mut self.sent_to_drives,
+                _ => &mut self.sent,
+            };
+            counts[usize::from(sent.byte())] += 1;
+            self.command(Tried::of(sent));
         }
     }
 
@@ -128,12 +169,14 @@ impl Coverage {
             text += &format!("number {name}: {count}\n");
         }
         text += &listed("command byte", &self.commands);
+        text += &listed("drive's command byte", &self.drive_commands);
         let walked = self.walked[usize::from(DONE)];
         text += &format!(
             "recordings walked: {walked}, {} of them ended by a command\n",
             self.foreign
         );
         text += &listed("recorded command byte", &self.sent);
+        text += &listed("recorded drive's command byte", &self.sent_to_drives);
         text
     }
 }
@@ -163,15 +206,28 @@ fn is_followed(line: &[u8], answer: &[u8]) -> bool {
 }
 
 /// The command byte that a line tries.
-fn tried_command(line: &[u8]) -> Option<&u8> {
+fn tried_command(line: &[u8]) -> Option<Tried> {
     match line.first()? {
-        0x10 => line.get(3),
-        0x11 => line.get(3),
-        0x20 => line.get(3 + usize::from(*line.get(2)?) * 31 + 2),
-        0x31 => Some(&0x21),
-        0x32 => Some(&0x0E),
-        0x33 => line.get(4),
-        0x34 => Some(&0x21),
+        0x10 => Tried::plain(line.get(3)),
+        0x11 => Tried::plain(line.get(3)),
+        0x20 => delivered(line),
+        0x31 | 0x34 => Tried::plain(Some(&0x21)),
+        0x32 => Tried::plain(Some(&0x0E)),
+        0x33 => Some(Tried {
+            byte: *line.get(5)?,
+            to_drives: line[4] == layout::kind(Kind::Drive),
+        }),
         _ => None,
     }
+}
+
+/// What a line `20` delivers.
+fn delivered(line: &[u8]) -> Option<Tried> {
+    let mut records = Cursor(line.get(3..)?);
+    let nodes = (0..line[2]).map(|_| records.node());
+    let nodes: Vec<Node> = nodes.collect::<Option<_>>()?;
+    Some(Tried {
+        byte: *records.rest().get(2)?,
+        to_drives: nodes.iter().any(|node| node.kind() == Kind::Drive),
+    })
 }

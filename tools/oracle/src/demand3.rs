@@ -16,16 +16,17 @@ mod counts;
 mod line;
 
 use crate::chain::Delivery;
-use crate::command::{Command, Settings, COMMAND_BYTES};
+use crate::command::Command;
 use crate::hex;
 use crate::history::History;
-use crate::make_packets::{any_command, group};
-use crate::node::{BenchValues, Node};
+use crate::kind::Kind;
+use crate::make_packets::{any_command, drive_command, group, kinds, off_range_command};
+use crate::node::Node;
 use crate::prng::Prng;
-use crate::record::Setting;
 use crate::refusal::{number_of, Refusal};
 use crate::rules::Rules;
 use crate::session::{Exchange, Outcome, Session, MOST_NODES};
+use crate::settings::Setting;
 use crate::status::T;
 use crate::target::Target;
 use counts::Closing;
@@ -77,6 +78,14 @@ pub enum Heard {
 pub struct Story {
     pub heard: Vec<Heard>,
     pub host: Session,
+}
+
+impl Story {
+    /// The kinds that the host was told.
+    pub fn kinds(&self) -> Vec<Kind> {
+        let entries = &self.host.entries[..usize::from(self.host.n)];
+        entries.iter().map(|entry| entry.kind()).collect()
+    }
 }
 
 /// The stories of so many steps from a seed, in which demand 3 holds.
@@ -156,7 +165,8 @@ impl World {
         self.host.ask_is_due() && self.prng.below(10) == 0
     }
 
-    /// All nodes power up and the host is told.
+    /// All nodes power up and the host is told; "demand 3 takes the kinds told as the
+    /// nodes' own" (request 6).
     fn power_up(&mut self) -> Step {
         let n = if self.prng.percent(92) {
             self.prng.pick(&[1, 2, 3, 3, 4, 4])
@@ -164,14 +174,15 @@ impl World {
             self.prng.between(1, MOST_NODES)
         };
         self.end_story();
-        let nodes = vec![Node::powered_up(BenchValues::ZERO); usize::from(n)];
-        self.chain = nodes;
+        let kinds = kinds(&mut self.prng, usize::from(n));
+        let nodes = kinds.iter().map(|kind| Node::powered_up(self.rules, *kind));
+        self.chain = nodes.collect();
         self.line = Line::any(&mut self.prng);
         self.resets = self.prng.pick(&[0, 0, 0, 20]);
-        self.story = vec![format!("power-up of {n}")];
+        self.story = vec![format!("power-up of {n}: {kinds:?}")];
         self.history = History::new(self.rules);
         self.counts.power_ups += 1;
-        self.expect_number(0, |host| host.power_up(n).map(|()| 0))?;
+        self.expect_number(0, |host| host.power_up(n, &kinds).map(|()| 0))?;
         self.check()?;
         if self.prng.percent(10) {
             self.story.push("a late reply nobody waits for".to_string());
@@ -240,13 +251,13 @@ impl World {
         }
         if self.prng.percent(30) {
             let node = self.own_node();
-            let group = self.group();
+            let group = self.group_for(self.chain[usize::from(node - 1)].kind());
             let leader = self.prng.percent(60);
             let name = format!("regroup {node} to {group:02X}, leader {leader}");
             return (name, self.host.regroup(node, group, leader, buffer));
         }
         let target = self.target();
-        let command = self.ready_command();
+        let command = self.ready_command(target);
         let name = format!("{command:?} to {target:?}");
         (name, self.host.command(target, command, buffer))
     }
@@ -286,14 +297,45 @@ impl World {
         }
     }
 
-    fn ready_command(&mut self) -> Command {
-        let byte = match self.prng.below(10) {
-            _ if self.prng.percent(self.resets) => 0x0F,
-            0..=1 => 0x05,
-            2..=3 => 0x47,
-            _ => self.prng.pick(&COMMAND_BYTES[1..10]),
-        };
-        any_command(&mut self.prng, byte)
+    /// A group for a node of this kind to be in, mostly one that has no other kind.
+    fn group_for(&mut self, kind: Kind) -> u8 {
+        let group = self.group();
+        let mut members = self.chain.iter().filter(|node| node.group() == group);
+        if members.all(|node| node.kind() == kind) || self.prng.percent(15) {
+            return group;
+        }
+        match kind {
+            Kind::Gate => self.prng.pick(&[0x80, 0x81]),
+            Kind::Drive => self.prng.pick(&[0x90, 0x91]),
+        }
+    }
+
+    /// A command, mostly one that those have who are meant.
+    fn ready_command(&mut self, target: Target) -> Command {
+        if self.prng.percent(self.resets) {
+            return Command::HardReset;
+        }
+        if self.prng.percent(20) {
+            let byte = self.prng.pick(&[0x12, 0x12, 0x13, 0x0E]);
+            return any_command(&mut self.prng, byte);
+        }
+        let meant = self.chain.iter().filter(|node| match target {
+            Target::Node(own) => node.address() == own,
+            Target::Group(group) => node.group() == group,
+        });
+        let mut meant: Vec<Kind> = meant.map(Node::kind).collect();
+        if meant.is_empty() || self.prng.percent(8) {
+            meant = Kind::ALL.to_vec();
+        }
+        match self.prng.pick(&meant) {
+            Kind::Drive if self.prng.percent(5) => off_range_command(&mut self.prng),
+            Kind::Drive => drive_command(&mut self.prng),
+            Kind::Gate => {
+                let bytes = [0x05, 0x05, 0x47, 0x47, 0x24, 0x26, 0x18, 0x0C];
+                let byte = self.prng.pick(&bytes);
+                any_command(&mut self.prng, byte)
+            }
+        }
     }
 
     /// The line takes the command to the nodes.
@@ -378,8 +420,9 @@ impl World {
             return Ok(());
         }
         for node in 1..=self.chain.len() as u8 {
-            for setting in Setting::ALL {
-                self.check_setting(node, setting)?;
+            let kind = self.chain[usize::from(node - 1)].kind();
+            for setting in Setting::all(kind) {
+                self.check_setting(node, *setting)?;
             }
         }
         Ok(())
@@ -392,7 +435,7 @@ impl World {
         let known = entry.knows(setting);
         self.counts.checks += 1;
         self.counts.doubts += usize::from(!known);
-        if known && !same(setting, shown, held) {
+        if known && !shown.agree(setting, held) {
             return Err(format!(
                 "node {node}: {setting:?} is called known but differs: {shown:?} recorded, {held:?} held"
             ));
@@ -404,17 +447,5 @@ impl World {
             ));
         }
         Ok(())
-    }
-}
-
-/// Whether two nodes' settings agree in one of the six.
-fn same(setting: Setting, one: &Settings, other: &Settings) -> bool {
-    match setting {
-        Setting::Place => one.place == other.place,
-        Setting::Mask => one.mask == other.mask,
-        Setting::Outputs => one.outputs == other.outputs,
-        Setting::Pwm => one.pwm == other.pwm,
-        Setting::Held => one.held == other.held,
-        Setting::TimerMode => one.timer_mode == other.timer_mode,
     }
 }

@@ -4,19 +4,20 @@
 use crate::chain::{deliver, Delivery};
 use crate::command::Command;
 use crate::hex;
-use crate::node::{BenchValues, Node};
-use crate::record::Setting;
+use crate::kind::{gates, Kind};
+use crate::node::Node;
 use crate::refusal::Refusal;
 use crate::rules::Rules;
 use crate::session::Session;
+use crate::settings::{Own, Setting};
 use crate::status::T;
 use crate::target::Target;
 
 /// The whole output; None where a call is refused, as none is.
 pub fn run(rules: Rules) -> Option<String> {
-    let mut nodes = vec![Node::powered_up(BenchValues::ZERO); 2];
+    let mut nodes = vec![Node::powered_up(rules, Kind::Gate); 2];
     let mut session = Session::fresh(rules);
-    session.power_up(2).ok()?;
+    session.power_up(2, &gates(2)).ok()?;
     for _ in 0..2 {
         exchange(rules, &mut nodes, &mut session, Session::next).ok()?;
     }
@@ -46,7 +47,10 @@ fn exchange(
 /// A node's number, whether its outputs are known, and the outputs.
 fn line(session: &Session, node: u8) -> Option<String> {
     let entry = session.look(node).ok()?;
-    let [low, high] = entry.settings.outputs.to_le_bytes();
+    let Own::Gate(gate) = entry.settings.own else {
+        return None;
+    };
+    let [low, high] = gate.outputs.to_le_bytes();
     let known = u8::from(entry.knows(Setting::Outputs));
     let bytes = hex::format(&[node, known, low, high]);
     Some(format!("node, known, outputs: {bytes}\n"))

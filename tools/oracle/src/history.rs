@@ -8,9 +8,9 @@
 //! only the leader, if known" (request 4): the one that the group was known to
 //! have when the command was sent.
 
-use crate::command::{Command, Place, Settings};
-use crate::record::Setting;
+use crate::command::{Command, Place};
 use crate::rules::{Mistake, Rules};
+use crate::settings::Setting;
 use crate::target::Target;
 
 /// How a command was answered.
@@ -96,8 +96,8 @@ impl History {
         let sent = &self.sent[last];
         !self.is_confirmed_for(last, node)
             || sent.target.is_group() && self.in_doubt_before(last, node, Setting::Place)
-            || sent.command == Command::SynchOutput
-                && self.in_doubt_before(last, node, Setting::Held)
+            || copied(sent.command, setting)
+                .is_some_and(|copied| self.in_doubt_before(last, node, copied))
     }
 
     /// Whether a command is confirmed for a node: by a good clear reply, and where
@@ -141,7 +141,7 @@ impl History {
         let writer = self.last_writer(time, node, Setting::Place);
         match writer.map(|at| self.sent[at].command) {
             Some(Command::SetAddress(place)) => place,
-            _ => Settings::POWER_UP.place,
+            _ => Place::POWER_UP,
         }
     }
 
@@ -158,7 +158,7 @@ impl History {
     }
 }
 
-/// Whether a kind writes a setting.
+/// Whether a command writes a setting, where the node's kind has both.
 fn writes(command: Command, setting: Setting) -> bool {
     match setting {
         Setting::Place => matches!(command, Command::SetAddress(_)),
@@ -167,5 +167,27 @@ fn writes(command: Command, setting: Setting) -> bool {
         Setting::Pwm => matches!(command, Command::SetPwm(_) | Command::SynchOutput),
         Setting::Held => matches!(command, Command::SetSynchOutput(_)),
         Setting::TimerMode => matches!(command, Command::SetTimerMode(_)),
+        Setting::Gains => matches!(command, Command::SetGain(_)),
+        Setting::Stop => matches!(command, Command::StopMotor(_)),
+        Setting::Waiting(value) => {
+            matches!(command, Command::LoadTrajectory(load) if load.brings(value))
+        }
+        Setting::InForce(_) => match command {
+            Command::LoadTrajectory(load) => load.starts(),
+            _ => command == Command::StartMotion,
+        },
+    }
+}
+
+/// The setting that a command copies into one that it writes. What a load brings
+/// is loaded by then and no copy of what waited before.
+fn copied(command: Command, setting: Setting) -> Option<Setting> {
+    match (command, setting) {
+        (Command::SynchOutput, _) => Some(Setting::Held),
+        (Command::StartMotion, Setting::InForce(value)) => Some(Setting::Waiting(value)),
+        (Command::LoadTrajectory(load), Setting::InForce(value)) if !load.brings(value) => {
+            Some(Setting::Waiting(value))
+        }
+        _ => None,
     }
 }

@@ -2,17 +2,25 @@
 //! EXCHANGE, STATE, CAPTURE.
 //! Every wide value goes least significant byte first.
 
-use crate::command::{Command, Held, Place, Settings};
-use crate::node::{BenchValues, Captured, Node};
-use crate::record::{Entry, ALL_KNOWN};
+use crate::command::{Command, Held, Place};
+use crate::drive::{Gains, Motion, Value};
+use crate::kind::Kind;
+use crate::node::{BenchValues, Captured, DriveValues, Node, Values};
+use crate::record::{all_known, Entry};
 use crate::recording::{Capture, Recording};
 use crate::rules::Rules;
 use crate::session::{Exchange, Session};
+use crate::settings::{DriveSettings, GateSettings, Own, Settings};
 use crate::target::Target;
 
-/// The bytes of one NODE.
+/// The bytes of one NODE, behind its KIND.
 #[cfg(test)]
-pub const NODE_BYTES: usize = 31;
+pub fn node_bytes(kind: Kind) -> usize {
+    match kind {
+        Kind::Gate => 31,
+        Kind::Drive => 63,
+    }
+}
 
 /// Bytes still to be taken from a line. Every taking gives None where the
 /// line is not of its form.
@@ -42,6 +50,14 @@ impl<'a> Cursor<'a> {
 
     fn word(&mut self) -> Option<u16> {
         self.bytes().map(u16::from_le_bytes)
+    }
+
+    fn signed_word(&mut self) -> Option<i16> {
+        self.bytes().map(i16::from_le_bytes)
+    }
+
+    fn signed_long(&mut self) -> Option<i32> {
+        self.bytes().map(i32::from_le_bytes)
     }
 
     /// A number of four bytes.
@@ -88,43 +104,110 @@ impl<'a> Cursor<'a> {
         })
     }
 
-    /// The settings behind the place, in the order of both NODE and ENTRY.
-    fn settings_at(&mut self, place: Place) -> Option<Settings> {
-        Some(Settings {
-            place,
-            mask: self.byte()?,
-            outputs: self.word()?,
-            pwm: self.bytes()?,
-            held: self.held()?,
-            timer_mode: self.byte()?,
+    fn gains(&mut self) -> Option<Gains> {
+        Some(Gains {
+            kp: self.word()?,
+            kd: self.word()?,
+            ki: self.word()?,
+            il: self.word()?,
+            ol: self.byte()?,
+            el: self.word()?,
+            sr: self.byte()?,
+            db: self.byte()?,
         })
     }
 
+    fn motion(&mut self) -> Option<Motion> {
+        Some(Motion {
+            control: self.byte()?,
+            position: self.signed_long()?,
+            velocity: self.long()?,
+            acceleration: self.long()?,
+            pwm: self.byte()?,
+        })
+    }
+
+    /// "KIND: 00 LS-773, 01 LS-173AP; another byte: `FF`."
+    pub fn kind(&mut self) -> Option<Kind> {
+        let drive = self.flag()?;
+        Some(if drive { Kind::Drive } else { Kind::Gate })
+    }
+
+    /// `KIND*n`.
+    pub fn kinds(&mut self, n: u8) -> Option<Vec<Kind>> {
+        (0..n).map(|_| self.kind()).collect()
+    }
+
+    /// The settings behind the place, in the order of both NODE and ENTRY.
+    fn settings_at(&mut self, kind: Kind, place: Place) -> Option<Settings> {
+        let mask = self.byte()?;
+        let own = match kind {
+            Kind::Gate => Own::Gate(GateSettings {
+                outputs: self.word()?,
+                pwm: self.bytes()?,
+                held: self.held()?,
+                timer_mode: self.byte()?,
+            }),
+            Kind::Drive => Own::Drive(DriveSettings {
+                gains: self.gains()?,
+                stop: self.byte()?,
+                waiting: self.motion()?,
+                in_force: self.motion()?,
+            }),
+        };
+        Some(Settings { place, mask, own })
+    }
+
+    fn values(&mut self, kind: Kind) -> Option<Values> {
+        Some(match kind {
+            Kind::Gate => Values::Gate {
+                bench: BenchValues {
+                    inputs: self.word()?,
+                    counter: self.long()?,
+                    analog: self.bytes()?,
+                    device_id: self.byte()?,
+                    version: self.byte()?,
+                },
+                captured: Captured {
+                    inputs: self.word()?,
+                    counter: self.long()?,
+                },
+            },
+            Kind::Drive => Values::Drive(DriveValues {
+                position: self.signed_long()?,
+                ad_value: self.byte()?,
+                velocity: self.signed_word()?,
+                auxiliary: self.byte()?,
+                home: self.signed_long()?,
+                device_id: self.byte()?,
+                version: self.byte()?,
+                position_error: self.signed_word()?,
+            }),
+        })
+    }
+
+    /// NODE, its KIND first.
     pub fn node(&mut self) -> Option<Node> {
+        let kind = self.kind()?;
         let place = self.place()?;
         let addressed = self.flag()?;
         Some(Node {
-            settings: self.settings_at(place)?,
+            settings: self.settings_at(kind, place)?,
             addressed,
-            bench: BenchValues {
-                inputs: self.word()?,
-                counter: self.long()?,
-                analog: self.bytes()?,
-                device_id: self.byte()?,
-                version: self.byte()?,
-            },
-            captured: Captured {
-                inputs: self.word()?,
-                counter: self.long()?,
-            },
+            values: self.values(kind)?,
         })
     }
 
+    /// ENTRY, its KIND first: "bits 6 and 7 are 0, else FF", 14 and 15 of a drive's.
     fn entry(&mut self) -> Option<Entry> {
+        let kind = self.kind()?;
         let place = self.place()?;
-        let settings = self.settings_at(place)?;
-        let known = self.byte()?;
-        (known <= ALL_KNOWN).then_some(Entry { settings, known })
+        let settings = self.settings_at(kind, place)?;
+        let known = match kind {
+            Kind::Gate => u16::from(self.byte()?),
+            Kind::Drive => self.word()?,
+        };
+        (known <= all_known(kind)).then_some(Entry { settings, known })
     }
 
     pub fn target(&mut self) -> Option<Target> {
@@ -137,11 +220,15 @@ impl<'a> Cursor<'a> {
         })
     }
 
-    /// A command byte and as many data bytes as it counts.
+    /// FAMILY, a command byte and as many data bytes as it counts: "FAMILY 00, the
+    /// command as the LS-773 has it ..; FAMILY 01, as the LS-173AP has it, only its
+    /// own five".
     pub fn command(&mut self) -> Option<Command> {
+        let family = self.kind()?;
         let byte = self.byte()?;
         let data = self.take(usize::from(byte >> 4))?;
-        Command::decode(byte, data)
+        let own = |command: &Command| family == Kind::Gate || command.owner() == Some(family);
+        Command::decode(family, byte, data).filter(own)
     }
 
     fn exchange(&mut self) -> Option<Exchange> {
@@ -172,40 +259,107 @@ pub fn wide<const N: usize>(number: usize) -> [u8; N] {
     std::array::from_fn(|place| (number >> (8 * place)) as u8)
 }
 
+/// KIND.
+pub fn kind(kind: Kind) -> u8 {
+    match kind {
+        Kind::Gate => 0,
+        Kind::Drive => 1,
+    }
+}
+
+/// `KIND*n`.
+pub fn kinds(kinds: &[Kind]) -> Vec<u8> {
+    kinds.iter().map(|own| kind(*own)).collect()
+}
+
+/// GAINS: "Set Gain's data without its tenth byte".
+fn gains(gains: Gains) -> Vec<u8> {
+    let mut data = gains.data();
+    data.remove(9);
+    data
+}
+
+/// MOTION.
+fn motion(motion: Motion) -> Vec<u8> {
+    let values = Value::ALL.into_iter();
+    values.flat_map(|value| motion.bytes(value)).collect()
+}
+
 /// The settings behind the place.
 fn settings_behind_place(settings: &Settings) -> Vec<u8> {
     let mut bytes = vec![settings.mask];
-    bytes.extend(settings.outputs.to_le_bytes());
-    bytes.extend(settings.pwm);
-    bytes.extend(settings.held.outputs.to_le_bytes());
-    bytes.extend(settings.held.pwm);
-    bytes.push(settings.timer_mode);
+    match settings.own {
+        Own::Gate(gate) => {
+            bytes.extend(gate.outputs.to_le_bytes());
+            bytes.extend(gate.pwm);
+            bytes.extend(gate.held.outputs.to_le_bytes());
+            bytes.extend(gate.held.pwm);
+            bytes.push(gate.timer_mode);
+        }
+        Own::Drive(drive) => {
+            bytes.extend(gains(drive.gains));
+            bytes.push(drive.stop);
+            bytes.extend(motion(drive.waiting));
+            bytes.extend(motion(drive.in_force));
+        }
+    }
     bytes
 }
 
+/// What a node shows that is no setting.
+fn values(values: &Values) -> Vec<u8> {
+    let mut bytes = Vec::new();
+    match values {
+        Values::Gate { bench, captured } => {
+            bytes.extend(bench.inputs.to_le_bytes());
+            bytes.extend(bench.counter.to_le_bytes());
+            bytes.extend(bench.analog);
+            bytes.extend([bench.device_id, bench.version]);
+            bytes.extend(captured.inputs.to_le_bytes());
+            bytes.extend(captured.counter.to_le_bytes());
+        }
+        Values::Drive(drive) => {
+            bytes.extend(drive.position.to_le_bytes());
+            bytes.push(drive.ad_value);
+            bytes.extend(drive.velocity.to_le_bytes());
+            bytes.push(drive.auxiliary);
+            bytes.extend(drive.home.to_le_bytes());
+            bytes.extend([drive.device_id, drive.version]);
+            bytes.extend(drive.position_error.to_le_bytes());
+        }
+    }
+    bytes
+}
+
+/// NODE, its KIND first.
 pub fn node(node: &Node) -> Vec<u8> {
     let place = node.settings.place;
     let mut bytes = vec![
+        kind(node.kind()),
         place.address,
         place.group,
         u8::from(place.leader),
         u8::from(node.addressed),
     ];
     bytes.extend(settings_behind_place(&node.settings));
-    bytes.extend(node.bench.inputs.to_le_bytes());
-    bytes.extend(node.bench.counter.to_le_bytes());
-    bytes.extend(node.bench.analog);
-    bytes.extend([node.bench.device_id, node.bench.version]);
-    bytes.extend(node.captured.inputs.to_le_bytes());
-    bytes.extend(node.captured.counter.to_le_bytes());
+    bytes.extend(values(&node.values));
     bytes
 }
 
+/// ENTRY, its KIND first.
 fn entry(entry: &Entry) -> Vec<u8> {
     let place = entry.settings.place;
-    let mut bytes = vec![place.address, place.group, u8::from(place.leader)];
+    let mut bytes = vec![
+        kind(entry.kind()),
+        place.address,
+        place.group,
+        u8::from(place.leader),
+    ];
     bytes.extend(settings_behind_place(&entry.settings));
-    bytes.push(entry.known);
+    match entry.kind() {
+        Kind::Gate => bytes.push(entry.known as u8),
+        Kind::Drive => bytes.extend(entry.known.to_le_bytes()),
+    }
     bytes
 }
 
@@ -213,8 +367,10 @@ pub fn target(target: Target) -> [u8; 2] {
     [u8::from(target.is_group()), target.address()]
 }
 
+/// FAMILY, command byte and data.
 pub fn command(command: Command) -> Vec<u8> {
-    let mut bytes = vec![command.byte()];
+    let family = command.owner().unwrap_or(Kind::Gate);
+    let mut bytes = vec![kind(family), command.byte()];
     bytes.extend(command.data());
     bytes
 }
@@ -253,8 +409,11 @@ fn capture(capture: &Capture) -> Vec<u8> {
     bytes
 }
 
-/// `n CAPTURE CAPTURE`, the command line first.
+/// `n KIND*n CAPTURE CAPTURE`, the command line first.
 pub fn recording(recording: &Recording) -> Vec<u8> {
-    let captures = [&recording.commands, &recording.replies].map(capture);
-    [vec![recording.nodes], captures.concat()].concat()
+    let mut bytes = vec![recording.nodes];
+    bytes.extend(kinds(&recording.kinds));
+    bytes.extend(capture(&recording.commands));
+    bytes.extend(capture(&recording.replies));
+    bytes
 }

@@ -3,7 +3,8 @@
 
 use crate::command::COMMAND_BYTES;
 use crate::demand3::{self, Heard, Story};
-use crate::make_packets::{damage, group, misshape};
+use crate::kind::{gates, Kind};
+use crate::make_packets::{damage, drive_command, group, misshape, off_range_command};
 use crate::packet::{whole, OVERHEAD};
 use crate::prng::Prng;
 use crate::recording::{Capture, Line, Recording, GAP};
@@ -25,13 +26,13 @@ pub fn recording(prng: &mut Prng, packets: usize) -> Recording {
 
 /// One that the host itself would leave.
 pub fn right(prng: &mut Prng, packets: usize) -> Recording {
-    let (nodes, heard) = story(prng, packets);
-    laid_out(prng, nodes, &heard)
+    let (kinds, heard) = story(prng, packets);
+    laid_out(prng, &kinds, &heard)
 }
 
 /// A power-up's nodes, and the first packets heard from then on: mostly a whole
 /// walk and something behind it, often a group's reply.
-fn story(prng: &mut Prng, packets: usize) -> (u8, Vec<Heard>) {
+fn story(prng: &mut Prng, packets: usize) -> (Vec<Kind>, Vec<Heard>) {
     let stories = demand3::stories(prng.below(1 << 40) as u64, STEPS);
     let most = prng.pick(&[2, 3, 3, 31]);
     let few: Vec<&Story> = stories
@@ -46,7 +47,7 @@ fn story(prng: &mut Prng, packets: usize) -> (u8, Vec<Heard>) {
     };
     let telling = few.iter().find(|story| tells(first(story, packets)));
     let story = telling.or(few.first()).copied().unwrap_or(&stories[0]);
-    (story.host.n, first(story, packets).to_vec())
+    (story.kinds(), first(story, packets).to_vec())
 }
 
 fn first(story: &Story, packets: usize) -> &[Heard] {
@@ -70,9 +71,10 @@ fn has_command(heard: &[Heard], test: fn(u8, u8) -> bool) -> bool {
 
 /// Proper times: no gap within a packet, one before each of its line, a reply no
 /// earlier than its command and before the next.
-pub fn laid_out(prng: &mut Prng, nodes: u8, heard: &[Heard]) -> Recording {
+pub fn laid_out(prng: &mut Prng, kinds: &[Kind], heard: &[Heard]) -> Recording {
     let mut recording = Recording {
-        nodes,
+        nodes: kinds.len() as u8,
+        kinds: kinds.to_vec(),
         ..Recording::default()
     };
     let mut start = prng.pick(&[0, 0, 1, 1000, 0xFFF0, 0x7FFF_FFF0]);
@@ -117,7 +119,8 @@ fn put(prng: &mut Prng, capture: &mut Capture, start: u32, bytes: &[u8]) {
 /// Replies that nobody waits for, replies missing, commands that the host
 /// couldn't have sent.
 fn disturbed(prng: &mut Prng, packets: usize) -> Recording {
-    let (nodes, mut heard) = story(prng, packets);
+    let (kinds, mut heard) = story(prng, packets);
+    let nodes = kinds.len() as u8;
     for _ in 0..1 + prng.below(3) {
         let place = prng.below(heard.len() + 1);
         match prng.below(10) {
@@ -126,7 +129,7 @@ fn disturbed(prng: &mut Prng, packets: usize) -> Recording {
             _ => heard.insert(place, foreign(prng, nodes, &heard)),
         }
     }
-    laid_out(prng, nodes, &heard)
+    laid_out(prng, &kinds, &heard)
 }
 
 /// A reply: clear, not clear, not good.
@@ -152,8 +155,8 @@ fn foreign(prng: &mut Prng, nodes: u8, heard: &[Heard]) -> Heard {
         true => whole(0x00, 0x1, &[1, 0xFF]),
         false => own[prng.below(own.len())].clone(),
     };
-    Heard::Command(match prng.below(10) {
-        0 => damage(prng, again),
+    Heard::Command(match prng.below(14) {
+        0 | 12 => damage(prng, again),
         1 => some(prng, again),
         2 => whole(0x00, 0x1, &[node, 0xFF]),
         3 => whole(node, 0x1, &[prng.between(0, nodes), group(prng)]),
@@ -168,6 +171,14 @@ fn foreign(prng: &mut Prng, nodes: u8, heard: &[Heard]) -> Heard {
             let byte = prng.pick(&COMMAND_BYTES[1..10]);
             let data = prng.telling_bytes(usize::from(byte >> 4));
             whole(prng.pick(&[node, 0xFF, 0x80]), byte & 0x0F, &data)
+        }
+        9..=11 => {
+            let command = match prng.percent(40) {
+                true => off_range_command(prng),
+                false => drive_command(prng),
+            };
+            let to = prng.pick(&[node, node, 0xFF, 0x90]);
+            whole(to, command.nibble(), &command.data())
         }
         _ => again,
     })
@@ -237,12 +248,18 @@ pub fn refused(prng: &mut Prng, packets: usize) -> Recording {
             false => prng.pick(&[Line::Command, Line::Reply]),
         };
         match prng.below(7) {
-            0 => recording.nodes = prng.pick(&[0, 32, 0xFF]),
+            0 => recount(&mut recording, prng.pick(&[0, 32, 0xFF])),
             1..=2 => uncount(prng, capture(&mut recording, line)),
             _ => let_fall(prng, &mut capture(&mut recording, line).times),
         }
     }
     recording
+}
+
+/// Another number of nodes, the kinds with it.
+pub fn recount(recording: &mut Recording, nodes: u8) {
+    recording.nodes = nodes;
+    recording.kinds = gates(usize::from(nodes));
 }
 
 /// A byte or a time more, or less.

@@ -1,6 +1,7 @@
 //! Seeded inputs for the program `replay`: the texts of recordings.
 
 use crate::hex;
+use crate::kind::Kind;
 use crate::make_bench::{count_line, malform};
 use crate::make_recordings::{let_fall, recording, right};
 use crate::packet::whole;
@@ -16,8 +17,8 @@ pub fn make(seed: u64, packets: usize) -> Vec<u8> {
         0 => of_length(&mut prng, MOST_TEXT),
         1 => of_length(&mut prng, MOST_TEXT + 1),
         2 => {
-            let (_, first) = count_line(&mut prng);
             let recording = right(&mut prng, few);
+            let first = bad_first_line(&mut prng, &recording);
             let runs = runs(&mut prng, &recording, 70);
             [first, ended(&mut prng, &runs)].concat()
         }
@@ -36,6 +37,55 @@ pub fn make(seed: u64, packets: usize) -> Vec<u8> {
     }
 }
 
+/// The first line of a recording: the node count, alone where all are gates, else
+/// with their kinds, which gates may have, too.
+fn first_line(prng: &mut Prng, recording: &Recording) -> Vec<u8> {
+    let gates = recording.kinds.iter().all(|kind| *kind == Kind::Gate);
+    let mut line = recording.nodes.to_string();
+    if !gates || prng.percent(30) {
+        recording
+            .kinds
+            .iter()
+            .for_each(|kind| line += &format!(" {}", name(*kind)));
+    }
+    format!("{line}\n").into_bytes()
+}
+
+fn name(kind: Kind) -> &'static str {
+    match kind {
+        Kind::Gate => "gate",
+        Kind::Drive => "drive",
+    }
+}
+
+/// A first line that is mostly none: of the bench program, without its last kind,
+/// with one too many, with a kind or a space that isn't of the form.
+fn bad_first_line(prng: &mut Prng, recording: &Recording) -> Vec<u8> {
+    let kinds = recording
+        .kinds
+        .iter()
+        .map(|kind| format!(" {}", name(*kind)));
+    let kinds: String = kinds.collect();
+    let nodes = recording.nodes;
+    match prng.below(8) {
+        0..=2 => count_line(prng).1,
+        3 => {
+            let shorter = kinds.rsplit_once(' ').map_or("", |(shorter, _)| shorter);
+            format!("{nodes}{shorter}\n").into_bytes()
+        }
+        4 => format!("{nodes}{kinds} gate\n").into_bytes(),
+        5 => format!(
+            "{nodes}{}\n",
+            kinds.replace("drive", "Drive").replacen("gate", "lift", 1)
+        )
+        .into_bytes(),
+        _ => {
+            let line = format!("{nodes}{kinds}").into_bytes();
+            [malform(prng, line), b"\n".to_vec()].concat()
+        }
+    }
+}
+
 /// A text in which a time mostly falls.
 fn falling(prng: &mut Prng, packets: usize) -> Vec<u8> {
     let mut recording = right(prng, packets);
@@ -45,7 +95,7 @@ fn falling(prng: &mut Prng, packets: usize) -> Vec<u8> {
     };
     let_fall(prng, times);
     let runs = runs(prng, &recording, 0);
-    let first = format!("{}\n", recording.nodes).into_bytes();
+    let first = first_line(prng, &recording);
     [first, ended(prng, &runs)].concat()
 }
 
@@ -60,7 +110,7 @@ fn evened(mut capture: Capture) -> Capture {
 /// The text of a recording. The last line may lack its newline.
 fn text(prng: &mut Prng, recording: &Recording) -> Vec<u8> {
     let runs = runs(prng, recording, 70);
-    let first = format!("{}\n", recording.nodes).into_bytes();
+    let first = first_line(prng, recording);
     [first, ended(prng, &runs)].concat()
 }
 
@@ -118,7 +168,7 @@ fn faulty(prng: &mut Prng, packets: usize) -> Vec<u8> {
             _ => runs.insert(place, bad),
         }
     }
-    let first = format!("{}\n", recording.nodes).into_bytes();
+    let first = first_line(prng, &recording);
     [first, ended(prng, &runs)].concat()
 }
 

@@ -6,15 +6,17 @@ mod recordings;
 mod sheets;
 
 use crate::chain::{deliver, Delivery};
-use crate::command::{Held, Settings};
+use crate::command::Held;
 use crate::hex;
+use crate::kind::Kind;
 use crate::layout;
 use crate::make_bench::malform;
-use crate::make_packets::{self, damage, followed, group, misshape, place};
-use crate::node::{BenchValues, Captured, Node};
+use crate::make_packets::{self, damage, followed, gains, group, kinds, misshape, motion, place};
+use crate::node::{BenchValues, Captured, DriveValues, Node, Values};
 use crate::packet::whole;
 use crate::prng::Prng;
 use crate::rules::Rules;
+use crate::settings::{DriveSettings, GateSettings, Own, Settings};
 use crate::status::{item_bytes, seal};
 use crate::trials::{Trials, MOST_RECORDS, MOST_ROOM};
 
@@ -90,10 +92,10 @@ impl Story {
             0..=4 => self.build_line(),
             5..=10 => self.read_line(),
             11..=14 => self.status_line(),
-            15..=20 => self.delivery_line(),
-            21 => vec![self.prng.pick(&UNKNOWN_KINDS), self.prng.byte()],
-            22..=26 => self.sheet_line(),
-            27..=28 => self.recording_line(),
+            15..=21 => self.delivery_line(),
+            22 => vec![self.prng.pick(&UNKNOWN_KINDS), self.prng.byte()],
+            23..=27 => self.sheet_line(),
+            28..=29 => self.recording_line(),
             _ => self.host_line(),
         }
     }
@@ -148,8 +150,8 @@ impl Story {
     }
 
     fn status_line(&mut self) -> Vec<u8> {
-        let mask = self.prng.telling_byte();
-        let items = self.prng.telling_bytes(item_bytes(mask));
+        let (kind, mask) = (self.prng.pick(&Kind::ALL), self.prng.telling_byte());
+        let items = self.prng.telling_bytes(item_bytes(kind, mask));
         let mut packet = seal(self.prng.telling_byte(), &items);
         match self.prng.below(10) {
             0..=5 => {}
@@ -160,7 +162,11 @@ impl Story {
             8 => packet.truncate(self.prng.below(packet.len())),
             _ => packet.push(self.prng.telling_byte()),
         }
-        [vec![0x12, mask], packet].concat()
+        let kind = match self.prng.below(60) {
+            0 => self.prng.between(2, 0xFF),
+            _ => layout::kind(kind),
+        };
+        [vec![0x12, kind, mask], packet].concat()
     }
 }
 
@@ -188,7 +194,10 @@ impl Story {
             _ => self.prng.between(1, 5),
         };
         let addressed = self.prng.between(0, length);
-        let mut nodes: Vec<Node> = (0..length).map(|_| self.node()).collect();
+        // A drive's record is twice as long as a gate's, so that a long table has few.
+        let mut kinds = kinds(&mut self.prng, usize::from(length.min(5)));
+        kinds.resize(usize::from(length), Kind::Gate);
+        let mut nodes: Vec<Node> = kinds.into_iter().map(|kind| self.node(kind)).collect();
         for (index, node) in nodes.iter_mut().enumerate() {
             node.addressed = index < usize::from(addressed);
             node.settings.place.address = if node.addressed { index as u8 + 1 } else { 0 };
@@ -221,35 +230,74 @@ impl Story {
         }
     }
 
-    fn node(&mut self) -> Node {
+    fn node(&mut self, kind: Kind) -> Node {
         Node {
-            settings: self.settings(),
+            settings: self.settings(kind),
             addressed: self.prng.percent(70),
-            bench: BenchValues {
-                inputs: self.word(),
-                counter: self.long(),
-                analog: [self.prng.byte(), self.prng.byte(), self.prng.byte()],
-                device_id: self.prng.byte(),
-                version: self.prng.byte(),
-            },
-            captured: Captured {
-                inputs: self.word(),
-                counter: self.long(),
-            },
+            values: self.values(kind),
         }
     }
 
-    fn settings(&mut self) -> Settings {
+    fn values(&mut self, kind: Kind) -> Values {
+        match kind {
+            Kind::Gate => Values::Gate {
+                bench: BenchValues {
+                    inputs: self.word(),
+                    counter: self.long(),
+                    analog: [self.prng.byte(), self.prng.byte(), self.prng.byte()],
+                    device_id: self.prng.byte(),
+                    version: self.prng.byte(),
+                },
+                captured: Captured {
+                    inputs: self.word(),
+                    counter: self.long(),
+                },
+            },
+            Kind::Drive => Values::Drive(DriveValues {
+                position: self.long() as i32,
+                ad_value: self.prng.byte(),
+                velocity: self.word() as i16,
+                auxiliary: self.prng.byte(),
+                home: self.long() as i32,
+                device_id: self.prng.byte(),
+                version: self.prng.byte(),
+                position_error: self.word() as i16,
+            }),
+        }
+    }
+
+    /// Settings of a node of this kind: "lent node records with drive values off
+    /// their ranges aren't refused", and now and then there are some.
+    fn settings(&mut self, kind: Kind) -> Settings {
+        let own = match kind {
+            Kind::Gate => Own::Gate(GateSettings {
+                outputs: self.word(),
+                pwm: [self.prng.byte(), self.prng.byte()],
+                held: Held {
+                    outputs: self.word(),
+                    pwm: [self.prng.byte(), self.prng.byte()],
+                },
+                timer_mode: self.prng.byte(),
+            }),
+            Kind::Drive => {
+                let mut drive = DriveSettings {
+                    gains: gains(&mut self.prng),
+                    stop: self.prng.byte(),
+                    waiting: motion(&mut self.prng),
+                    in_force: motion(&mut self.prng),
+                };
+                if self.prng.percent(10) {
+                    drive.gains.sr = 0;
+                    drive.waiting.velocity = u32::MAX;
+                    drive.in_force.position = i32::MIN;
+                }
+                Own::Drive(drive)
+            }
+        };
         Settings {
             place: place(&mut self.prng),
             mask: self.prng.telling_byte(),
-            outputs: self.word(),
-            pwm: [self.prng.byte(), self.prng.byte()],
-            held: Held {
-                outputs: self.word(),
-                pwm: [self.prng.byte(), self.prng.byte()],
-            },
-            timer_mode: self.prng.byte(),
+            own,
         }
     }
 

@@ -2,8 +2,11 @@
 //! is printed. 003 prints none: its lines `HEX 1 05`, as those of 000 and 001,
 //! are input of an interpreter, which adds header and sum.
 
+use crate::command::Command;
 use crate::hex;
+use crate::kind::Kind;
 use crate::packet;
+use crate::replay::words::name_and_data;
 use crate::rules::Rules;
 use crate::status;
 
@@ -85,7 +88,7 @@ pub const PRINTED: &[Printed] = &[
     printed("000", "Procedure Initialize, line 8", "AA 01 17 05 1D"),
     printed("000", "Procedure FindHomePosition, line 1", "AA 01 E6 C8 00 20 03 46 00 28 00 FF 00 40 1F 01 00 9F"),
     printed("000", "Procedure FindHomePosition, line 2", "AA 01 17 09 21"),
-    printed("000", "Procedure FindHomePosition, line 3", "AA 01 94 37 25 06 01 00 58 01 00 00 51"),
+    misprint("000", "Procedure FindHomePosition, line 3", "AA 01 94 37 25 06 01 00 58 01 00 00 51", "control byte 37 brings a position too, for which there are no bytes: 36 is meant"),
     printed("000", "Procedure FindHomePosition, line 4", "AA 01 19 18 32"),
     printed("000", "Procedure FindHomePosition, line 5", "AA 01 05 06"),
     printed("000", "Procedure Go To Absolute Position, line 1", "AA 01 17 09 21"),
@@ -195,8 +198,8 @@ pub const PRINTED: &[Printed] = &[
 ];
 
 /// A status packet as printed. The manuals say how many bytes were asked for
-/// and not which, so the mask is one of the LS-773's that asks for so many:
-/// reading goes by their number alone.
+/// and not which, so the mask is one of the LS-773's, or for 000 of the LS-173AP's,
+/// that asks for so many: reading goes by their number alone.
 pub struct PrintedStatus {
     pub document: &'static str,
     pub section: &'static str,
@@ -222,12 +225,23 @@ const fn status(
 #[rustfmt::skip]
 pub const PRINTED_STATUS: &[PrintedStatus] = &[
     status("000", "Status Data, Examples: no bytes asked for", 0x00, "09 09"),
-    status("000", "Status Data, Examples: four bytes asked for", 0x10, "09 00 28 00 00 31"),
+    status("000", "Status Data, Examples: four bytes asked for", 0x01, "09 00 28 00 00 31"),
     status("001", "Status Data, Examples: no bytes asked for", 0x00, "00 00"),
     status("001", "Status Data, Examples: four bytes asked for", 0x10, "00 01 23 05 10 39"),
     status("002", "Status Data, Examples: no bytes asked for", 0x00, "09 09"),
     status("002", "Status Data, Examples: four bytes asked for", 0x10, "09 00 28 00 00 31"),
 ];
+
+impl PrintedStatus {
+    /// The kind of node that the document is of: 000 is the LS-173AP's, all others
+    /// are taken for an LS-773's.
+    pub fn kind(&self) -> Kind {
+        match self.document {
+            "000" => Kind::Drive,
+            _ => Kind::Gate,
+        }
+    }
+}
 
 fn bytes_of(text: &str) -> Vec<u8> {
     hex::parse(Rules::RIGHT, text.as_bytes()).expect("the list is in hexadecimal")
@@ -255,9 +269,23 @@ pub fn reading(bytes: &str) -> String {
     }
 }
 
+/// What a drive takes a printed packet for: a command, one with a value off its
+/// range, an other; or nothing, where it doesn't read.
+pub fn reading_by_drive(bytes: &str) -> Option<String> {
+    let bytes = bytes_of(bytes);
+    let packet = packet::read(Rules::RIGHT, &bytes).ok()?;
+    let command = Command::decode(Kind::Drive, packet.command_byte, packet.data);
+    Some(match command {
+        Some(command) if command.is_in_range(Rules::RIGHT) => name_and_data(Rules::RIGHT, command),
+        Some(command) => format!("{}, off its range", name_and_data(Rules::RIGHT, command)),
+        None => "another command".to_string(),
+    })
+}
+
 /// What reading a printed status packet gives.
 fn status_reading(printed: &PrintedStatus) -> String {
-    match status::read(Rules::RIGHT, printed.mask, &bytes_of(printed.bytes)) {
+    let bytes = bytes_of(printed.bytes);
+    match status::read(Rules::RIGHT, printed.kind(), printed.mask, &bytes) {
         Ok((status, items)) => format!("status {status:02X}, items {}", shown(items)),
         Err(refusal) => refusal.number().to_string(),
     }
@@ -274,6 +302,10 @@ pub fn list() -> String {
             packet.bytes,
             reading(packet.bytes)
         );
+        if packet.document == "000" {
+            let read = reading_by_drive(packet.bytes);
+            text += &format!(" | by a drive: {}", read.as_deref().unwrap_or("none"));
+        }
         if let Some(wrong) = packet.wrong {
             text += &format!(" | WRONG IN PRINT: {wrong}");
         }

@@ -1,9 +1,14 @@
-//! "The node": what one LS-773 holds, does and sends back.
+//! "The node": what one LS-773 or LS-173AP holds, does and sends back.
 
-use crate::command::{Command, Held, Place, Settings};
-use crate::packet::{sum, Packet};
+mod mistaken;
+
+use crate::command::Command;
+use crate::kind::Kind;
+use crate::packet::Packet;
 use crate::rules::{Mistake, Rules};
+use crate::settings::Settings;
 use crate::status::{seal, MARK};
+use mistaken::{misunderstood, slipped_items, slipped_settings, wrong_sum};
 
 /// Values that only the bench sets; a Hard Reset leaves them.
 #[derive(Clone, Copy, Debug, PartialEq, Eq)]
@@ -39,25 +44,151 @@ impl Captured {
     };
 }
 
-/// One node record.
+/// "The drive's status items, all bench values" (request 6), of which only the
+/// position is ever changed, by Reset Position and Hard Reset.
+#[derive(Clone, Copy, Debug, PartialEq, Eq)]
+pub struct DriveValues {
+    pub position: i32,
+    pub ad_value: u8,
+    pub velocity: i16,
+    pub auxiliary: u8,
+    pub home: i32,
+    pub device_id: u8,
+    pub version: u8,
+    pub position_error: i16,
+}
+
+impl DriveValues {
+    pub const ZERO: DriveValues = DriveValues {
+        position: 0,
+        ad_value: 0,
+        velocity: 0,
+        auxiliary: 0,
+        home: 0,
+        device_id: 0,
+        version: 0,
+        position_error: 0,
+    };
+}
+
+/// What a node shows that is no setting.
+#[derive(Clone, Copy, Debug, PartialEq, Eq)]
+pub enum Values {
+    Gate {
+        bench: BenchValues,
+        captured: Captured,
+    },
+    Drive(DriveValues),
+}
+
+/// One node record. Its settings and its values are of one kind.
 #[derive(Clone, Copy, Debug, PartialEq, Eq)]
 pub struct Node {
     pub settings: Settings,
     pub addressed: bool,
-    pub bench: BenchValues,
-    pub captured: Captured,
+    pub values: Values,
+}
+
+impl Values {
+    /// "Bench values 0", nothing captured.
+    pub fn zero(kind: Kind) -> Values {
+        match kind {
+            Kind::Gate => Values::Gate {
+                bench: BenchValues::ZERO,
+                captured: Captured::ZERO,
+            },
+            Kind::Drive => Values::Drive(DriveValues::ZERO),
+        }
+    }
+
+    /// "Bench values stay", captured ones don't; "Reset Position and Hard Reset zero
+    /// the position".
+    fn reset(self, rules: Rules) -> Values {
+        let mut new = self;
+        match &mut new {
+            Values::Gate { bench, captured } => {
+                if !rules.slips(Mistake::CapturedSurvivesReset) {
+                    *captured = Captured::ZERO;
+                }
+                if rules.slips(Mistake::BenchValuesReset) {
+                    *bench = BenchValues::ZERO;
+                }
+            }
+            Values::Drive(values) => {
+                if !rules.slips(Mistake::PositionSurvivesReset) {
+                    values.position = 0;
+                }
+                if rules.slips(Mistake::DriveValuesReset) {
+                    *values = DriveValues::ZERO;
+                }
+            }
+        }
+        new
+    }
+
+    /// What a command does to them.
+    fn after(self, rules: Rules, command: Command) -> Values {
+        let mut new = self;
+        match (command, &mut new) {
+            (Command::SynchInput, Values::Gate { bench, captured }) => {
+                captured.inputs = bench.inputs;
+                captured.counter = bench.counter;
+            }
+            (Command::ResetPosition, Values::Drive(values)) => {
+                if rules.slips(Mistake::ResetZeroesHome) {
+                    values.home = 0;
+                }
+                if !rules.slips(Mistake::ResetPositionIdle) {
+                    values.position = 0;
+                }
+            }
+            (Command::HardReset, _) => new = self.reset(rules),
+            _ => {}
+        }
+        new
+    }
+
+    /// The items of Define Status by mask bit, documents 001 and 000; bit 7 of a
+    /// drive's mask stands for none.
+    fn items(self, rules: Rules) -> [Vec<u8>; 8] {
+        match self {
+            Values::Gate { bench, captured } => [
+                wide(rules, &bench.inputs.to_le_bytes()),
+                vec![bench.analog[0]],
+                vec![bench.analog[1]],
+                vec![bench.analog[2]],
+                wide(rules, &bench.counter.to_le_bytes()),
+                vec![bench.device_id, bench.version],
+                wide(rules, &captured.inputs.to_le_bytes()),
+                wide(rules, &captured.counter.to_le_bytes()),
+            ],
+            Values::Drive(values) => [
+                wide(rules, &values.position.to_le_bytes()),
+                vec![values.ad_value],
+                wide(rules, &values.velocity.to_le_bytes()),
+                vec![values.auxiliary],
+                wide(rules, &values.home.to_le_bytes()),
+                vec![values.device_id, values.version],
+                wide(rules, &values.position_error.to_le_bytes()),
+                Vec::new(),
+            ],
+        }
+    }
 }
 
 impl Node {
     /// "The power-up state belongs to the node kind": not addressed, the
-    /// settings at their power-up values, nothing captured.
-    pub const fn powered_up(bench: BenchValues) -> Node {
+    /// settings at their power-up values, bench values 0.
+    pub fn powered_up(rules: Rules, kind: Kind) -> Node {
         Node {
-            settings: Settings::POWER_UP,
+            settings: Settings::power_up(rules, kind),
             addressed: false,
-            bench,
-            captured: Captured::ZERO,
+            values: Values::zero(kind),
         }
+    }
+
+    pub fn kind(&self) -> Kind {
+        self.settings.kind()
     }
 
     /// The individual address.
@@ -70,13 +201,24 @@ impl Node {
         self.settings.place.group
     }
 
+    /// The command that it takes a packet for: "each node reads the packet by its
+    /// kind". None for others, and for what is "replied to as a Nop is and not acted
+    /// on" since a value is off its range (request 6).
+    pub fn understand(&self, rules: Rules, packet: &Packet) -> Option<Command> {
+        if let Some(command) = misunderstood(rules, self.kind(), packet) {
+            return Some(command);
+        }
+        Command::decode(self.kind(), packet.command_byte, packet.data)
+            .filter(|command| command.is_in_range(rules))
+    }
+
     /// The node once it has acted on a packet meant for it. "Wrong sum:
     /// nothing changes"; others change nothing either.
     pub fn after(&self, rules: Rules, packet: &Packet) -> Node {
         if !packet.intact && !rules.slips(Mistake::DamagedActs) {
             return *self;
         }
-        match understand(rules, packet) {
+        match self.understand(rules, packet) {
             Some(command) => self.obey(rules, command),
             None => *self,
         }
@@ -84,37 +226,17 @@ impl Node {
 
     /// The node once it has done a command.
     fn obey(&self, rules: Rules, command: Command) -> Node {
-        let mut new = *self;
-        new.settings = slipped_settings(rules, self.settings, command);
-        match command {
-            Command::SetAddress(_) => new.addressed = true,
-            Command::SynchInput => {
-                new.captured = Captured {
-                    inputs: self.bench.inputs,
-                    counter: self.bench.counter,
-                };
-            }
-            Command::HardReset => new = self.reset(rules),
-            _ => {}
-        }
-        new
-    }
-
-    /// "Restores power-up state, except that bench values stay."
-    fn reset(&self, rules: Rules) -> Node {
-        let mut new = Node::powered_up(self.bench);
-        if rules.slips(Mistake::LeaderSurvivesReset) {
-            new.settings.place.leader = self.settings.place.leader;
-        }
-        if rules.slips(Mistake::AddressedSurvivesReset) {
-            new.addressed = self.addressed;
-        }
-        if rules.slips(Mistake::CapturedSurvivesReset) {
-            new.captured = self.captured;
-        }
-        if rules.slips(Mistake::BenchValuesReset) {
-            new.bench = BenchValues::ZERO;
-        }
+        let addressed = match command {
+            Command::SetAddress(_) => true,
+            Command::HardReset => self.addressed && rules.slips(Mistake::AddressedSurvivesReset),
+            _ => self.addressed,
+        };
+        let mut new = Node {
+            settings: slipped_settings(rules, self.settings, command),
+            addressed,
+            values: self.values.after(rules, command),
+        };
+        mistaken::mistake_home(rules, command, &mut new.values);
         new
     }
 
@@ -123,7 +245,7 @@ impl Node {
     /// Wrong sum: "the reply uses the held mask, with bit 1 set".
     pub fn reply(&self, rules: Rules, packet: &Packet) -> Vec<u8> {
         let after = self.after(rules, packet);
-        let own_mask = match understand(rules, packet) {
+        let own_mask = match self.understand(rules, packet) {
             Some(Command::ReadStatus(mask)) => Some(mask),
             _ => None,
         };
@@ -148,31 +270,17 @@ impl Node {
     /// The status packet under a mask. "The model sends the other bits as 0."
     fn status(&self, rules: Rules, mask: u8, marked: bool) -> Vec<u8> {
         let status = if marked { MARK } else { 0 };
-        let items: Vec<Vec<u8>> = (0..8)
-            .filter(|bit| mask >> bit & 1 == 1)
-            .map(|bit| self.item(rules, bit))
+        let all = slipped_items(rules, self.kind(), self.values.items(rules));
+        let asked = all.into_iter().enumerate();
+        let items: Vec<Vec<u8>> = asked
+            .filter(|(bit, item)| mask >> bit & 1 == 1 && !item.is_empty())
+            .map(|(_, item)| item)
             .collect();
         let mut reply = seal(status, &items.concat());
         if let (Some(last), Some(wrong)) = (reply.last_mut(), wrong_sum(rules, status, &items)) {
             *last = wrong;
         }
         reply
-    }
-
-    /// One item of Define Status, document 001.
-    fn item(&self, rules: Rules, bit: u8) -> Vec<u8> {
-        let bench = &self.bench;
-        match bit {
-            0 => wide(rules, &bench.inputs.to_le_bytes()),
-            1 => vec![bench.analog[0]],
-            2 => vec![bench.analog[1]],
-            3 => vec![bench.analog[2]],
-            4 => wide(rules, &bench.counter.to_le_bytes()),
-            5 if rules.slips(Mistake::VersionFirst) => vec![bench.version, bench.device_id],
-            5 => vec![bench.device_id, bench.version],
-            6 => wide(rules, &self.captured.inputs.to_le_bytes()),
-            _ => wide(rules, &self.captured.counter.to_le_bytes()),
-        }
     }
 }
 
@@ -183,72 +291,4 @@ fn wide(rules: Rules, least_first: &[u8]) -> Vec<u8> {
         bytes.reverse();
     }
     bytes
-}
-
-/// The sum that a mistaken node carries along as it writes its reply.
-fn wrong_sum(rules: Rules, status: u8, items: &[Vec<u8>]) -> Option<u8> {
-    if rules.slips(Mistake::ItemsSummedAnew) {
-        return items.last().map(|item| sum(item));
-    }
-    if rules.slips(Mistake::StatusNotSummed) {
-        return Some(sum(&items.concat()));
-    }
-    let firsts = items.iter().map(|item| item[0]);
-    rules
-        .slips(Mistake::FirstBytesSummed)
-        .then(|| firsts.fold(status, u8::wrapping_add))
-}
-
-/// The kind that a node takes a packet for.
-fn understand(rules: Rules, packet: &Packet) -> Option<Command> {
-    if rules.slips(Mistake::CountIgnored) {
-        return with_own_count(packet);
-    }
-    if rules.slips(Mistake::ResetWithDataActs) && packet.command() == 0xF {
-        return Some(Command::HardReset);
-    }
-    if rules.slips(Mistake::HighAddressTaken) && packet.command_byte == 0x21 {
-        let place = Place::from_data(packet.data[0] & 0x7F, packet.data[1]);
-        return Some(Command::SetAddress(place));
-    }
-    Command::decode(packet.command_byte, packet.data)
-}
-
-/// Mistake: the kind that the low nibble names, data cut or filled to fit.
-fn with_own_count(packet: &Packet) -> Option<Command> {
-    let own = crate::command::COMMAND_BYTES
-        .into_iter()
-        .find(|byte| byte & 0x0F == packet.command())?;
-    let mut data = packet.data.to_vec();
-    data.resize(usize::from(own >> 4), 0);
-    Command::decode(own, &data)
-}
-
-/// The settings after a command, with the mistakes in storing them.
-fn slipped_settings(rules: Rules, old: Settings, command: Command) -> Settings {
-    let mut new = old.after(command);
-    match command {
-        Command::SetAddress(_) if rules.slips(Mistake::LeaderBitInverted) => {
-            new.place.leader = !new.place.leader;
-        }
-        Command::SetAddress(_) if rules.slips(Mistake::GroupBitLeftClear) => {
-            new.place.group = new.place.data()[1];
-        }
-        Command::ReadStatus(mask) if rules.slips(Mistake::ReadStatusSticks) => new.mask = mask,
-        Command::SetPwm(_) if rules.slips(Mistake::SecondPwmFirst) => new.pwm.reverse(),
-        Command::SetOutputs(_) if rules.slips(Mistake::OutputsCut) => new.outputs &= 0x7F,
-        Command::SetTimerMode(_) if rules.slips(Mistake::TimerCut) => new.timer_mode &= 0x33,
-        Command::SetSynchOutput(held) if rules.slips(Mistake::HeldPwmFirst) => {
-            new.held = Held {
-                outputs: u16::from_le_bytes(held.pwm),
-                pwm: held.outputs.to_le_bytes(),
-            };
-        }
-        Command::SynchOutput if rules.slips(Mistake::HeldPwmLeft) => new.pwm = old.pwm,
-        Command::SynchOutput if rules.slips(Mistake::HeldSpent) => {
-            new.held = Settings::POWER_UP.held;
-        }
-        _ => {}
-    }
-    new
 }

@@ -51,6 +51,16 @@ impl Prng {
         (0..count).map(|_| self.telling_byte()).collect()
     }
 
+    /// A number of four bytes, often about one of the ends that it can have.
+    pub fn telling_long(&mut self) -> u32 {
+        let about = self.pick(&[0, 0x7FFF_FFFF, 0x8000_0001, 0xFFFF_FFFF]);
+        match self.below(4) {
+            0 => about,
+            1 => u32::from(self.byte()) << 8 | u32::from(self.byte()),
+            _ => self.draw() as u32,
+        }
+    }
+
     /// Another value than the one given.
     pub fn other_than(&mut self, byte: u8) -> u8 {
         byte.wrapping_add(self.between(1, 255))

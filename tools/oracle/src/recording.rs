@@ -5,6 +5,8 @@
 mod host;
 mod parts;
 
+use crate::command::Command;
+use crate::kind::Kind;
 use crate::record::Entry;
 use crate::refusal::{require, Refusal};
 use crate::rules::{Mistake, Rules};
@@ -31,10 +33,12 @@ pub struct Capture {
     pub times: Vec<u32>,
 }
 
-/// "The node count is given, and the recording begins at power-up."
+/// "The node count is given, and the recording begins at power-up", at which the
+/// kinds are told (request 6).
 #[derive(Clone, Debug, Default, PartialEq, Eq)]
 pub struct Recording {
     pub nodes: u8,
+    pub kinds: Vec<Kind>,
     pub commands: Capture,
     pub replies: Capture,
 }
@@ -81,7 +85,7 @@ pub struct Change {
 #[derive(Clone, Debug, PartialEq, Eq)]
 pub enum Did {
     /// A command that the host sends.
-    Sent,
+    Sent(Command),
     /// A Hard Reset that the host sends.
     Closed,
     /// "A command the host couldn't have sent ends the walk and says so."
@@ -154,7 +158,7 @@ fn check(rules: Rules, recording: &Recording, host: &mut Session) -> Result<(), 
     if rules.slips(Mistake::TimesBeforeNodes) {
         check_times(rules, recording)?;
     }
-    host.power_up(recording.nodes)?;
+    host.power_up(recording.nodes, &recording.kinds)?;
     if rules.slips(Mistake::TimesBeforeCounts) {
         check_times(rules, recording)?;
     }

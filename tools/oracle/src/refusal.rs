@@ -1,5 +1,5 @@
 //! "Numbers returned": the one table of numbers that every call answers with,
-//! and those that requests 1 and 3 add.
+//! and those that requests 1, 3 and 6 add.
 
 /// A call was done; also the number of a chain that stayed silent.
 pub const DONE: u8 = 0;
@@ -38,6 +38,7 @@ refusals! {
     NotAHexLine = 14,
     CountsDiffer = 15,
     TimeFalls = 16,
+    KindLacks = 17,
 }
 
 impl Refusal {

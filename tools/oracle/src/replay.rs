@@ -2,9 +2,11 @@
 //! packet, how the recording ended, and the host's record at its end.
 
 pub mod text;
-mod words;
+pub mod words;
 
+use crate::command::Command;
 use crate::hex;
+use crate::kind::Kind;
 use crate::recording::{self, Did, Line, Recording, Step, Walk};
 use crate::rules::{Mistake, Rules};
 use crate::session::Session;
@@ -24,7 +26,7 @@ pub fn run(rules: Rules, input: &[u8]) -> Result<Vec<u8>, String> {
     lines.push(standing(rules, &walk.session));
     for node in 1..=walk.session.n {
         if let Ok(entry) = walk.session.look(node) {
-            lines.push(format!("node {node}: {}", words::entry(rules, entry)));
+            lines.push(words::entry(rules, node, entry));
         }
     }
     let ended = lines.into_iter().map(|line| line + "\n");
@@ -35,7 +37,10 @@ pub fn run(rules: Rules, input: &[u8]) -> Result<Vec<u8>, String> {
 fn complaint(fault: Fault) -> String {
     match fault {
         Fault::TooLong => "the recording is longer than 64 KiB".to_string(),
-        Fault::NoCount => "the first line is not a node count, 1 to 31".to_string(),
+        Fault::NoCount => {
+            "the first line is not a node count, 1 to 31, alone or with the kind of each node"
+                .to_string()
+        }
         Fault::NoRun(line) => format!("line {line}: not a run of bytes"),
         Fault::TimeFalls(line) => format!("line {line}: its time is less than the one before it"),
     }
@@ -50,18 +55,32 @@ fn packet(rules: Rules, recording: &Recording, step: &Step, host: &Session) -> S
         false => recording.time(step.part),
     };
     let (mark, says) = match step.part.line {
-        Line::Command => ('>', words::command(rules, bytes)),
+        Line::Command => ('>', command(rules, bytes, &step.did, host)),
         Line::Reply => ('<', words::reply(rules, host.judge(bytes)).to_string()),
     };
     let bytes = hex::format(bytes);
     format!("{time} {mark} {bytes} | {says} | {}", did(rules, step))
 }
 
+/// "Named by the call that gives its bytes, if the host could have sent it"; else
+/// by the kinds of the nodes.
+fn command(rules: Rules, bytes: &[u8], did: &Did, host: &Session) -> String {
+    match did {
+        Did::Sent(command) => words::sent(rules, bytes, *command),
+        Did::Closed => words::sent(rules, bytes, Command::HardReset),
+        _ => {
+            let nodes = host.entries.iter().take(usize::from(host.n));
+            let kinds: Vec<Kind> = nodes.map(|entry| entry.kind()).collect();
+            words::foreign(rules, bytes, &kinds)
+        }
+    }
+}
+
 /// What it did to the host and its record, behind the silence of the command
 /// before.
 fn did(rules: Rules, step: &Step) -> String {
     let own = match &step.did {
-        Did::Sent => "sent".to_string(),
+        Did::Sent(_) => "sent".to_string(),
         Did::Closed if rules.slips(Mistake::ResetIsJustSent) => "sent".to_string(),
         Did::Closed => "sent, the session closes, all in doubt".to_string(),
         Did::Foreign => "not the host's, the walk ends".to_string(),

@@ -4,10 +4,12 @@
 mod reporting;
 
 use crate::command::{Command, Place};
+use crate::kind::Kind;
 use crate::packet::{self, OVERHEAD};
-use crate::record::{Entry, Setting};
+use crate::record::Entry;
 use crate::refusal::{require, Refusal};
 use crate::rules::{Mistake, Rules};
+use crate::settings::Setting;
 use crate::target::Target;
 pub use reporting::Outcome;
 
@@ -47,16 +49,22 @@ impl Session {
             n: 0,
             walk: 0,
             exchange: Exchange::Idle,
-            entries: [Entry::POWER_UP; MOST_NODES as usize],
+            entries: [Entry::power_up(rules, Kind::Gate); MOST_NODES as usize],
         }
     }
 
-    /// Starts a session with n nodes, at any time; a bad n gives 6.
-    pub fn power_up(&mut self, n: u8) -> Result<(), Refusal> {
+    /// Starts a session with n nodes of these kinds, at any time; a bad n, or
+    /// another number of kinds than n, gives 6. "Each node gets a kind, told to the
+    /// host at power-up" (request 6); beyond n it is an LS-773.
+    pub fn power_up(&mut self, n: u8, kinds: &[Kind]) -> Result<(), Refusal> {
         let taken = (1..=MOST_NODES).contains(&n)
             || self.rules.slips(Mistake::PowerUpOf32) && [0, 32].contains(&n);
-        require(taken, Refusal::OffRange)?;
+        require(taken && kinds.len() == usize::from(n), Refusal::OffRange)?;
         let mut new = Session::fresh(self.rules);
+        self.mistake_kinds_beyond(&mut new);
+        for (entry, kind) in new.entries.iter_mut().zip(kinds) {
+            *entry = Entry::power_up(self.rules, *kind);
+        }
         if self.rules.slips(Mistake::PowerUpKeepsExchange) {
             new.exchange = self.exchange;
         }
@@ -88,8 +96,9 @@ impl Session {
         self.send(node, Target::Node(node), Command::Nop, buffer)
     }
 
-    /// One of the ten commands of a ready session, to a node or a group. Set
-    /// Address is not among them: 6.
+    /// One of the fifteen commands of a ready session, to a node or a group. Set
+    /// Address is not among them: 6. Values off their ranges are 6, too, whomever
+    /// they are for: "the host refuses it with 6" (request 6).
     pub fn command(
         &mut self,
         target: Target,
@@ -97,17 +106,23 @@ impl Session {
         buffer: &mut [u8],
     ) -> Result<usize, Refusal> {
         self.slip_into_range_check(target)?;
+        self.mistake_range_at(Mistake::ValuesBeforeOpen, command)?;
         self.require_idle()?;
         if let (Target::Node(node), true) = (target, self.rules.slips(Mistake::NodeBeforeRange)) {
             self.require_node(node)?;
         }
-        let ordered = !matches!(command, Command::SetAddress(_))
-            || self.rules.slips(Mistake::SetAddressOrdered);
-        require(ordered, Refusal::OffRange)?;
+        self.mistake_kind_before_node(target, command)?;
+        self.require_range(command)?;
         match target {
             Target::Group(group) => require(group >= 0x80, Refusal::OffRange)?,
             Target::Node(node) => self.require_node(node)?,
         }
+        self.mistake_range_at(Mistake::ValuesAfterNode, command)?;
+        if self.rules.slips(Mistake::WalkBeforeKind) {
+            self.require_walk_ended()?;
+        }
+        self.require_kinds(target, command)?;
+        self.mistake_range_at(Mistake::ValuesAfterKind, command)?;
         self.require_walk_ended()?;
         let length = self.send(target.address(), target, command, buffer)?;
         if command == Command::HardReset {
@@ -216,6 +231,27 @@ impl Session {
         require((1..=self.n).contains(&node), Refusal::NoSuchNode)
     }
 
+    /// 17: "a command that the kind of a node it may reach lacks (node k; for a
+    /// group, known members and nodes with place in doubt)".
+    fn require_kinds(&self, target: Target, command: Command) -> Result<(), Refusal> {
+        let mut reached = self.may_be_written(target).into_iter();
+        let lacked = reached.any(|index| !self.entries[index].has(command));
+        let refused = self.slipped_lack(lacked, target, command);
+        require(!refused, Refusal::KindLacks)
+    }
+
+    /// 6: a Set Address, which isn't ordered so, or a value off its range.
+    fn require_range(&self, command: Command) -> Result<(), Refusal> {
+        let slips = |mistake| self.rules.slips(mistake);
+        let ordered =
+            !matches!(command, Command::SetAddress(_)) || slips(Mistake::SetAddressOrdered);
+        let passed_over = slips(Mistake::OffRangeSent)
+            || slips(Mistake::ValuesAfterNode)
+            || slips(Mistake::ValuesAfterKind);
+        let in_range = command.is_in_range(self.rules) || passed_over;
+        require(ordered && in_range, Refusal::OffRange)
+    }
+
     /// 9: walk not ended.
     fn require_walk_ended(&self) -> Result<(), Refusal> {
         require(!self.walks(), Refusal::NotDue)
@@ -260,7 +296,7 @@ impl Session {
         command: Command,
         buffer: &mut [u8],
     ) -> Result<usize, Refusal> {
-        let nibble = command.byte() & 0x0F;
+        let nibble = command.nibble();
         let length = packet::build(self.rules, buffer, address, nibble, &command.data())?;
         self.exchange = Exchange::Waiting { target, command };
         Ok(length)
@@ -278,6 +314,82 @@ impl Session {
         } else if !self.rules.slips(Mistake::ResetKeepsKnown) {
             self.entries.iter_mut().for_each(|entry| entry.known = 0);
         }
+        if self.rules.slips(Mistake::ResetChangesKinds) {
+            self.entries = Session::fresh(self.rules).entries;
+            self.entries.iter_mut().for_each(|entry| entry.known = 0);
+        }
+    }
+}
+
+// ---- Mistakes alone ----------------------------------------------------
+
+impl Session {
+    /// The kinds beyond n, as a mistaken power-up leaves them.
+    fn mistake_kinds_beyond(&self, new: &mut Session) {
+        if self.rules.slips(Mistake::KindsBeyondKept) {
+            let kinds = self.entries.map(|entry| entry.kind());
+            new.entries = kinds.map(|kind| Entry::power_up(self.rules, kind));
+        }
+    }
+
+    /// A value's range, where a mistaken host looks at it.
+    fn mistake_range_at(&self, place: Mistake, command: Command) -> Result<(), Refusal> {
+        let in_range = command.is_in_range(self.rules) || !self.rules.slips(place);
+        require(in_range, Refusal::OffRange)
+    }
+
+    /// 17 for a node off the chain, before 10.
+    fn mistake_kind_before_node(&self, target: Target, command: Command) -> Result<(), Refusal> {
+        match target {
+            Target::Node(node @ 1..=MOST_NODES) if self.rules.slips(Mistake::KindBeforeNode) => {
+                let has = self.entries[usize::from(node - 1)].has(command);
+                require(has, Refusal::KindLacks)
+            }
+            _ => Ok(()),
+        }
+    }
+
+    /// Whether a mistaken host refuses a command with 17.
+    fn slipped_lack(&self, lacked: bool, target: Target, command: Command) -> bool {
+        let slips = |mistake| self.rules.slips(mistake);
+        let reached = self.may_be_written(target).into_iter();
+        let mut reached = reached.map(|index| &self.entries[index]);
+        if slips(Mistake::WritersLackAlone) {
+            let writes = matches!(command, Command::SynchInput | Command::ResetPosition);
+            return lacked && !writes;
+        }
+        if slips(Mistake::DoubtfulLackSpared) {
+            return reached.any(|entry| entry.knows(Setting::Place) && !entry.has(command));
+        }
+        if slips(Mistake::GroupsLackNothing) {
+            return lacked && !target.is_group();
+        }
+        if slips(Mistake::LeadersLackAlone) {
+            return reached.any(|entry| {
+                let asked = entry.settings.place.leader || !target.is_group();
+                asked && !entry.has(command)
+            });
+        }
+        if slips(Mistake::AllMustLack) {
+            let mut others = self.may_be_written(target).into_iter();
+            return lacked && !others.any(|index| self.entries[index].has(command));
+        }
+        if slips(Mistake::SharedBytesTaken) {
+            let shared = [Command::SynchOutput.byte(), 0x24].contains(&command.byte());
+            return lacked && !shared;
+        }
+        if slips(Mistake::MixedGroupLacks) {
+            let kinds: Vec<Kind> = reached.map(Entry::kind).collect();
+            return lacked || Kind::ALL.iter().all(|kind| kinds.contains(kind));
+        }
+        if slips(Mistake::EmptyGroupLacks) {
+            return lacked || reached.next().is_none() && command.owner() == Some(Kind::Drive);
+        }
+        if slips(Mistake::WholeChainLacks) {
+            let mut chain = self.entries[..usize::from(self.n)].iter();
+            return chain.any(|entry| !entry.has(command));
+        }
+        lacked
     }
 }
 
@@ -287,7 +399,7 @@ fn walk_command(node: u8) -> Command {
 }
 
 /// Whether a command's addresses, where its data has any, are of their range.
-fn is_in_range(command: Command) -> bool {
+fn has_place_in_range(command: Command) -> bool {
     match command {
         Command::SetAddress(place) => {
             Target::Node(place.address).is_in_range() && Target::Group(place.group).is_in_range()
@@ -296,8 +408,8 @@ fn is_in_range(command: Command) -> bool {
     }
 }
 
-/// The packet of a command, at the start of the lent buffer. An address or a
-/// place that is not of its range is an "argument off its range", 6, and that
+/// The packet of a command, at the start of the lent buffer. An address, a place
+/// or a value that is not of its range is an "argument off its range", 6, and that
 /// comes before 5.
 pub fn build(
     rules: Rules,
@@ -312,6 +424,7 @@ pub fn build(
     let to_any = rules.slips(Mistake::AnyAddressBuilt);
     require(to_any || to.is_in_range(), Refusal::OffRange)?;
     let of_any = rules.slips(Mistake::AnyPlaceBuilt);
-    require(of_any || is_in_range(command), Refusal::OffRange)?;
-    packet::build(rules, buffer, to.address(), command.byte() & 0x0F, &data)
+    require(of_any || has_place_in_range(command), Refusal::OffRange)?;
+    require(command.is_in_range(rules), Refusal::OffRange)?;
+    packet::build(rules, buffer, to.address(), command.nibble(), &data)
 }

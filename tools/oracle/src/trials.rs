@@ -106,8 +106,8 @@ impl Trials {
     }
 
     fn read_status(&self, mut line: Cursor) -> Option<Vec<u8>> {
-        let mask = line.byte()?;
-        Some(match status::read(self.rules, mask, line.rest()) {
+        let (kind, mask) = (line.kind()?, line.byte()?);
+        Some(match status::read(self.rules, kind, mask, line.rest()) {
             Ok((status, items)) => [&[DONE, status], items].concat(),
             Err(refusal) => vec![refusal.number()],
         })
@@ -140,8 +140,9 @@ impl Trials {
 impl Trials {
     fn power_up(&mut self, mut line: Cursor) -> Option<Vec<u8>> {
         let n = line.byte()?;
+        let kinds = line.kinds(n)?;
         line.end()?;
-        Some(number_alone(self.session.power_up(n)))
+        Some(number_alone(self.session.power_up(n, &kinds)))
     }
 
     fn next(&mut self, mut line: Cursor) -> Option<Vec<u8>> {
@@ -156,7 +157,7 @@ impl Trials {
         Some(with_buffer(self.session.ask(&mut buffer), &buffer))
     }
 
-    /// "Only the ten commands that a ready session takes."
+    /// Only the fifteen commands that a ready session takes.
     fn command(&mut self, mut line: Cursor) -> Option<Vec<u8>> {
         let mut buffer = room(&mut line)?;
         let target = line.target()?;

@@ -3,6 +3,7 @@
 
 use oracle::prng::Prng;
 use oracle::rules::Rules;
+use oracle::settings::{self, GateSettings, Own};
 use oracle::{bench, chain, command, make_bench, make_packets, node};
 
 use crate::plain::{Answer, Bench, Captured, Held, Node, Place, Settings, MOST_REPLY};
@@ -174,25 +175,32 @@ fn long(prng: &mut Prng) -> u32 {
     u32::from(word(prng)) << 16 | u32::from(word(prng))
 }
 
+/// Only gates are timed, and so are they alone compared here.
 fn plain_node(node: &node::Node) -> Node {
+    let node::Values::Gate { bench, captured } = node.values else {
+        panic!("a chain of gates");
+    };
     Node {
         settings: plain_settings(&node.settings),
         addressed: node.addressed,
         bench: Bench {
-            inputs: node.bench.inputs,
-            counter: node.bench.counter,
-            analog: node.bench.analog,
-            id: node.bench.device_id,
-            version: node.bench.version,
+            inputs: bench.inputs,
+            counter: bench.counter,
+            analog: bench.analog,
+            id: bench.device_id,
+            version: bench.version,
         },
         captured: Captured {
-            inputs: node.captured.inputs,
-            counter: node.captured.counter,
+            inputs: captured.inputs,
+            counter: captured.counter,
         },
     }
 }
 
-pub fn plain_settings(settings: &command::Settings) -> Settings {
+pub fn plain_settings(settings: &settings::Settings) -> Settings {
+    let Own::Gate(gate) = settings.own else {
+        panic!("the settings of a gate");
+    };
     Settings {
         place: Place {
             address: settings.place.address,
@@ -200,45 +208,49 @@ pub fn plain_settings(settings: &command::Settings) -> Settings {
             leader: settings.place.leader,
         },
         mask: settings.mask,
-        outputs: settings.outputs,
-        pwm: settings.pwm,
+        outputs: gate.outputs,
+        pwm: gate.pwm,
         held: Held {
-            outputs: settings.held.outputs,
-            pwm: settings.held.pwm,
+            outputs: gate.held.outputs,
+            pwm: gate.held.pwm,
         },
-        timer: settings.timer_mode,
+        timer: gate.timer_mode,
     }
 }
 
 fn oracle_node(node: &Node) -> node::Node {
     let settings = &node.settings;
     node::Node {
-        settings: command::Settings {
+        settings: settings::Settings {
             place: command::Place {
                 address: settings.place.address,
                 group: settings.place.group,
                 leader: settings.place.leader,
             },
             mask: settings.mask,
-            outputs: settings.outputs,
-            pwm: settings.pwm,
-            held: command::Held {
-                outputs: settings.held.outputs,
-                pwm: settings.held.pwm,
-            },
-            timer_mode: settings.timer,
+            own: Own::Gate(GateSettings {
+                outputs: settings.outputs,
+                pwm: settings.pwm,
+                held: command::Held {
+                    outputs: settings.held.outputs,
+                    pwm: settings.held.pwm,
+                },
+                timer_mode: settings.timer,
+            }),
         },
         addressed: node.addressed,
-        bench: node::BenchValues {
-            inputs: node.bench.inputs,
-            counter: node.bench.counter,
-            analog: node.bench.analog,
-            device_id: node.bench.id,
-            version: node.bench.version,
-        },
-        captured: node::Captured {
-            inputs: node.captured.inputs,
-            counter: node.captured.counter,
+        values: node::Values::Gate {
+            bench: node::BenchValues {
+                inputs: node.bench.inputs,
+                counter: node.bench.counter,
+                analog: node.bench.analog,
+                device_id: node.bench.id,
+                version: node.bench.version,
+            },
+            captured: node::Captured {
+                inputs: node.captured.inputs,
+                counter: node.captured.counter,
+            },
         },
     }
 }

@@ -3,14 +3,15 @@
 use oracle::chain::{deliver, Delivery};
 use oracle::command::{Command, Held};
 use oracle::demand3::Heard;
+use oracle::kind::{gates, Kind};
 use oracle::make_recordings::laid_out;
-use oracle::node::{BenchValues, Node};
+use oracle::node::Node;
 use oracle::prng::Prng;
-use oracle::record::Setting;
 use oracle::recording::Recording;
 use oracle::refusal::Refusal;
 use oracle::rules::Rules;
 use oracle::session::Session;
+use oracle::settings::Setting;
 use oracle::target::Target;
 
 use crate::plain::MOST_REPLY;
@@ -46,7 +47,7 @@ pub fn recording(nodes: usize, size: usize, seed: u64) -> Recording {
         let entry = &show.host.entries[usize::from(node - 1)];
         node += u8::from(entry.knows(Setting::Place));
     }
-    laid_out(&mut show.prng, nodes as u8, &show.heard)
+    laid_out(&mut show.prng, &gates(nodes), &show.heard)
 }
 
 /// A call of the host, with its packet.
@@ -63,11 +64,12 @@ struct Show {
 impl Show {
     fn new(nodes: u8, seed: u64) -> Show {
         let mut host = Session::fresh(Rules::RIGHT);
-        host.power_up(nodes).expect("1 to 31 nodes");
+        let kinds = gates(usize::from(nodes));
+        host.power_up(nodes, &kinds).expect("1 to 31 nodes");
         Show {
             prng: Prng::new(seed),
             host,
-            chain: vec![Node::powered_up(BenchValues::ZERO); usize::from(nodes)],
+            chain: vec![Node::powered_up(Rules::RIGHT, Kind::Gate); usize::from(nodes)],
             heard: Vec::new(),
             bytes: 0,
         }

@@ -1,13 +1,14 @@
 //! Hand-written cases for deliveries, `20`.
 
 use crate::case::{damaged, of_count, packet, Case};
-use crate::command::{Held, Place, Settings};
+use crate::command::{Held, Place};
 use crate::hex;
 use crate::layout;
-use crate::node::{BenchValues, Captured, Node};
+use crate::node::{BenchValues, Captured, Node, Values};
+use crate::settings::{GateSettings, Own, Settings};
 
 /// A record whose every byte tells where it comes from.
-fn record(address: u8, group: u8, leader: bool, addressed: bool) -> Node {
+pub fn record(address: u8, group: u8, leader: bool, addressed: bool) -> Node {
     Node {
         settings: Settings {
             place: Place {
@@ -16,48 +17,52 @@ fn record(address: u8, group: u8, leader: bool, addressed: bool) -> Node {
                 leader,
             },
             mask: 0,
-            outputs: 0x9291,
-            pwm: [0x31, 0x32],
-            held: Held {
-                outputs: 0xC2C1,
-                pwm: [0x43, 0x44],
-            },
-            timer_mode: 0xCD,
+            own: Own::Gate(GateSettings {
+                outputs: 0x9291,
+                pwm: [0x31, 0x32],
+                held: Held {
+                    outputs: 0xC2C1,
+                    pwm: [0x43, 0x44],
+                },
+                timer_mode: 0xCD,
+            }),
         },
         addressed,
-        bench: BenchValues {
-            inputs: 0x6261,
-            counter: 0x7473_7271,
-            analog: [0x81, 0x82, 0x83],
-            device_id: 0x02,
-            version: 0x32,
-        },
-        captured: Captured {
-            inputs: 0xB2B1,
-            counter: 0xD4D3_D2D1,
+        values: Values::Gate {
+            bench: BenchValues {
+                inputs: 0x6261,
+                counter: 0x7473_7271,
+                analog: [0x81, 0x82, 0x83],
+                device_id: 0x02,
+                version: 0x32,
+            },
+            captured: Captured {
+                inputs: 0xB2B1,
+                counter: 0xD4D3_D2D1,
+            },
         },
     }
 }
 
 /// A record that shows these items in its replies.
-fn showing(mask: u8, node: Node) -> Node {
+pub fn showing(mask: u8, node: Node) -> Node {
     let mut node = node;
     node.settings.mask = mask;
     node
 }
 
 /// An addressed node in the default group.
-fn addressed(address: u8) -> Node {
+pub fn addressed(address: u8) -> Node {
     record(address, 0xFF, false, true)
 }
 
 /// A node that waits at 0x00.
-fn waiting() -> Node {
+pub fn waiting() -> Node {
     record(0x00, 0xFF, false, false)
 }
 
 /// A delivery's line.
-fn deliver(room: u8, nodes: &[Node], packet: &str) -> String {
+pub fn deliver(room: u8, nodes: &[Node], packet: &str) -> String {
     let mut bytes = vec![0x20, room, nodes.len() as u8];
     bytes.extend(nodes.iter().flat_map(layout::node));
     format!("{} {packet}", hex::format(&bytes))
@@ -82,9 +87,10 @@ pub fn cases() -> Vec<Case> {
     ]
 }
 
+/// One of 31 is among the drives' cases.
 fn table_lengths() -> Vec<String> {
     let nop = packet("00 0E");
-    [0, 1, 31, 32]
+    [0, 1, 32]
         .into_iter()
         .map(|length| deliver(4, &vec![waiting(); length], &nop))
         .chain(["", "01", "AA 01 0E 0F 00"].map(|packet| deliver(0, &[], packet)))

@@ -9,9 +9,14 @@ use crate::rules::Rules;
 use crate::session::{Exchange, Session};
 use crate::target::Target;
 
-/// A session of n nodes made ready.
+/// `30`, all of them gates.
+fn power_up(n: u8) -> String {
+    format!("30 {n:02X}{}", " 00".repeat(usize::from(n)))
+}
+
+/// A session of n gates made ready.
 fn ready(n: u8) -> Vec<String> {
-    let mut lines = vec![format!("30 {n:02X}")];
+    let mut lines = vec![power_up(n)];
     for _ in 0..n {
         lines.extend(story("31 06; 35 00 00"));
     }
@@ -29,22 +34,22 @@ pub fn document_records() -> Vec<Case> {
         when_ready(
             "document 01: outputs silent, then sent again",
             2,
-            "33 06 00 02 26 05 00; 36; 37; 33 06 00 02 26 05 00; 35 00 00; 37",
+            "33 06 00 02 00 26 05 00; 36; 37; 33 06 00 02 00 26 05 00; 35 00 00; 37",
         ),
         when_ready(
             "document 01: reply 02 02",
             2,
-            "33 06 00 02 26 05 00; 35 02 02; 37",
+            "33 06 00 02 00 26 05 00; 35 02 02; 37",
         ),
         when_ready(
             "document 01: reply 02 03",
             2,
-            "33 06 00 02 26 05 00; 35 02 03; 37",
+            "33 06 00 02 00 26 05 00; 35 02 03; 37",
         ),
         when_ready(
             "document 01: held set silent, then Synch Output",
             2,
-            "33 08 00 02 47 07 01 80 AA; 36; 37; 33 04 00 02 05; 35 00 00; 37",
+            "33 08 00 02 00 47 07 01 80 AA; 36; 37; 33 04 00 02 00 05; 35 00 00; 37",
         ),
         when_ready(
             "document 01: node 1 leads 0x80",
@@ -53,7 +58,7 @@ pub fn document_records() -> Vec<Case> {
         ),
         Case::new(
             "document 01: first next silent",
-            story("30 02; 31 06; 36; 37; 31 06; 32 04; 35 00 00; 37"),
+            story("30 02 00 00; 31 06; 36; 37; 31 06; 32 04; 35 00 00; 37"),
         ),
     ]
 }
@@ -73,7 +78,7 @@ fn walk_cases() -> Vec<Case> {
         Case::new(
             "walk: marked replies and asks",
             story(
-                "30 03; 32 04; 31 06; 35 02 02; 37; 32 04; 31 06; 35 00 01; 31 06; 32 04; 36; \
+                "30 03 00 00 00; 32 04; 31 06; 35 02 02; 37; 32 04; 31 06; 35 00 01; 31 06; 32 04; 36; \
              32 04; 35 02 02; 31 06; 37; 32 04; 35 00 00; 37; 31 06; 35 FD FD; 32 04; 31 06; \
              35 00 00; 31 06; 32 04; 37",
             ),
@@ -81,7 +86,7 @@ fn walk_cases() -> Vec<Case> {
         Case::new("walk: 31 nodes", ready(31)),
         Case::new(
             "walk: rooms",
-            story("30 01; 31 05; 31 00; 37; 31 40; 36; 32 03; 32 00; 32 04; 35 00 00; 37"),
+            story("30 01 00; 31 05; 31 00; 37; 31 40; 36; 32 03; 32 00; 32 04; 35 00 00; 37"),
         ),
     ]
 }
@@ -91,36 +96,38 @@ fn order_cases() -> Vec<Case> {
     vec![
         Case::new(
             "order: bad power-ups, then powered up anew",
-            story(
-                "30 02; 31 06; 30 00; 30 20; 30 FF; 37; 35 00 00; 31 06; 30 1F; 37; 35 00 00; 36",
-            ),
+            story(&format!(
+                "30 02 00 00; 31 06; 30 00; {}; 37; 35 00 00; 31 06; {}; 37; 35 00 00; 36",
+                power_up(32),
+                power_up(31)
+            )),
         ),
         when_ready(
             "order: closed comes first",
             1,
-            "33 04 00 01 0F; 33 00 01 05 0E; 33 00 00 09 0E; 34 00 09 05 01; 31 00; 32 00; \
+            "33 04 00 01 00 0F; 33 00 01 05 00 0E; 33 00 00 09 00 0E; 34 00 09 05 01; 31 00; 32 00; \
              35 00 00; 36; 37",
         ),
         when_ready(
             "order: an open exchange comes next",
             1,
-            "33 04 00 01 0E; 33 00 01 05 0E; 33 00 00 09 0E; 34 00 09 05 01; 31 00; 32 00; \
+            "33 04 00 01 00 0E; 33 00 01 05 00 0E; 33 00 00 09 00 0E; 34 00 09 05 01; 31 00; 32 00; \
              37; 35 00 00; 35 00 00; 36",
         ),
         Case::new(
             "order: while walking",
             story(
-                "30 02; 33 00 01 05 0E; 33 00 01 80 0E; 33 00 00 00 0E; 33 00 00 03 0E; \
-             33 00 00 02 0E; 34 00 28 05 01; 34 00 28 80 01; 34 00 02 80 01; 32 00; 31 00; \
+                "30 02 00 00; 33 00 01 05 00 0E; 33 00 01 80 00 0E; 33 00 00 00 00 0E; 33 00 00 03 00 0E; \
+             33 00 00 02 00 0E; 34 00 28 05 01; 34 00 28 80 01; 34 00 02 80 01; 32 00; 31 00; \
              31 06; 36; 31 00; 32 00; 37",
             ),
         ),
         when_ready(
             "order: when ready",
             2,
-            "31 00; 32 00; 33 00 01 7F 0E; 33 00 00 00 0E; 33 00 00 03 0E; 34 00 03 7F 01; \
+            "31 00; 32 00; 33 00 01 7F 00 0E; 33 00 00 00 00 0E; 33 00 00 03 00 0E; 34 00 03 7F 01; \
              34 00 03 80 01; 34 06 01 80 01; 35 00 00; 34 00 02 80 01; 34 05 02 81 01; \
-             33 03 00 01 0E; 33 05 01 FF 26 05 00; 33 03 00 01 0F; 37",
+             33 03 00 01 00 0E; 33 05 01 FF 00 26 05 00; 33 03 00 01 00 0F; 37",
         ),
     ]
 }
@@ -131,34 +138,34 @@ fn reply_cases() -> Vec<Case> {
         when_ready(
             "replies: lengths and bits",
             1,
-            "33 05 00 01 18 33; 35; 37; 33 05 00 01 18 33; 35 00; 37; 33 05 00 01 18 33; \
+            "33 05 00 01 00 18 33; 35; 37; 33 05 00 01 00 18 33; 35 00; 37; 33 05 00 01 00 18 33; \
              35 FD 01 02 03 04 05 06 07 08 09 0A 0B 0C 0D 0E 0F 10 11 96; 37; \
-             33 05 00 01 18 44; \
+             33 05 00 01 00 18 44; \
              35 00 01 02 03 04 05 06 07 08 09 0A 0B 0C 0D 0E 0F 10 11 12 AB; 37; \
-             33 05 00 01 18 44; 35 FD FD; 37; 33 05 00 01 18 33; 35 FF FF; 37; \
-             33 05 00 01 18 33; 35 00 01; 37; 33 05 00 01 18 33; 35 00 00; 37; \
-             33 05 00 01 18 44; 35 02 00; 37",
+             33 05 00 01 00 18 44; 35 FD FD; 37; 33 05 00 01 00 18 33; 35 FF FF; 37; \
+             33 05 00 01 00 18 33; 35 00 01; 37; 33 05 00 01 00 18 33; 35 00 00; 37; \
+             33 05 00 01 00 18 44; 35 02 00; 37",
         ),
         when_ready(
             "replies: commands that write nothing",
             2,
-            "33 05 00 01 13 FF; 36; 33 04 00 01 0E; 36; 33 04 01 FF 0C; 36; 37; \
-             33 04 00 02 0C; 35 00 00; 37",
+            "33 05 00 01 00 13 FF; 36; 33 04 00 01 00 0E; 36; 33 04 01 FF 00 0C; 36; 37; \
+             33 04 00 02 00 0C; 35 00 00; 37",
         ),
         when_ready(
             "replies: every kind confirmed",
             2,
-            "33 05 00 02 12 41; 35 00 00; 33 06 00 02 24 31 32; 35 00 00; \
-             33 06 00 02 26 FF 91; 35 00 00; 33 08 00 02 47 C1 C2 43 44; 35 00 00; 37; \
-             33 04 00 02 05; 35 00 00; 33 05 00 02 18 CD; 35 00 00; 33 04 00 02 0C; \
-             35 00 00; 33 05 00 02 13 FF; 35 00 00; 37",
+            "33 05 00 02 00 12 41; 35 00 00; 33 06 00 02 00 24 31 32; 35 00 00; \
+             33 06 00 02 00 26 FF 91; 35 00 00; 33 08 00 02 00 47 C1 C2 43 44; 35 00 00; 37; \
+             33 04 00 02 00 05; 35 00 00; 33 05 00 02 00 18 CD; 35 00 00; 33 04 00 02 00 0C; \
+             35 00 00; 33 05 00 02 00 13 FF; 35 00 00; 37",
         ),
         when_ready(
             "replies: every kind silent",
             2,
-            "33 05 00 01 12 41; 36; 37; 33 06 00 01 24 31 32; 36; 37; 33 06 00 02 26 FF 91; \
-             36; 37; 33 08 00 02 47 C1 C2 43 44; 36; 37; 33 05 00 02 18 CD; 36; 37; \
-             33 04 00 01 05; 36; 37; 34 06 02 81 00; 36; 37",
+            "33 05 00 01 00 12 41; 36; 37; 33 06 00 01 00 24 31 32; 36; 37; 33 06 00 02 00 26 FF 91; \
+             36; 37; 33 08 00 02 00 47 C1 C2 43 44; 36; 37; 33 05 00 02 00 18 CD; 36; 37; \
+             33 04 00 01 00 05; 36; 37; 34 06 02 81 00; 36; 37",
         ),
     ]
 }
@@ -172,29 +179,29 @@ fn doubt_cases() -> Vec<Case> {
             "doubt: a group with a place in doubt",
             3,
             "34 06 01 80 01; 35 00 00; 34 06 02 80 00; 35 00 00; 34 06 03 81 00; 36; 37; \
-             33 06 01 80 26 07 00; 35 00 00; 37; 33 06 01 90 24 01 02; 36; 37; \
-             33 04 00 03 0E; 35 00 00; 37; 34 06 03 80 00; 35 00 00; 33 05 01 80 18 01; \
-             35 02 02; 37; 34 06 01 81 00; 36; 33 05 01 80 18 01; 35 00 00; 37",
+             33 06 01 80 00 26 07 00; 35 00 00; 37; 33 06 01 90 00 24 01 02; 36; 37; \
+             33 04 00 03 00 0E; 35 00 00; 37; 34 06 03 80 00; 35 00 00; 33 05 01 80 00 18 01; \
+             35 02 02; 37; 34 06 01 81 00; 36; 33 05 01 80 00 18 01; 35 00 00; 37",
         ),
         // The same value again, silent; another, with a reply.
         when_ready(
             "doubt: a group without leader",
             2,
-            "33 06 01 FF 26 00 00; 36; 37; 33 05 01 FF 18 07; 35 00 00; 37",
+            "33 06 01 FF 00 26 00 00; 36; 37; 33 05 01 FF 00 18 07; 35 00 00; 37",
         ),
         // The leader's, known and in doubt.
         when_ready(
             "doubt: copies of a held set",
             2,
-            "34 06 01 FF 01; 35 00 00; 33 08 01 FF 47 07 00 11 22; 35 00 00; 33 04 01 FF 05; \
-             35 00 00; 37; 33 08 00 01 47 08 00 33 44; 36; 33 04 01 FF 05; 35 00 00; 37",
+            "34 06 01 FF 01; 35 00 00; 33 08 01 FF 00 47 07 00 11 22; 35 00 00; 33 04 01 FF 00 05; \
+             35 00 00; 37; 33 08 00 01 00 47 08 00 33 44; 36; 33 04 01 FF 00 05; 35 00 00; 37",
         ),
         // To a group of another leader than the first.
         when_ready(
             "doubt: a node that left the group",
             2,
-            "34 06 01 80 01; 35 00 00; 34 06 02 90 01; 35 00 00; 33 05 01 80 18 01; 36; 37; \
-             33 05 01 90 18 02; 35 00 00; 37",
+            "34 06 01 80 01; 35 00 00; 34 06 02 90 01; 35 00 00; 33 05 01 80 00 18 01; 36; 37; \
+             33 05 01 90 00 18 02; 35 00 00; 37",
         ),
     ]
 }
@@ -216,13 +223,13 @@ fn ending_cases() -> Vec<Case> {
         when_ready(
             "Hard Reset closes",
             2,
-            "33 05 00 01 18 33; 35 00 00; 33 04 01 90 0F; 37; 35 02 02; 36; 33 04 00 01 0E; \
-             31 06; 30 01; 37",
+            "33 05 00 01 00 18 33; 35 00 00; 33 04 01 90 00 0F; 37; 35 02 02; 36; 33 04 00 01 00 0E; \
+             31 06; 30 01 00; 37",
         ),
         when_ready(
             "power-up drops an exchange",
             2,
-            "33 05 00 01 18 33; 35 00 00; 33 05 00 01 18 44; 30 02; 37; 35 00 00; 31 06; \
+            "33 05 00 01 00 18 33; 35 00 00; 33 05 00 01 00 18 44; 30 02 00 00; 37; 35 00 00; 31 06; \
              35 00 00",
         ),
     ]
@@ -230,12 +237,12 @@ fn ending_cases() -> Vec<Case> {
 
 // ---- Sessions handed in -----------------------------------------------
 
-fn hand_in(session: &Session) -> String {
+pub fn hand_in(session: &Session) -> String {
     hex::format(&[vec![0x38], layout::session(session)].concat())
 }
 
 /// An open session of n nodes whose walk stands so far.
-fn session(n: u8, walk: u8, exchange: Exchange) -> Session {
+pub fn session(n: u8, walk: u8, exchange: Exchange) -> Session {
     let mut session = Session::fresh(Rules::RIGHT);
     (session.open, session.n, session.walk) = (true, n, walk);
     session.exchange = exchange;
@@ -248,18 +255,18 @@ fn session(n: u8, walk: u8, exchange: Exchange) -> Session {
     session
 }
 
-fn waits(target: Target, command: Command) -> Exchange {
+pub fn waits(target: Target, command: Command) -> Exchange {
     Exchange::Waiting { target, command }
 }
 
 /// A session handed in, then lines.
-fn handed(name: &str, session: &Session, lines: &str) -> Case {
+pub fn handed(name: &str, session: &Session, lines: &str) -> Case {
     Case::new(name, [vec![hand_in(session)], story(lines)].concat())
 }
 
 pub fn handed_in_cases() -> Vec<Case> {
     let set_address = Command::SetAddress(Place::from_data(0x05, 0x03));
-    let probes = "37; 31 06; 32 04; 33 04 01 80 0E; 35 00 00; 36; 37";
+    let probes = "37; 31 06; 32 04; 33 04 01 80 00 0E; 35 00 00; 36; 37";
     let mut closed = session(2, 2, waits(Target::Node(1), Command::SetOutputs(7)));
     closed.open = false;
     vec![
@@ -282,7 +289,7 @@ pub fn handed_in_cases() -> Vec<Case> {
         handed(
             "handed in: waiting past n",
             &session(2, 2, waits(Target::Node(3), Command::SetOutputs(7))),
-            "31 06; 35 00 00; 34 06 01 80 00; 37; 30 02; 37",
+            "31 06; 35 00 00; 34 06 01 80 00; 37; 30 02 00 00; 37",
         ),
         handed(
             "handed in: another Set Address in the walk",
@@ -297,7 +304,7 @@ pub fn handed_in_cases() -> Vec<Case> {
         handed(
             "handed in: a Hard Reset that waits, confirmed",
             &session(2, 2, waits(Target::Node(2), Command::HardReset)),
-            "31 06; 35 00 00; 37; 33 04 00 01 0E; 36; 37",
+            "31 06; 35 00 00; 37; 33 04 00 01 00 0E; 36; 37",
         ),
         handed(
             "handed in: a Hard Reset to a group that waits, silent",

@@ -4,24 +4,30 @@
 use super::{own, story};
 use crate::case::{bytes, damaged, packet, Case};
 use crate::hex;
+use crate::kind::{gates, Kind};
 use crate::layout;
 use crate::recording::{Capture, Recording};
 
 /// The walk's Set Address for nodes 1 and 2.
-const FIRST: &str = "AA 00 21 01 FF 21";
-const SECOND: &str = "AA 00 21 02 FF 22";
+pub const FIRST: &str = "AA 00 21 01 FF 21";
+pub const SECOND: &str = "AA 00 21 02 FF 22";
 
 /// A Nop to node 1, and replies.
 const NOP: &str = "AA 01 0E 0F";
-const CLEAR: &str = "00 00";
+pub const CLEAR: &str = "00 00";
 const MARKED: &str = "02 02";
 
 /// Bytes that come at one time.
-type Run<'a> = (u32, &'a str);
+pub type Run<'a> = (u32, &'a str);
 
-/// `50`, the runs of both lines.
+/// `50` of gates, the runs of both lines.
 fn walk(nodes: u8, commands: &[Run], replies: &[Run]) -> String {
-    line_of(nodes, captured(commands), captured(replies))
+    walk_of(&gates(usize::from(nodes)), commands, replies)
+}
+
+/// The same of nodes of these kinds.
+pub fn walk_of(kinds: &[Kind], commands: &[Run], replies: &[Run]) -> String {
+    line_of(kinds, captured(commands), captured(replies))
 }
 
 fn captured(runs: &[Run]) -> Capture {
@@ -40,12 +46,14 @@ fn timed(nodes: u8, commands: (&str, &[u32]), replies: (&str, &[u32])) -> String
         bytes: bytes(line),
         times: times.to_vec(),
     };
-    line_of(nodes, captured(commands), captured(replies))
+    let kinds = gates(usize::from(nodes));
+    line_of(&kinds, captured(commands), captured(replies))
 }
 
-fn line_of(nodes: u8, commands: Capture, replies: Capture) -> String {
+fn line_of(kinds: &[Kind], commands: Capture, replies: Capture) -> String {
     let recording = Recording {
-        nodes,
+        nodes: kinds.len() as u8,
+        kinds: kinds.to_vec(),
         commands,
         replies,
     };
@@ -197,18 +205,20 @@ fn every_command() -> Vec<String> {
 /// "The session of `30` to `38` isn't touched."
 fn session_stays() -> Vec<String> {
     let walked = walk(1, &[], &[]);
-    story(&format!("30 02; 31 06; {walked}; 35 00 00; 37"))
+    story(&format!("30 02 00 00; 31 06; {walked}; 35 00 00; 37"))
 }
 
 /// Cut short, with more than 1024 bytes or times, with a byte too many.
 fn wrong_forms() -> Vec<String> {
     own(&[
         "50",
-        "50 01 00 00 00 00 00 00 00 00 00",
-        "50 01 01 00 AA 01 00 00 00 00",
-        "50 01 01 04 00 00 00 00 00 00",
-        "50 01 00 00 01 04 00 00 00 00",
-        "50 01 00 00 00 00 01 04 00 00",
-        "50 01 00 00 00 00 00 00 01 04",
+        "50 01 00 00 00 00 00 00 00 00",
+        "50 01 02 00 00 00 00 00 00 00 00",
+        "50 01 00 00 00 00 00 00 00 00 00 00",
+        "50 01 00 01 00 AA 01 00 00 00 00",
+        "50 01 00 01 04 00 00 00 00 00 00",
+        "50 01 00 00 00 01 04 00 00 00 00",
+        "50 01 00 00 00 00 00 01 04 00 00",
+        "50 01 00 00 00 00 00 00 00 01 04",
     ])
 }

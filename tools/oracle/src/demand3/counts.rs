@@ -1,10 +1,11 @@
-//! How often things happened, and how often a group command met what request 4
-//! is about.
+//! How often things happened, and how often a command met what requests 4 and 6
+//! are about.
 
 use crate::command::Command;
+use crate::drive::Value;
 use crate::node::Node;
-use crate::record::Setting;
 use crate::session::{Exchange, Session};
+use crate::settings::Setting;
 use crate::target::Target;
 
 #[derive(Clone, Copy, Debug, Default)]
@@ -31,7 +32,7 @@ impl std::fmt::Display for Counts {
             out,
             "demand 3 held: {} steps, {} power-ups, {} walks ended, {} commands sent, \
              {} times missed by a node, {} changed, {} replies, {} silences, {} refusals, \
-             {} settings checked, {} of them in doubt; of group commands",
+             {} settings checked, {} of them in doubt; of commands",
             self.steps,
             self.power_ups,
             self.ready,
@@ -51,7 +52,7 @@ impl std::fmt::Display for Counts {
     }
 }
 
-/// What a group command can meet.
+/// What a command can meet: one to a group, and behind those a drive's.
 #[derive(Clone, Copy, Debug, PartialEq, Eq)]
 pub enum Met {
     MemberMissed,
@@ -61,10 +62,13 @@ pub enum Met {
     DoubtfulCopy,
     DoubtInside,
     DoubtOutside,
+    DoubtfulStart,
+    DoubtfulLoadStart,
+    StartToGroup,
 }
 
 impl Met {
-    pub const ALL: [(Met, &'static str); 7] = [
+    pub const ALL: [(Met, &'static str); 10] = [
         (Met::MemberMissed, "confirmed and missed by a member"),
         (Met::LeaderMissed, "missed by the leader, heard by a member"),
         (Met::LeaderInDoubt, "answered by a leader in doubt"),
@@ -72,6 +76,15 @@ impl Met {
         (Met::DoubtfulCopy, "copying a leader's held set in doubt"),
         (Met::DoubtInside, "answered with a member in doubt"),
         (Met::DoubtOutside, "answered with another in doubt"),
+        (Met::DoubtfulStart, "starting a waiting value in doubt"),
+        (
+            Met::DoubtfulLoadStart,
+            "loading and starting another value in doubt",
+        ),
+        (
+            Met::StartToGroup,
+            "starting a group, confirmed for its leader",
+        ),
     ];
 }
 
@@ -86,17 +99,34 @@ pub struct Closing<'a> {
 }
 
 impl Closing<'_> {
-    /// All that a group command has met; nothing for a node's.
+    /// All that the command has met.
     pub fn met(&self) -> Vec<Met> {
-        let Exchange::Waiting {
-            target: Target::Group(group),
-            command,
-        } = self.host.exchange
-        else {
-            return Vec::new();
-        };
         let met = Met::ALL.into_iter().map(|(met, _)| met);
-        met.filter(|met| self.meets(*met, group, command)).collect()
+        match self.host.exchange {
+            Exchange::Idle => Vec::new(),
+            Exchange::Waiting { target, command } => met
+                .filter(|met| match target {
+                    Target::Group(group) => self.meets(*met, group, command),
+                    Target::Node(node) => self.meets_at(*met, usize::from(node - 1), command),
+                })
+                .collect(),
+        }
+    }
+
+    /// What a command to one node meets.
+    fn meets_at(&self, met: Met, index: usize, command: Command) -> bool {
+        let mut values = Value::ALL.into_iter();
+        let in_doubt = |value: &Value| !self.knows(index, Setting::Waiting(*value));
+        match (met, command) {
+            (Met::DoubtfulStart, Command::StartMotion) => {
+                self.clear && values.any(|own| in_doubt(&own))
+            }
+            (Met::DoubtfulLoadStart, Command::LoadTrajectory(load)) => {
+                let others = values.filter(|value| !load.brings(*value));
+                self.clear && load.starts() && others.into_iter().any(|own| in_doubt(&own))
+            }
+            _ => false,
+        }
     }
 
     fn meets(&self, met: Met, group: u8, command: Command) -> bool {
@@ -124,6 +154,12 @@ impl Closing<'_> {
             Met::DoubtInside => self.clear && members.any(in_doubt),
             Met::DoubtOutside => {
                 self.clear && nodes().any(|index| !inside(index) && in_doubt(index))
+            }
+            Met::StartToGroup => {
+                self.clear && known_leader.is_some() && command == Command::StartMotion
+            }
+            Met::DoubtfulStart | Met::DoubtfulLoadStart => {
+                known_leader.is_some_and(|index| self.meets_at(met, index, command))
             }
         }
     }

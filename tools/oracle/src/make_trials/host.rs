@@ -1,12 +1,14 @@
 //! The host's calls of a story: most make sense where the session stands.
 
 use super::Story;
-use crate::command::COMMAND_BYTES;
+use crate::command::{Command, COMMAND_BYTES};
+use crate::kind::Kind;
 use crate::layout;
-use crate::make_packets::{any_command, group};
-use crate::record::{Entry, Setting, ALL_KNOWN};
+use crate::make_packets::{any_command, drive_command, group, kinds, off_range_command};
+use crate::record::{all_known, Entry};
 use crate::rules::Rules;
 use crate::session::{Exchange, Session, MOST_NODES};
+use crate::settings::Setting;
 use crate::status::{seal, MARK};
 use crate::target::Target;
 
@@ -15,8 +17,8 @@ impl Story {
     pub fn host_line(&mut self) -> Vec<u8> {
         self.show = self.prng.percent(60);
         match self.prng.below(100) {
-            0..=1 => return self.hand_in(),
-            2..=9 => return self.any_call(),
+            0 => return self.hand_in(),
+            1..=9 => return self.any_call(),
             _ => {}
         }
         let session = &self.model.session;
@@ -48,7 +50,8 @@ impl Story {
             4..=9 => self.prng.between(1, MOST_NODES),
             _ => self.prng.between(1, 4),
         };
-        vec![0x30, n]
+        let kinds = kinds(&mut self.prng, usize::from(n));
+        [vec![0x30, n], layout::kinds(&kinds)].concat()
     }
 
     /// Any call at all, whether it makes sense or not.
@@ -69,20 +72,30 @@ impl Story {
     fn far_fetched_call(&mut self) -> Vec<u8> {
         let far = self.prng.pick(&[0, 32, 40, 0x7F, 0xFF]);
         let low = self.prng.between(0x00, 0x7F);
-        match self.prng.below(4) {
-            0 => vec![0x33, self.room(4), 0x00, far, 0x0E],
-            1 => vec![0x33, self.room(4), 0x01, low, 0x0E],
+        match self.prng.below(6) {
+            0 => vec![0x33, self.room(4), 0x00, far, 0x00, 0x0E],
+            1 => vec![0x33, self.room(4), 0x01, low, 0x00, 0x0E],
+            4..=5 => {
+                let target = self.prng.pick(&[Target::Node(far), Target::Group(low)]);
+                let command = match self.prng.percent(50) {
+                    true => off_range_command(&mut self.prng),
+                    false => drive_command(&mut self.prng),
+                };
+                self.order(target, command)
+            }
             2 => vec![0x34, self.room(6), far, low, 0x01],
             _ => vec![0x34, self.room(6), far, 0x80, 0x01],
         }
     }
 
-    /// Calls one byte too short or too long, or with a bad flag.
+    /// Calls one byte too short or too long, with a bad flag, or of the other family.
     fn misformed_call(&mut self) -> Vec<u8> {
-        let mut line = match self.prng.below(4) {
+        let mut line = match self.prng.below(6) {
+            4 => return self.command_of_other_family(),
+            5 => self.power_up(),
             0 => vec![0x31, self.room(6)],
             1 => vec![0x34, self.room(6), 1, 0x80, self.prng.between(2, 9)],
-            2 => vec![0x33, self.room(6), 0x00, 1, 0x21, 1, 0xFF],
+            2 => vec![0x33, self.room(6), 0x00, 1, 0x00, 0x21, 1, 0xFF],
             _ => self.command(),
         };
         if self.prng.percent(50) {
@@ -132,23 +145,83 @@ impl Story {
     }
 
     /// A command of the ready session; the Synch pair is common, Hard Reset
-    /// is rare.
+    /// is rare. Mostly one that those have who may be reached.
     fn command(&mut self) -> Vec<u8> {
-        let byte = match self.prng.below(100) {
-            0..=1 => 0x0F,
-            2..=16 => 0x05,
-            17..=31 => 0x47,
-            _ => self.prng.pick(&COMMAND_BYTES[1..10]),
+        let target = self.target();
+        let command = match self.prng.below(100) {
+            0..=1 => Command::HardReset,
+            2..=16 => {
+                let byte = self.prng.pick(&[0x12, 0x13, 0x0E]);
+                any_command(&mut self.prng, byte)
+            }
+            _ => match self.kind_meant(target) {
+                Kind::Gate => {
+                    let byte = self
+                        .prng
+                        .pick(&[0x05, 0x05, 0x47, 0x47, 0x24, 0x26, 0x18, 0x0C]);
+                    any_command(&mut self.prng, byte)
+                }
+                Kind::Drive if self.prng.percent(16) => off_range_command(&mut self.prng),
+                Kind::Drive => drive_command(&mut self.prng),
+            },
         };
-        let command = layout::command(any_command(&mut self.prng, byte));
-        let target = layout::target(self.target());
-        let room = self.room(3 + command.len());
-        [vec![0x33, room], target.to_vec(), command].concat()
+        self.order(target, command)
+    }
+
+    /// The kind of one that may be reached, most of the time.
+    fn kind_meant(&mut self, target: Target) -> Kind {
+        let nodes = usize::from(self.model.session.n.min(MOST_NODES));
+        let entries = (1..).zip(&self.model.session.entries[..nodes]);
+        let meant = entries.filter(|(node, entry)| match target {
+            Target::Node(own) => *node == own,
+            Target::Group(group) => entry.settings.place.group == group,
+        });
+        let meant: Vec<Kind> = meant.map(|(_, entry)| entry.kind()).collect();
+        match meant.is_empty() || self.prng.percent(10) {
+            true => self.prng.pick(&Kind::ALL),
+            false => self.prng.pick(&meant),
+        }
+    }
+
+    /// `33`.
+    fn order(&mut self, target: Target, command: Command) -> Vec<u8> {
+        let command = layout::command(command);
+        let room = self.room(2 + command.len());
+        [vec![0x33, room], layout::target(target).to_vec(), command].concat()
+    }
+
+    /// A command whose FAMILY isn't its own, none at all, or has it otherwise.
+    fn command_of_other_family(&mut self) -> Vec<u8> {
+        let mut line = self.command();
+        match self.prng.below(3) {
+            0 => line[4] = self.prng.between(2, 0xFF),
+            1 if line.len() > 6 => line[6] ^= 1 << self.prng.below(8),
+            _ => line[4] ^= 1,
+        }
+        line
+    }
+
+    /// A group for a node to be in, mostly one that has no other kind.
+    fn group_for(&mut self, node: u8) -> u8 {
+        let group = self.own_group();
+        let nodes = usize::from(self.model.session.n.min(MOST_NODES));
+        let entries = &self.model.session.entries;
+        let kind = entries[usize::from(node - 1)].kind();
+        let mut members = entries[..nodes]
+            .iter()
+            .filter(|entry| entry.settings.place.group == group);
+        if members.all(|entry| entry.kind() == kind) || self.prng.percent(15) {
+            return group;
+        }
+        match kind {
+            Kind::Gate => self.prng.pick(&[0x80, 0x81]),
+            Kind::Drive => self.prng.pick(&[0x90, 0x91]),
+        }
     }
 
     fn regroup(&mut self) -> Vec<u8> {
         let node = self.own_node();
-        let group = self.own_group();
+        let group = self.group_for(node);
         let leader = u8::from(self.prng.percent(50));
         vec![0x34, self.room(6), node, group, leader]
     }
@@ -204,7 +277,23 @@ impl Story {
         for _ in 0..self.prng.below(3) {
             self.twist(&mut session);
         }
-        [vec![0x38], layout::session(&session)].concat()
+        let mut line = [vec![0x38], layout::session(&session)].concat();
+        if self.prng.percent(4) {
+            self.misform_state(&mut line);
+        }
+        line
+    }
+
+    /// A KIND or a bit of `known` that is none, or a byte too few or too many. The
+    /// last entry is mostly a gate's, and ends with what is known of it.
+    fn misform_state(&mut self, line: &mut Vec<u8>) {
+        let last = line.len() - 1;
+        match self.prng.below(4) {
+            0 => line[last] |= self.prng.pick(&[0x40, 0x80]),
+            1 => line[last - 14] = self.prng.between(1, 3),
+            2 => drop(line.pop()),
+            _ => line.push(self.prng.telling_byte()),
+        }
     }
 
     /// A session that is ready, or walks, with a record of any kind.
@@ -217,18 +306,27 @@ impl Story {
         } else {
             self.prng.between(0, session.n)
         };
-        for entry in &mut session.entries[..6] {
+        let kinds = kinds(&mut self.prng, 6);
+        for (entry, kind) in session.entries.iter_mut().zip(kinds) {
             *entry = Entry {
-                settings: self.settings(),
-                known: if self.prng.percent(60) {
-                    ALL_KNOWN
-                } else {
-                    self.prng.between(0, ALL_KNOWN)
-                },
+                settings: self.settings(kind),
+                known: self.known(kind),
             };
         }
         session.exchange = self.exchange(session.n, session.walk);
         session
+    }
+
+    /// All known, or any.
+    fn known(&mut self, kind: Kind) -> u16 {
+        match self.prng.percent(60) {
+            true => all_known(kind),
+            false => self.any_known(kind),
+        }
+    }
+
+    fn any_known(&mut self, kind: Kind) -> u16 {
+        u16::from_le_bytes([self.prng.byte(), self.prng.byte()]) & all_known(kind)
     }
 
     /// An exchange, of a valid session or not.
@@ -239,22 +337,36 @@ impl Story {
             6..=8 => Target::Group(group(&mut self.prng)),
             _ => return Exchange::Idle,
         };
-        let byte = self.prng.pick(&COMMAND_BYTES);
-        let command = any_command(&mut self.prng, byte);
+        let command = match self.prng.below(10) {
+            0 => off_range_command(&mut self.prng),
+            1..=3 => drive_command(&mut self.prng),
+            _ => {
+                let byte = self.prng.pick(&COMMAND_BYTES);
+                any_command(&mut self.prng, byte)
+            }
+        };
         Exchange::Waiting { target, command }
     }
 
     /// One thing about a session changed, to sense or nonsense.
     fn twist(&mut self, session: &mut Session) {
         let index = self.prng.below(6);
-        match self.prng.below(8) {
+        let kind = session.entries[index].kind();
+        match self.prng.below(9) {
             0 => session.open = !session.open,
             1 => session.n = self.prng.pick(&[0, 1, 2, 3, 31, 32, 0xFF]),
             2 => session.walk = self.prng.pick(&[0, 1, 2, session.n, 31, 32, 0xFF]),
             3..=4 => session.exchange = self.exchange(session.n, session.walk),
-            5 => session.entries[index].known ^= Setting::Place as u8,
-            6 => session.entries[index].known = self.prng.between(0, ALL_KNOWN),
-            _ => session.entries[index].settings = self.settings(),
+            5 => session.entries[index].known ^= Setting::Place.bit(kind),
+            6 => session.entries[index].known = self.any_known(kind),
+            7 => session.entries[index].settings = self.settings(kind),
+            _ => {
+                let kind = self.prng.pick(&Kind::ALL);
+                session.entries[index] = Entry {
+                    settings: self.settings(kind),
+                    known: self.known(kind),
+                };
+            }
         }
     }
 }

@@ -2,6 +2,7 @@
 
 use super::Story;
 use crate::layout;
+use crate::make_packets::kinds;
 use crate::make_recordings::{recording, refused};
 use crate::recording::{Capture, Recording};
 use crate::trials::recordings::MOST_CAPTURED;
@@ -22,6 +23,7 @@ impl Story {
         };
         match self.prng.below(20) {
             0 => line.truncate(1 + self.prng.below(line.len() - 1)),
+            2 if line.len() > 2 => line[2] = self.prng.between(1, 3),
             1 => line.push(self.prng.telling_byte()),
             _ => {}
         }
@@ -38,8 +40,10 @@ impl Story {
             true => (long, Capture::default()),
             false => (Capture::default(), long),
         };
+        let nodes = self.prng.between(0, 2);
         Recording {
-            nodes: self.prng.between(0, 2),
+            nodes,
+            kinds: kinds(&mut self.prng, usize::from(nodes)),
             commands,
             replies,
         }

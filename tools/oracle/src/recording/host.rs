@@ -47,12 +47,12 @@ impl Host {
             false => self.fall_silent(Mistake::NextDropsWaiting),
         };
         let did = match after_sending(&self.session, bytes) {
-            Some(session) => {
-                self.session = session;
+            Some(sent) => {
+                self.session = sent.session;
                 self.last = self.session.exchange;
                 self.mistake_early_reply();
                 match self.session.is_open() {
-                    true => Did::Sent,
+                    true => Did::Sent(sent.command),
                     false => Did::Closed,
                 }
             }

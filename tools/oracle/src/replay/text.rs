@@ -1,7 +1,9 @@
-//! The text of a recording: the node count, then a run of bytes a line.
+//! The text of a recording: the node count, alone or with the kind of each node,
+//! then a run of bytes a line.
 
 use crate::bench;
 use crate::hex;
+use crate::kind::{gates, Kind};
 use crate::recording::{falls, Capture, Line, Recording};
 use crate::rules::{Mistake, Rules};
 
@@ -35,7 +37,7 @@ pub fn read(rules: Rules, text: &[u8]) -> Result<Recording, Fault> {
     }
     let lines = hex::lines(text);
     let first = lines.first().copied().unwrap_or_default();
-    let nodes = bench::count(rules, first).ok_or(Fault::NoCount)?;
+    let kinds = kinds(rules, first).ok_or(Fault::NoCount)?;
     let runs = runs(rules, lines.get(1..).unwrap_or_default())?;
     if let Some(place) = falling(rules, &runs) {
         return Err(Fault::TimeFalls(numbered(rules, place)));
@@ -44,7 +46,8 @@ pub fn read(rules: Rules, text: &[u8]) -> Result<Recording, Fault> {
         return Err(Fault::TooLong);
     }
     Ok(Recording {
-        nodes: nodes as u8,
+        nodes: kinds.len() as u8,
+        kinds,
         commands: captured(rules, &runs, Line::Command),
         replies: captured(rules, &runs, Line::Reply),
     })
@@ -58,6 +61,38 @@ fn most_text(rules: Rules) -> usize {
     } else {
         MOST_TEXT
     }
+}
+
+/// "The node count, alone (all nodes are LS-773), or with the kind of each node
+/// behind it, `gate` .. or `drive` .., single spaces."
+fn kinds(rules: Rules, line: &[u8]) -> Option<Vec<Kind>> {
+    let mut words = line.split(|byte| *byte == b' ');
+    let nodes = bench::count(rules, words.next()?)?;
+    let kinds: Vec<Kind> = words.map(|word| kind(rules, word)).collect::<Option<_>>()?;
+    match kinds.len() {
+        0 => Some(gates(nodes)),
+        _ => as_many(rules, kinds, nodes),
+    }
+}
+
+fn kind(rules: Rules, word: &[u8]) -> Option<Kind> {
+    match word {
+        b"gate" => Some(Kind::Gate),
+        b"drive" => Some(Kind::Drive),
+        b"Drive" | b"DRIVE" if rules.slips(Mistake::KindCapitalsTaken) => Some(Kind::Drive),
+        _ => None,
+    }
+}
+
+/// "Exactly as many kinds as nodes"; a mistaken reader fills them up or cuts them.
+fn as_many(rules: Rules, mut kinds: Vec<Kind>, nodes: usize) -> Option<Vec<Kind>> {
+    if rules.slips(Mistake::FewerKindsTaken) && kinds.len() < nodes {
+        kinds.resize(nodes, Kind::Gate);
+    }
+    if rules.slips(Mistake::MoreKindsTaken) {
+        kinds.truncate(nodes);
+    }
+    (kinds.len() == nodes).then_some(kinds)
 }
 
 /// The line of a run's place, from 0, behind the count's.

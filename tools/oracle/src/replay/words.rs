@@ -1,17 +1,26 @@
 //! What `replay` says of packets, of settings and of what has changed.
 
 use crate::command::{Command, Held, Place};
+use crate::drive::{Gains, Motion, Stop, Value};
 use crate::hex;
-use crate::packet;
-use crate::record::{Entry, Setting};
+use crate::kind::Kind;
+use crate::packet::{self, Packet};
+use crate::record::Entry;
 use crate::recording::Change;
 use crate::refusal::Refusal;
 use crate::rules::{Mistake, Rules};
 use crate::session::Outcome;
+use crate::settings::{DriveSettings, GateSettings, Own, Setting};
 
-/// What a command says: "its name, its data .., and whom it is for"; or why it
-/// is no packet.
-pub fn command(rules: Rules, bytes: &[u8]) -> String {
+/// What a command says that the host sends: "its name, its data .., and whom it
+/// is for".
+pub fn sent(rules: Rules, bytes: &[u8], command: Command) -> String {
+    let target = target(rules, bytes[1]);
+    format!("{}{target}", name_and_data(rules, command))
+}
+
+/// What a command says that isn't the host's; or why it is no packet.
+pub fn foreign(rules: Rules, bytes: &[u8], kinds: &[Kind]) -> String {
     let packet = match packet::read(rules, bytes) {
         Ok(packet) => packet,
         Err(refusal) => return misread(refusal).to_string(),
@@ -19,13 +28,28 @@ pub fn command(rules: Rules, bytes: &[u8]) -> String {
     if packet.end < bytes.len() && !rules.slips(Mistake::LeftOverUnsaid) {
         return "bytes left over".to_string();
     }
-    match Command::decode(packet.command_byte, packet.data) {
-        Some(command) => format!(
-            "{}{}",
-            name_and_data(rules, command),
-            target(rules, packet.address)
-        ),
+    match read(rules, &packet, kinds) {
+        Some(command) => sent(rules, bytes, command),
         None => other(rules, packet.address),
+    }
+}
+
+/// "To a node 1 to n, as that node's kind reads it; to any other address or a
+/// group, as an LS-773 reads it, or, where that gives another command, as an
+/// LS-173AP does." Values off their ranges are another command, too.
+fn read(rules: Rules, packet: &Packet, kinds: &[Kind]) -> Option<Command> {
+    let in_range =
+        |command: &Command| command.is_in_range(rules) || rules.slips(Mistake::OffRangeNamed);
+    let by = |kind: Kind| {
+        let command = Command::decode(kind, packet.command_byte, packet.data);
+        command.filter(in_range)
+    };
+    let node = usize::from(packet.address).checked_sub(1);
+    match node.and_then(|index| kinds.get(index)) {
+        Some(_) if rules.slips(Mistake::ForeignIsGates) => by(Kind::Gate),
+        Some(kind) => by(*kind),
+        None if rules.slips(Mistake::ElsewhereIsGates) => by(Kind::Gate),
+        None => by(Kind::Gate).or_else(|| by(Kind::Drive)),
     }
 }
 
@@ -46,7 +70,8 @@ fn other(rules: Rules, address: u8) -> String {
     }
 }
 
-fn name_and_data(rules: Rules, command: Command) -> String {
+/// A command's name, and its data.
+pub fn name_and_data(rules: Rules, command: Command) -> String {
     match command {
         Command::SetAddress(own) => format!("Set Address {}", place(rules, own)),
         Command::DefineStatus(mask) => format!("Define Status {mask:02X}"),
@@ -59,7 +84,63 @@ fn name_and_data(rules: Rules, command: Command) -> String {
         Command::SynchInput => "Synch Input".to_string(),
         Command::Nop => "Nop".to_string(),
         Command::HardReset => "Hard Reset".to_string(),
+        Command::ResetPosition => "Reset Position".to_string(),
+        Command::LoadTrajectory(own) => format!("Load Trajectory {}", load(rules, own)),
+        Command::StartMotion => "Start Motion".to_string(),
+        Command::SetGain(own) => format!("Set Gain {}", gains(own)),
+        Command::StopMotor(own) => format!("Stop Motor {}", stop(rules, own)),
     }
+}
+
+/// "The control byte, then each value that it loads, in that order; a value that
+/// isn't loaded isn't named."
+fn load(rules: Rules, own: Motion) -> String {
+    let brought = Value::ALL[1..].iter().filter(|value| own.brings(**value));
+    let mut words = vec![format!("{:02X}", own.control)];
+    words.extend(match rules.slips(Mistake::UnbroughtSaid) {
+        true => Value::ALL[1..]
+            .iter()
+            .map(|one| value(rules, *one, own))
+            .collect::<Vec<_>>(),
+        false => brought.map(|one| value(rules, *one, own)).collect(),
+    });
+    words.join(" ")
+}
+
+fn stop(rules: Rules, own: Stop) -> String {
+    let byte = format!("{:02X}", own.byte);
+    match own.has_position() {
+        true => format!("{byte} position {}", position(rules, own.position)),
+        false => byte,
+    }
+}
+
+fn gains(own: Gains) -> String {
+    format!(
+        "KP {:04X} KD {:04X} KI {:04X} IL {:04X} OL {:02X} EL {:04X} SR {:02X} DB {:02X}",
+        own.kp, own.kd, own.ki, own.il, own.ol, own.el, own.sr, own.db
+    )
+}
+
+/// One of the five values, its name first.
+fn value(rules: Rules, one: Value, own: Motion) -> String {
+    match one {
+        Value::Control => format!("control {:02X}", own.control),
+        Value::Position => format!("position {}", position(rules, own.position)),
+        Value::Velocity => format!("velocity {:08X}", own.velocity),
+        Value::Acceleration => format!("acceleration {:08X}", own.acceleration),
+        Value::Pwm => format!("PWM {:02X}", own.pwm),
+    }
+}
+
+/// "A position is signed: eight digits of its size, with `-` in front if it is
+/// negative."
+fn position(rules: Rules, own: i32) -> String {
+    if rules.slips(Mistake::PositionUnsigned) {
+        return format!("{own:08X}");
+    }
+    let sign = if own < 0 { "-" } else { "" };
+    format!("{sign}{:08X}", own.unsigned_abs())
 }
 
 /// "` to node 2` (its individual address in decimal), ` to address 00` for
@@ -90,12 +171,13 @@ pub fn changes(rules: Rules, change: &Change) -> String {
     let nodes: Vec<String> = (1..)
         .zip(pairs)
         .filter_map(|(node, (before, after))| {
-            let changed: Vec<String> = Setting::ALL
-                .into_iter()
-                .filter(|own| is_changed(rules, *own, before, after))
-                .map(|own| setting(rules, own, after))
+            let changed: Vec<String> = Setting::all(after.kind())
+                .iter()
+                .filter(|own| is_changed(rules, **own, before, after))
+                .map(|own| setting(rules, *own, after))
                 .collect();
-            let line = format!("node {node}: {}", changed.join(", "));
+            let drive = drive_said(after, rules.slips(Mistake::DriveSaidInChanges));
+            let line = format!("node {node}{drive}: {}", changed.join(", "));
             (!changed.is_empty()).then_some(line)
         })
         .collect();
@@ -107,36 +189,64 @@ pub fn changes(rules: Rules, change: &Change) -> String {
 
 /// Whether a setting's value is another, or its doubt.
 fn is_changed(rules: Rules, own: Setting, before: &Entry, after: &Entry) -> bool {
-    let shown = value(rules, own, before) != value(rules, own, after);
+    let shown = shown(rules, own, before) != shown(rules, own, after);
     let doubt = before.knows(own) != after.knows(own);
     shown || doubt && !rules.slips(Mistake::DoubtIsNoChange)
 }
 
-/// All six settings of a node.
-pub fn entry(rules: Rules, entry: &Entry) -> String {
-    Setting::ALL
-        .map(|own| setting(rules, own, entry))
-        .join(", ")
+/// A line of the record: all settings that a node of this kind has.
+pub fn entry(rules: Rules, node: u8, entry: &Entry) -> String {
+    let all = Setting::all(entry.kind()).iter();
+    let all: Vec<String> = all.map(|own| setting(rules, *own, entry)).collect();
+    let drive = drive_said(entry, !rules.slips(Mistake::DriveUnsaid));
+    format!("node {node}{drive}: {}", all.join(", "))
+}
+
+/// "The line of a drive begins `node 2, drive: `."
+fn drive_said(entry: &Entry, said: bool) -> &'static str {
+    match entry.kind() {
+        Kind::Drive if said => ", drive",
+        _ => "",
+    }
 }
 
 /// "Its name, its value as the record shows it, and ` in doubt` where it is."
 fn setting(rules: Rules, own: Setting, entry: &Entry) -> String {
-    let value = value(rules, own, entry);
+    let shown = shown(rules, own, entry);
     match entry.knows(own) || rules.slips(Mistake::DoubtUnsaid) {
-        true => value,
-        false => format!("{value} in doubt"),
+        true => shown,
+        false => format!("{shown} in doubt"),
     }
 }
 
-fn value(rules: Rules, own: Setting, entry: &Entry) -> String {
+fn shown(rules: Rules, own: Setting, entry: &Entry) -> String {
     let settings = &entry.settings;
+    match (own, &settings.own) {
+        (Setting::Place, _) => format!("place {}", place(rules, settings.place)),
+        (Setting::Mask, _) => format!("mask {:02X}", settings.mask),
+        (own, Own::Gate(gate)) => shown_of_gate(rules, own, gate),
+        (own, Own::Drive(drive)) => shown_of_drive(rules, own, drive),
+    }
+}
+
+fn shown_of_gate(rules: Rules, own: Setting, gate: &GateSettings) -> String {
     match own {
-        Setting::Place => format!("place {}", place(rules, settings.place)),
-        Setting::Mask => format!("mask {:02X}", settings.mask),
-        Setting::Outputs => format!("outputs {}", outputs(rules, settings.outputs)),
-        Setting::Pwm => format!("PWM {}", hex::format(&settings.pwm)),
-        Setting::Held => format!("held {}", held(rules, settings.held)),
-        Setting::TimerMode => format!("timer {:02X}", settings.timer_mode),
+        Setting::Outputs => format!("outputs {}", outputs(rules, gate.outputs)),
+        Setting::Pwm => format!("PWM {}", hex::format(&gate.pwm)),
+        Setting::Held => format!("held {}", held(rules, gate.held)),
+        _ => format!("timer {:02X}", gate.timer_mode),
+    }
+}
+
+fn shown_of_drive(rules: Rules, own: Setting, drive: &DriveSettings) -> String {
+    match own {
+        Setting::Gains => format!("gains {}", gains(drive.gains)),
+        Setting::Waiting(one) if rules.slips(Mistake::WaitingUnsaid) => {
+            value(rules, one, drive.waiting)
+        }
+        Setting::Waiting(one) => format!("waiting {}", value(rules, one, drive.waiting)),
+        Setting::InForce(one) => value(rules, one, drive.in_force),
+        _ => format!("stop {:02X}", drive.stop),
     }
 }
 

@@ -3,9 +3,11 @@
 
 use super::{walk_command, Exchange, Session, MOST_NODES};
 use crate::command::Command;
-use crate::record::{confirm_entry, doubt_entry, Setting};
+use crate::kind::Kind;
+use crate::record::{confirm_entry, doubt_entry};
 use crate::refusal::Refusal;
 use crate::rules::Mistake;
+use crate::settings::Setting;
 use crate::status::{sum_is_right, MARK, T};
 use crate::target::Target;
 
@@ -35,7 +37,7 @@ impl Session {
     /// clear if bit 1 is 0."
     pub fn judge(&self, bytes: &[u8]) -> Outcome {
         let least = 2 - usize::from(self.rules.slips(Mistake::LoneByteIsGood));
-        let most = T + 2 - usize::from(self.rules.slips(Mistake::ReplyOf16Items))
+        let most = T + 2 - usize::from(self.slips_into_16_items())
             + usize::from(self.rules.slips(Mistake::ReplyOf18Items));
         let whole = (least..=most).contains(&bytes.len());
         let right =
@@ -139,7 +141,7 @@ impl Session {
     /// "Who may be written: node k for an individual command and for the
     /// walk's Set Address that gives k; for a group, nodes known to be in it
     /// and every node whose place is in doubt."
-    fn may_be_written(&self, target: Target) -> Vec<usize> {
+    pub(super) fn may_be_written(&self, target: Target) -> Vec<usize> {
         self.nodes()
             .filter(|index| match target {
                 Target::Node(node) => *index + 1 == usize::from(node),
@@ -168,6 +170,20 @@ impl Session {
 // ---- Mistakes alone ----------------------------------------------------
 
 impl Session {
+    /// Whether 17 item bytes are one too many for a mistaken host: always, or from a
+    /// drive, whose own items add up to 16.
+    fn slips_into_16_items(&self) -> bool {
+        let drive_waits = match self.exchange {
+            Exchange::Waiting { target, .. } => {
+                let mut nodes = self.may_be_written(target).into_iter();
+                nodes.any(|index| self.entries[index].kind() == Kind::Drive)
+            }
+            Exchange::Idle => false,
+        };
+        self.rules.slips(Mistake::ReplyOf16Items)
+            || self.rules.slips(Mistake::DriveReplyOf16Items) && drive_waits
+    }
+
     /// The outcome, with the mistakes in taking it.
     fn slipped_outcome(&self, outcome: Outcome, target: Target) -> Outcome {
         match outcome {

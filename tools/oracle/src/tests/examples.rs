@@ -6,11 +6,13 @@ use crate::bench;
 use crate::cases_bench::DOCUMENT_EXAMPLE;
 use crate::command::Command;
 use crate::hex;
+use crate::kind::{gates, Kind};
 use crate::layout;
-use crate::node::{BenchValues, Node};
-use crate::record::{Entry, Setting};
+use crate::node::Node;
+use crate::record::Entry;
 use crate::rules::Rules;
 use crate::session::{Outcome, Session};
+use crate::settings::{Own, Setting};
 use crate::target::Target;
 
 #[test]
@@ -54,7 +56,7 @@ fn packets_read_with_bytes_behind() {
 /// also behind a wrong sum, and nothing changes.
 #[test]
 fn left_over_bytes_are_refused() {
-    let node = hex::format(&layout::node(&Node::powered_up(BenchValues::ZERO)));
+    let node = hex::format(&layout::node(&Node::powered_up(Rules::RIGHT, Kind::Gate)));
     for (packet, answer) in [
         ("AA 00 21 01 FF 21 00", "03 00 55 55"),
         ("AA 00 21 01 FF 22 00", "03 00 55 55"),
@@ -85,15 +87,15 @@ fn packets_built() {
 
 #[test]
 fn packets_sent() {
-    let ready = ["30 02", "31 06", "35 00 00", "31 06", "35 00 00"];
+    let ready = ["30 02 00 00", "31 06", "35 00 00", "31 06", "35 00 00"];
     let answers = answers(&ready);
     assert_eq!(answers[1], "00 AA 00 21 01 FF 21");
     assert_eq!(answers[3], "00 AA 00 21 02 FF 22");
     for (line, answer) in [
-        ("33 04 00 01 0E", "00 AA 01 0E 0F"),
-        ("33 05 00 01 13 04", "00 AA 01 13 04 18"),
-        ("33 06 00 02 26 05 00", "00 AA 02 26 05 00 2D"),
-        ("33 04 01 80 05", "00 AA 80 05 85"),
+        ("33 04 00 01 00 0E", "00 AA 01 0E 0F"),
+        ("33 05 00 01 00 13 04", "00 AA 01 13 04 18"),
+        ("33 06 00 02 00 26 05 00", "00 AA 02 26 05 00 2D"),
+        ("33 04 01 80 00 05", "00 AA 80 05 85"),
         ("34 06 02 81 01", "00 AA 02 21 02 01 26"),
     ] {
         assert_eq!(last_answer(&[&ready[..], &[line]].concat()), answer);
@@ -111,7 +113,8 @@ fn bench_paragraph() {
 fn ready(n: u8) -> Session {
     let mut session = Session::fresh(Rules::RIGHT);
     let mut buffer = [0; 19];
-    session.power_up(n).expect("1 to 31 nodes");
+    let kinds = gates(usize::from(n));
+    session.power_up(n, &kinds).expect("1 to 31 nodes");
     for _ in 0..n {
         session.next(&mut buffer).expect("next is due");
         session.report(&[0, 0]).expect("an exchange is open");
@@ -130,8 +133,16 @@ fn exchange(session: &mut Session, target: Target, command: Command, reply: &[u8
 /// The settings of a node that are in doubt.
 fn in_doubt(session: &Session, node: usize) -> Vec<Setting> {
     let entry = &session.entries[node - 1];
-    let doubtful = Setting::ALL.into_iter();
-    doubtful.filter(|setting| !entry.knows(*setting)).collect()
+    let own = Setting::all(entry.kind()).iter().copied();
+    own.filter(|setting| !entry.knows(*setting)).collect()
+}
+
+/// The outputs that are recorded of a node.
+fn outputs(session: &Session, node: usize) -> u16 {
+    match session.entries[node - 1].settings.own {
+        Own::Gate(gate) => gate.outputs,
+        Own::Drive(_) => panic!("a drive has none"),
+    }
 }
 
 #[test]
@@ -149,7 +160,7 @@ fn outputs_silent_then_sent_again() {
         &[0, 0],
     );
     assert_eq!(in_doubt(&session, 2), []);
-    assert_eq!(session.entries[1].settings.outputs, 5);
+    assert_eq!(outputs(&session, 2), 5);
 }
 
 #[test]
@@ -181,12 +192,12 @@ fn marked_reply_with_wrong_sum_is_silence() {
 #[test]
 fn synch_output_copies_a_doubtful_held_set() {
     let mut session = ready(2);
-    let held = Command::decode(0x47, &[7, 1, 0x80, 0]).expect("Set Synch Output");
+    let held = Command::decode(Kind::Gate, 0x47, &[7, 1, 0x80, 0]).expect("Set Synch Output");
     exchange(&mut session, Target::Node(2), held, &[]);
     exchange(&mut session, Target::Node(2), Command::SynchOutput, &[0, 0]);
     let expected = [Setting::Outputs, Setting::Pwm, Setting::Held];
     assert_eq!(in_doubt(&session, 2), expected);
-    assert_eq!(session.entries[1].settings.outputs, 0);
+    assert_eq!(outputs(&session, 2), 0);
 }
 
 /// A session of three nodes in which node 1 leads 0x80 and node 2 is in it.
@@ -212,15 +223,16 @@ const GROUP: Target = Target::Group(0x80);
 fn a_group_s_reply_confirms_for_its_known_leader_alone() {
     let mut session = grouped();
     for node in [1, 2] {
-        let held = Command::decode(0x47, &[7, 1, 0x80, 0x40]).expect("Set Synch Output");
+        let held =
+            Command::decode(Kind::Gate, 0x47, &[7, 1, 0x80, 0x40]).expect("Set Synch Output");
         exchange(&mut session, Target::Node(node), held, &[0, 0]);
     }
     regroup(&mut session, 3, false, &[]);
     exchange(&mut session, GROUP, Command::SynchOutput, &[0, 0]);
     assert_eq!(in_doubt(&session, 1), []);
-    assert_eq!(session.entries[0].settings.outputs, 0x0107);
+    assert_eq!(outputs(&session, 1), 0x0107);
     assert_eq!(in_doubt(&session, 2), [Setting::Outputs, Setting::Pwm]);
-    assert_eq!(session.entries[1].settings.outputs, 0);
+    assert_eq!(outputs(&session, 2), 0);
     let with_place = [Setting::Place, Setting::Outputs, Setting::Pwm];
     assert_eq!(in_doubt(&session, 3), with_place);
 }
@@ -245,7 +257,7 @@ fn a_group_s_reply_confirms_for_nobody_without_a_known_leader() {
 #[test]
 fn a_leader_copies_a_doubtful_held_set() {
     let mut session = grouped();
-    let held = Command::decode(0x47, &[7, 1, 0x80, 0x40]).expect("Set Synch Output");
+    let held = Command::decode(Kind::Gate, 0x47, &[7, 1, 0x80, 0x40]).expect("Set Synch Output");
     exchange(&mut session, GROUP, held, &[]);
     exchange(&mut session, GROUP, Command::SynchOutput, &[0, 0]);
     let expected = [Setting::Outputs, Setting::Pwm, Setting::Held];
@@ -275,7 +287,13 @@ fn a_second_leader_is_refused() {
 #[test]
 fn first_next_silent() {
     let lines = [
-        "30 02", "31 06", "36", "31 06", "32 04", "35 00 00", "31 06",
+        "30 02 00 00",
+        "31 06",
+        "36",
+        "31 06",
+        "32 04",
+        "35 00 00",
+        "31 06",
     ];
     let answers = answers(&lines);
     assert_eq!(answers[3], "09 55 55 55 55 55 55");
@@ -290,6 +308,6 @@ fn a_fresh_session_is_closed_and_known() {
     assert!(session
         .entries
         .iter()
-        .all(|entry| *entry == Entry::POWER_UP));
+        .all(|entry| *entry == Entry::power_up(Rules::RIGHT, Kind::Gate)));
     assert_eq!(last_answer(&["31 00"]), "0C");
 }

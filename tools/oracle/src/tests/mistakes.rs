@@ -6,11 +6,11 @@ use super::fingerprint;
 use crate::cases::{self, line_names};
 use crate::cases_sheets::{self, further_exports, further_imports, further_plays, Named};
 use crate::rules::{Mistake, Rules, ALL};
-use crate::{bench, cases_bench, cases_replay, cases_trials, demand3, edges, export, hex, import};
-use crate::{make_trials, play, replay, trials};
+use crate::{bench, cases_bench, cases_carousels, cases_replay, cases_trials, demand3, edges};
+use crate::{export, hex, import, make_trials, play, replay, trials};
 
 /// The seed and the steps of demand 3 that each mistake is tried on.
-const DEMAND3: (u64, usize) = (1, 12_000);
+const DEMAND3: (u64, usize) = (1, 20_000);
 
 /// Where the outputs for one input differ: how many lines, and the name of
 /// the first case among them.
@@ -71,6 +71,11 @@ fn bench_inputs() -> Vec<Tried> {
 fn trials_input() -> Tried {
     let names = line_names(&cases_trials::cases(), 5000);
     Tried::new(cases::trials(), names, trials::run)
+}
+
+fn carousels_input() -> Tried {
+    let names = line_names(&cases_carousels::cases(), 5000);
+    Tried::new(cases::carousels(), names, trials::run)
 }
 
 /// Made inputs of `trials`, whose lines have no names.
@@ -163,16 +168,17 @@ fn cell(found: &Option<(usize, String)>) -> String {
 
 /// The table of README.md.
 fn table() -> String {
-    let (bench, trials) = (bench_inputs(), trials_input());
+    let (bench, trials, carousels) = (bench_inputs(), trials_input(), carousels_input());
     let (edges, whole) = (edges_calls(), whole_inputs());
     let mut text = String::new();
     for (mistake, meaning) in ALL {
         let rules = Rules::with(*mistake);
         let in_bench = bench.iter().find_map(|tried| tried.differences(rules));
         text += &format!(
-            "| {meaning} | {} | {} | {} | {} | {} |\n",
+            "| {meaning} | {} | {} | {} | {} | {} | {} |\n",
             cell(&in_bench),
             cell(&trials.differences(rules)),
+            cell(&carousels.differences(rules)),
             cell(&edges.differences(rules)),
             cell(&whole.differences(rules)),
             if in_demand3(rules) { "yes" } else { "-" }
@@ -186,7 +192,10 @@ fn table() -> String {
 fn every_mistake_is_noticed() {
     let table = table();
     for row in table.lines() {
-        assert!(!row.ends_with("| - | - | - | - | - |"), "unnoticed: {row}");
+        assert!(
+            !row.ends_with("| - | - | - | - | - | - |"),
+            "unnoticed: {row}"
+        );
     }
     let readme = include_str!("../../README.md");
     assert!(
@@ -266,17 +275,65 @@ fn replies_are_noticed_in_deliveries() {
 /// for what a session that is kept changes.
 #[test]
 fn recordings_are_noticed_in_their_own_lines() {
-    let trials = trials_input();
-    let first = Mistake::CountsBeforeNodes as usize;
-    let last = Mistake::RecordingLeftOver as usize;
-    for (mistake, meaning) in &ALL[first..=last] {
-        let kinds = trials.kinds_differing(Rules::with(*mistake));
+    let (trials, carousels) = (trials_input(), carousels_input());
+    for (mistake, meaning) in between(Mistake::CountsBeforeNodes, Mistake::RecordingLeftOver) {
+        let rules = Rules::with(*mistake);
+        let mut kinds = trials.kinds_differing(rules);
+        kinds.extend(carousels.kinds_differing(rules));
         assert!(
             kinds.contains("50") || *mistake == Mistake::RecordingKept,
             "{meaning}"
         );
         let own = |kind: &String| kind == "50" || *mistake == Mistake::RecordingKept;
         assert!(kinds.iter().all(own), "{meaning}: {kinds:?}");
+    }
+}
+
+/// The mistakes from one to another.
+fn between(first: Mistake, last: Mistake) -> &'static [(Mistake, &'static str)] {
+    &ALL[first as usize..=last as usize]
+}
+
+/// What is wrong about drives (request 6) is noticed by the stored cases of
+/// `carousels`: at the node, about ranges at node and host, at the host, in
+/// recordings; and by made inputs.
+#[test]
+fn drives_are_noticed_in_their_own_lines() {
+    let stored = carousels_input();
+    let made = made_trials();
+    for (mistakes, own) in [
+        (
+            between(Mistake::ServoRate0AtPowerUp, Mistake::VelocityOf4Bytes),
+            &["20"][..],
+        ),
+        (
+            between(Mistake::StartsLoadedAlone, Mistake::LoadBitsDropped),
+            &["20", "37"],
+        ),
+        (
+            between(Mistake::PositionGainFree, Mistake::LowestStopTaken),
+            &["20", "33"],
+        ),
+        (
+            between(Mistake::WalkBeforeKind, Mistake::WholeChainLacks),
+            &["33"],
+        ),
+        (
+            between(Mistake::DoubtfulStarted, Mistake::DriveReplyOf16Items),
+            &["37"],
+        ),
+        (
+            between(Mistake::SharedByteIsGates, Mistake::SharedByteIsDrives),
+            &["50"],
+        ),
+    ] {
+        for (mistake, meaning) in mistakes {
+            let rules = Rules::with(*mistake);
+            let kinds = stored.kinds_differing(rules);
+            let noticed = own.iter().all(|kind| kinds.contains(*kind));
+            assert!(noticed, "{meaning}: {kinds:?}");
+            assert!(noticing(&made, rules) >= 1, "{meaning}, made");
+        }
     }
 }
 

@@ -4,9 +4,10 @@ use crate::chain::{deliver, Delivery};
 use crate::command::{Command, COMMAND_BYTES};
 use crate::demand3;
 use crate::hex;
-use crate::make_packets::{any_command, followed, packet};
+use crate::kind::Kind;
+use crate::make_packets::{any_command, drive_command, followed, off_range_command, packet};
 use crate::make_trials;
-use crate::node::{BenchValues, Node};
+use crate::node::Node;
 use crate::packet::{build, frame, read, Packet};
 use crate::prng::Prng;
 use crate::refusal::Refusal;
@@ -48,7 +49,7 @@ fn an_accepted_packet_is_the_one_we_would_build() {
     let mut prng = Prng::new(2);
     let (mut accepted, mut with_more) = (0, 0);
     for _ in 0..6000 {
-        let mut bytes = packet(&mut prng, &[Node::powered_up(BenchValues::ZERO)]);
+        let mut bytes = packet(&mut prng, &[Node::powered_up(RIGHT, Kind::Gate)]);
         if prng.percent(30) {
             bytes = followed(&mut prng, bytes);
         }
@@ -73,7 +74,7 @@ fn left_over_bytes_are_the_chains() {
     let mut prng = Prng::new(5);
     let mut left_over = 0;
     for _ in 0..6000 {
-        let mut nodes = [Node::powered_up(BenchValues::ZERO)];
+        let mut nodes = [Node::powered_up(RIGHT, Kind::Gate)];
         let start = packet(&mut prng, &nodes);
         let bytes = followed(&mut prng, start);
         let framed = frame(RIGHT, &bytes);
@@ -95,7 +96,33 @@ fn every_command_reads_back() {
         let byte = prng.pick(&COMMAND_BYTES);
         let command = any_command(&mut prng, byte);
         assert_eq!(command.byte(), byte);
-        assert_eq!(Command::decode(byte, &command.data()), Some(command));
+        let read = Command::decode(Kind::Gate, byte, &command.data());
+        assert_eq!(read, Some(command));
+    }
+}
+
+/// A drive's own commands, too, with values of their ranges and off them; a gate
+/// takes none of them for itself, but for the bytes that both read.
+#[test]
+fn every_drive_s_command_reads_back() {
+    let mut prng = Prng::new(6);
+    for turn in 0..4000 {
+        let in_range = turn % 2 == 0;
+        let command = match in_range {
+            true => drive_command(&mut prng),
+            false => off_range_command(&mut prng),
+        };
+        assert_eq!(command.is_in_range(RIGHT), in_range, "{command:?}");
+        let (byte, data) = (command.byte(), command.data());
+        assert_eq!(Command::decode(Kind::Drive, byte, &data), Some(command));
+        let by_gate = Command::decode(Kind::Gate, byte, &data);
+        assert_eq!(
+            by_gate.is_some(),
+            [0x05, 0x24].contains(&byte),
+            "{command:?}"
+        );
+        let readings = Command::readings(byte, &data);
+        assert_eq!(readings.len(), 1 + usize::from(by_gate.is_some()));
     }
 }
 
@@ -112,21 +139,26 @@ fn a_changed_byte_is_noticed() {
 
 #[test]
 fn the_items_add_up_to_t() {
-    assert_eq!(status::item_bytes(0xFF), status::T);
-    assert_eq!(status::item_bytes(0x00), 0);
+    assert_eq!(status::item_bytes(Kind::Gate, 0xFF), status::T);
+    assert_eq!(status::item_bytes(Kind::Drive, 0xFF), 16);
+    assert_eq!(status::item_bytes(Kind::Drive, 0x7F), 16);
+    for kind in Kind::ALL {
+        assert_eq!(status::item_bytes(kind, 0x00), 0);
+    }
 }
 
 #[test]
 fn a_reply_reads_under_its_mask() {
-    for mask in 0..=255 {
-        let mut nodes = [Node::powered_up(BenchValues::ZERO)];
+    let masks = (0..=255).flat_map(|mask| Kind::ALL.map(|kind| (kind, mask)));
+    for (kind, mask) in masks {
+        let mut nodes = [Node::powered_up(RIGHT, kind)];
         let mut buffer = [0; 19];
         let packet = crate::packet::whole(0x00, 0x2, &[mask]);
         let delivery = deliver(RIGHT, &mut nodes, &packet, &mut buffer);
         let Ok(Delivery::Reply(length)) = delivery else {
             panic!("one node replies: {delivery:?}");
         };
-        assert!(status::read(RIGHT, mask, &buffer[..length]).is_ok());
+        assert!(status::read(RIGHT, kind, mask, &buffer[..length]).is_ok());
     }
 }
 
@@ -190,7 +222,7 @@ fn numbers_keep_to_their_calls() {
                 Some(0x20) => &[0, 1, 2, 3, 5, 6, 13],
                 Some(0x30) => &[0, 6],
                 Some(0x31 | 0x32) => &[0, 5, 7, 9, 12],
-                Some(0x33) => &[0, 5, 6, 7, 9, 10, 12],
+                Some(0x33) => &[0, 5, 6, 7, 9, 10, 12, 17],
                 Some(0x34) => &[0, 5, 6, 7, 9, 10, 11, 12],
                 Some(0x35 | 0x36) => &[0, 8],
                 Some(0x37 | 0x38) => &[0],

@@ -1,7 +1,7 @@
 //! The program `replay`: what its document prints, the inputs with names, and
 //! made ones.
 
-use crate::cases_replay::{further, stored, ASK, LOST_REPLY};
+use crate::cases_replay::{further, stored, ASK, CAROUSEL, LOST_REPLY};
 use crate::make_replay;
 use crate::replay;
 use crate::rules::Rules;
@@ -66,6 +66,37 @@ fn an_ask() {
     assert!(!written.contains("end of the recording"));
 }
 
+/// A load whose reply is lost, and that is loaded again before it is started.
+#[test]
+fn a_carousel() {
+    let written = told(CAROUSEL.as_bytes()).expect("accepted");
+    let mut lines = written.lines();
+    for line in [
+        "100 > AA 03 17 05 1F | Stop Motor 05 to node 3 | sent",
+        "105 < 00 00 | clear | node 3: stop 05",
+        "200 > AA 03 D4 17 00 00 00 00 00 80 01 00 00 64 00 00 D3 | Load Trajectory 17 \
+         position 00000000 velocity 00018000 acceleration 00006400 to node 3 | sent",
+        "212 < 00 00 | clear | node 3: waiting control 17, waiting velocity 00018000, \
+         waiting acceleration 00006400",
+        "1500 > AA 03 54 11 00 28 00 00 90 | Load Trajectory 11 position 00002800 to node 3 | sent",
+        "1540 > AA 02 26 01 00 29 | Set Outputs 0001 to node 2 | silence before it: node 3: \
+         waiting control 17 in doubt, waiting position 00000000 in doubt; sent",
+        "1608 < 00 00 | clear | node 3: waiting control 11, waiting position 00002800",
+        "2000 > AA 03 05 08 | Start Motion to node 3 | sent",
+        "2005 < 00 00 | clear | node 3: control 11, position 00002800, velocity 00018000, \
+         acceleration 00006400",
+        "end of the recording",
+        "3 nodes, ready",
+        "node 2: place 02 group FF, mask 00, outputs 0001, PWM 00 00, held 0000 00 00, timer 00",
+        "node 3, drive: place 03 group FF, mask 00, gains KP 0000 KD 0000 KI 0000 IL 0000 OL 00 \
+         EL 0000 SR 01 DB 00, stop 05, waiting control 11, waiting position 00002800, waiting \
+         velocity 00018000, waiting acceleration 00006400, waiting PWM 00, control 11, \
+         position 00002800, velocity 00018000, acceleration 00006400, PWM 00",
+    ] {
+        assert!(lines.any(|own| own == line), "{line}");
+    }
+}
+
 /// All that can be said is said of the stored input, but for what ends the walk.
 #[test]
 fn the_stored_input_says_much() {
@@ -98,7 +129,24 @@ fn the_stored_input_says_much() {
         "in doubt; node 2:",
         "place 01 group 80 leader",
         "held 0108 33 44",
-        "\nend of the recording\n3 nodes, closed\n",
+        "Set Gain KP 0064 KD 0400 KI 0046 IL 0028 OL FA EL 0800 SR 03 DB 05 to node 4",
+        "Stop Motor 11 position -00000001 to node 4",
+        "Stop Motor 02 to node 4",
+        "Stop Motor 05 to group A0",
+        "Load Trajectory 1F position -00004E20 velocity 00018000 acceleration 00006400 PWM 40 to",
+        "Load Trajectory 88 PWM AA to node 4",
+        "Load Trajectory 80 to group 91",
+        "position -7FFFFFFF velocity 7FFFFFFF",
+        "Start Motion to group 91",
+        "Reset Position to node 4",
+        "Synch Output to group A0",
+        "Set PWM 08 01 to group A0",
+        "node 4: gains KP 0064 KD 0400",
+        "node 4: stop 11\n",
+        "| clear | node 4: control 00 in doubt, position -00004E20, velocity 00000000 in doubt, \
+         acceleration 00006400, PWM 40\n",
+        "node 4, drive: place 04 group 91 leader in doubt, mask 00 in doubt, gains",
+        "\nend of the recording\n4 nodes, closed\n",
     ] {
         assert!(written.contains(words), "{words:?}");
     }
@@ -128,14 +176,17 @@ fn replay_tells() {
     for (name, input) in further() {
         let ended = |says: &str, at: &str| format!("{says} | {ENDS}; 2 nodes, {at}");
         let expected = match name {
-            "lost-reply" | "missed-pass" | "unended" => {
+            "lost-reply" | "missed-pass" | "unended" | "kinds-of-gates" => {
                 "end of the recording; 2 nodes, ready".to_string()
             }
             "document" | "equal-times" => "end of the recording; 2 nodes, walk at 1".to_string(),
-            "count-alone" | "replies-alone" => {
+            "count-alone" | "replies-alone" | "kinds-alone" => {
                 "end of the recording; 2 nodes, walk at 0".to_string()
             }
-            "count-ended" => "end of the recording; 31 nodes, walk at 0".to_string(),
+            "count-ended" | "kinds-of-31" => {
+                "end of the recording; 31 nodes, walk at 0".to_string()
+            }
+            "carousel" => "end of the recording; 3 nodes, ready".to_string(),
             "one-node" | "last-time" | "replies-first" => {
                 "end of the recording; 1 node, ready".to_string()
             }
@@ -165,6 +216,23 @@ fn replay_tells() {
             "not-another" | "not-another-count" | "not-another-to-all" | "not-high-address" => {
                 ended("another command", "ready")
             }
+            "not-a-drive-s"
+            | "not-a-drive-s-0c"
+            | "not-a-drive-s-address"
+            | "not-a-drive-s-nibble"
+            | "not-a-drive-s-count"
+            | "not-a-drive-s-gains"
+            | "not-a-drive-s-stop"
+            | "not-a-gate-s"
+            | "not-a-group-s-range" => ended("another command", "ready"),
+            "not-a-mixed-group-s" => ended("Synch Output to group FF", "ready"),
+            "not-a-mixed-group-s-pwm" => ended("Set PWM 18 40 to group FF", "ready"),
+            "not-a-mixed-group-s-load" => {
+                ended("Load Trajectory 11 position -00004E20 to group FF", "ready")
+            }
+            "not-node-9-s" => ended("Stop Motor 10 position -7FFFFFFF to node 9", "ready"),
+            "not-node-9-s-05" => ended("Synch Output to node 9", "ready"),
+            "not-address-00-s" => ended("Reset Position to address 00", "ready"),
             "not-node-3" => ended("Nop to node 3", "ready"),
             "not-node-16" => ended("Set Outputs 1234 to node 16", "ready"),
             "not-node-127" => ended("Hard Reset to node 127", "ready"),
@@ -185,9 +253,26 @@ fn replay_tells() {
                  node 1: place 00 group FF in doubt; {ENDS}; 2 nodes, walk at 0"
             ),
             "rises-past-half" => ended("cut short", "walk at 0"),
-            "empty" | "newline-alone" | "no-count" | "bad-count-and-line" | "count-0"
-            | "count-32" | "count-02" | "count-return" => {
-                "the first line is not a node count, 1 to 31".to_string()
+            "empty"
+            | "newline-alone"
+            | "no-count"
+            | "bad-count-and-line"
+            | "count-0"
+            | "count-32"
+            | "count-02"
+            | "count-return"
+            | "kinds-fewer"
+            | "kinds-more"
+            | "kinds-in-capitals"
+            | "kinds-of-another-name"
+            | "kinds-two-spaces"
+            | "kinds-space-behind"
+            | "kinds-comma"
+            | "kinds-return"
+            | "kinds-without-count"
+            | "kinds-and-count-0" => {
+                "the first line is not a node count, 1 to 31, alone or with the kind of each node"
+                    .to_string()
             }
             "size-65537" | "size-65537-faulty" | "size-65537-no-count" => {
                 "the recording is longer than 64 KiB".to_string()

@@ -63,22 +63,29 @@ fn quoted(cell: &str) -> Vec<&str> {
 /// document prints them.
 #[test]
 fn recordings_are_replayed_as_printed() {
-    for (name, text) in [
+    for (name, first, text) in [
         (
             "lost-reply",
+            "2",
             include_str!("../../../../shows/lost-reply.txt"),
         ),
         (
             "missed-pass",
+            "2",
             include_str!("../../../../shows/missed-pass.txt"),
         ),
-        ("ask", include_str!("../../../../shows/ask.txt")),
+        ("ask", "2", include_str!("../../../../shows/ask.txt")),
+        (
+            "carousel",
+            "3 gate gate drive",
+            include_str!("../../../../shows/carousel.txt"),
+        ),
     ] {
         let mut inputs = cases_replay::further().into_iter();
         let (_, input) = inputs.find(|(own, _)| *own == name).expect("its name");
         assert_eq!(String::from_utf8_lossy(&input), text, "{name}");
         let heading = format!("## {name}.txt: ");
-        let (mut runs, mut output) = (String::from("2\n"), String::new());
+        let (mut runs, mut output) = (format!("{first}\n"), String::new());
         for row in DOCUMENT
             .lines()
             .skip_while(|line| !line.starts_with(&heading))

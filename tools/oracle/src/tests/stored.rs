@@ -4,14 +4,16 @@ use std::collections::HashSet;
 
 use super::fingerprint;
 use crate::case;
-use crate::cases::{self, LEFT_FREE, MOST_STORED};
+use crate::cases::{self, LEFT_FREE, LEFT_FREE_CAROUSELS, MOST_STORED};
 use crate::cases_bench::further_inputs;
-use crate::command::COMMAND_BYTES;
+use crate::command::{COMMAND_BYTES, DRIVE_BYTES};
 use crate::coverage::{answerable, Coverage};
 use crate::hex::{self, MOST_INPUT};
-use crate::layout::NODE_BYTES;
+use crate::kind::Kind;
+use crate::layout::node_bytes;
 use crate::manuals::{self, DOCUMENTS, PRINTED, PRINTED_STATUS};
-use crate::node::{BenchValues, Node};
+use crate::node::Node;
+use crate::rules::Rules;
 use crate::{cases_replay, cases_sheets, layout};
 use crate::{make_bench, make_play, make_replay, make_sheets, make_trials};
 
@@ -20,6 +22,7 @@ fn the_stored_inputs_fit() {
     let further: usize = further_inputs().iter().map(|(_, input)| input.len()).sum();
     assert!(cases::bench().len() + further <= MOST_STORED);
     assert!(cases::trials().len() + LEFT_FREE <= MOST_STORED);
+    assert!(cases::carousels().len() + LEFT_FREE_CAROUSELS <= MOST_STORED);
 }
 
 #[test]
@@ -34,12 +37,41 @@ fn the_stored_bench_input_covers() {
 #[test]
 fn the_stored_trials_input_covers() {
     let coverage = Coverage::of_trials(&cases::trials());
-    for number in answerable() {
+    // 17 needs drives, which `carousels` has.
+    for number in answerable().into_iter().filter(|number| *number != 17) {
         let count = coverage.numbers[usize::from(number)];
         assert!(count >= 5, "number {number}: {count}");
     }
     assert!(coverage.followed >= 25);
     assert_all_commands(&coverage, 8);
+}
+
+/// Drives: 17 and the numbers about it, all that a drive has delivered and sent,
+/// the five of its own in recordings, too.
+#[test]
+fn the_stored_carousels_input_covers() {
+    let coverage = Coverage::of_trials(&cases::carousels());
+    for (number, least) in [(0, 300), (1, 5), (3, 5), (5, 8), (6, 30), (9, 3), (10, 5)] {
+        let count = coverage.numbers[number];
+        assert!(count >= least, "number {number}: {count}");
+    }
+    for (number, least) in [(7, 3), (12, 3), (13, 1), (17, 30), (0xFF, 30)] {
+        let count = coverage.numbers[number];
+        assert!(count >= least, "number {number}: {count}");
+    }
+    for byte in DRIVE_BYTES {
+        let count = coverage.drive_commands[usize::from(byte)];
+        assert!(count >= 1, "{byte:02X}: {count}");
+    }
+    for byte in [0x21u8, 0x12, 0x13, 0x0E, 0x0F] {
+        let count = coverage.drive_commands[usize::from(byte)];
+        assert!(count >= 3, "{byte:02X}: {count}");
+    }
+    assert!(coverage.foreign >= 8, "{} ended", coverage.foreign);
+    for byte in [0x00u8, 0x24, 0x54, 0x05, 0xE6, 0x17, 0x57] {
+        let count = coverage.sent_to_drives[usize::from(byte)];
+        assert!(count >= 1, "recorded {byte:02X}");
+    }
 }
 
 /// Recordings: walked and refused by each number, ended by a command, and with
@@ -70,6 +102,7 @@ fn assert_all_commands(coverage: &Coverage, least: usize) {
 #[test]
 fn made_inputs_cover_and_fit() {
     let (mut numbers, mut walked, mut sent) = ([0; 256], [0; 256], [0; 256]);
+    let (mut drives, mut sent_to_drives) = ([0; 256], 0);
     let (mut followed, mut foreign) = (0, 0);
     for seed in 0..20 {
         let input = make_trials::make(seed, 5000);
@@ -85,6 +118,10 @@ fn made_inputs_cover_and_fit() {
         for (sum, count) in sent.iter_mut().zip(coverage.sent) {
             *sum += count;
         }
+        for (sum, count) in drives.iter_mut().zip(coverage.drive_commands) {
+            *sum += count;
+        }
+        sent_to_drives += coverage.sent_to_drives.iter().sum::<usize>();
         foreign += coverage.foreign;
         assert!(make_bench::make(seed, 9000).len() <= MOST_INPUT);
     }
@@ -94,7 +131,7 @@ fn made_inputs_cover_and_fit() {
         let count = numbers[usize::from(number)];
         assert!(count >= 30, "number {number}: {count}");
     }
-    assert!(followed >= 400, "{followed} packets with bytes behind");
+    assert!(followed >= 300, "{followed} packets with bytes behind");
     for number in [0, 6, 15, 16] {
         let count = walked[number];
         assert!(count >= 10, "recordings, number {number}: {count}");
@@ -104,6 +141,14 @@ fn made_inputs_cover_and_fit() {
         let count = sent[usize::from(byte)];
         assert!(count >= 1, "recorded {byte:02X}: {count}");
     }
+    for byte in DRIVE_BYTES {
+        let count = drives[usize::from(byte)];
+        assert!(count >= 12, "to drives {byte:02X}: {count}");
+    }
+    assert!(
+        sent_to_drives >= 20,
+        "recorded, drives' own: {sent_to_drives}"
+    );
 }
 
 /// Most lines of a made input are the host's calls, whatever else it tries.
@@ -114,7 +159,7 @@ fn made_inputs_are_mostly_the_hosts() {
         let lines = hex::lines(&input);
         let of_host = lines.iter().filter(|line| line.starts_with(b"3"));
         assert!(of_host.count() * 100 >= lines.len() * 70, "seed {seed}");
-        assert!(lines.len() >= 900, "seed {seed}: {} lines", lines.len());
+        assert!(lines.len() >= 800, "seed {seed}: {} lines", lines.len());
     }
 }
 
@@ -130,6 +175,7 @@ fn made_inputs_are_stable() {
         fingerprint(&make_replay::make(1, 300)),
         fingerprint(&cases::bench()),
         fingerprint(&cases::trials()),
+        fingerprint(&cases::carousels()),
         fingerprint(&cases_sheets::import()),
         fingerprint(&cases_sheets::export()),
         fingerprint(&cases_sheets::play()),
@@ -137,22 +183,23 @@ fn made_inputs_are_stable() {
     ];
     let expected = [
         0x3E1C_381E_B7F6_FFEC,
-        0x641B_7FDF_85EE_CAB4,
+        0x8600_6B5C_FEA4_3BDB,
         0xDF8F_A4B1_9618_979E,
         0x0EED_5718_76AB_3719,
         0xB202_D76B_1410_CCCC,
-        0xCF4A_9BC6_AD9F_7956,
+        0xD934_5977_99F8_12C9,
         0x5EF9_F4DE_D119_2409,
-        0x30BF_2A5B_8357_F342,
+        0xA6FF_95E8_9606_49C6,
+        0xD675_4FA0_932F_D20A,
         0xE8E1_26BD_0890_90B0,
         0x96CB_430D_A3BA_0619,
         0xC638_55EC_D4C2_B67A,
-        0x1291_7628_AF1A_DA36,
+        0x7555_21B4_9B3A_4380,
     ];
     assert_eq!(sums, expected, "{sums:#018X?}");
 }
 
-/// The packets that are wrong in print: where, and what reading gives.
+/// The packets that are wrong in print and don't read: where, and the number.
 const MISPRINTS: [(&str, &str, &str); 5] = [
     ("000", "Commands, Examples: Set address", "4"),
     ("000", "Managing Two Servo-Drives, #10", "4"),
@@ -161,11 +208,15 @@ const MISPRINTS: [(&str, &str, &str); 5] = [
     ("004", "Missing motor detecting example, step 3", "4"),
 ];
 
-/// Five packets are wrong in print, and all others read, to their last byte.
+/// Five packets are wrong in print and don't read; all others read, to their last
+/// byte, and one of them is wrong for a drive.
 #[test]
 fn the_manuals_misprint_five_packets() {
     let wrong = PRINTED.iter().filter(|printed| printed.wrong.is_some());
-    let found: Vec<_> = wrong
+    let (misread, read): (Vec<_>, Vec<_>) =
+        wrong.partition(|printed| manuals::reading(printed.bytes).len() == 1);
+    let found: Vec<_> = misread
+        .iter()
         .map(|printed| {
             (
                 printed.document,
@@ -178,6 +229,8 @@ fn the_manuals_misprint_five_packets() {
         found,
         MISPRINTS.map(|(document, place, number)| (document, place, number.to_string()))
     );
+    let places: Vec<_> = read.iter().map(|printed| printed.section).collect();
+    assert_eq!(places, ["Procedure FindHomePosition, line 3"]);
     let read = PRINTED.iter().filter(|printed| {
         let end = case::bytes(printed.bytes).len();
         manuals::reading(printed.bytes).ends_with(&format!(", ends at {end}"))
@@ -185,8 +238,56 @@ fn the_manuals_misprint_five_packets() {
     assert_eq!(read.count() + MISPRINTS.len(), PRINTED.len());
 }
 
+/// A drive has every packet of its manual that reads, but for the one with another
+/// count than its control byte makes and Set Home Mode, which isn't ordered.
+#[test]
+fn a_drive_reads_its_manual() {
+    let own = PRINTED.iter().filter(|printed| printed.document == "000");
+    let read: Vec<_> = own
+        .map(|printed| (printed.bytes, manuals::reading_by_drive(printed.bytes)))
+        .collect();
+    let others: Vec<&str> = read
+        .iter()
+        .filter(|(_, by_drive)| by_drive.as_deref() == Some("another command"))
+        .map(|(bytes, _)| *bytes)
+        .collect();
+    let expected = ["AA 01 94 37 25 06 01 00 58 01 00 00 51", "AA 01 19 18 32"];
+    assert_eq!(others, expected);
+    let off_range = |by_drive: &Option<String>| {
+        by_drive
+            .as_deref()
+            .is_some_and(|read| read.ends_with("off its range"))
+    };
+    assert!(!read.iter().any(|(_, by_drive)| off_range(by_drive)));
+}
+
+/// README.md's table of what a drive takes the packets of 000 for.
+#[test]
+fn the_table_of_what_a_drive_reads() {
+    let readme = include_str!("../../README.md");
+    let table = readme
+        .lines()
+        .skip_while(|line| !line.starts_with("| Printed in 000 |"))
+        .skip(2)
+        .take_while(|line| line.starts_with("| "));
+    let mut rows = 0;
+    for row in table {
+        let cells: Vec<&str> = row.split(" | ").collect();
+        let (bytes, says) = (cells[0].trim_matches(&['|', ' ', '`'][..]), cells[1]);
+        assert!(PRINTED
+            .iter()
+            .any(|own| own.document == "000" && own.bytes == bytes));
+        let read = manuals::reading_by_drive(bytes).expect("a packet that reads");
+        let said = says.trim_end_matches(" |");
+        let said = said.split_once(": ").map_or(said, |(said, _)| said);
+        assert_eq!(read, said, "{bytes}");
+        rows += 1;
+    }
+    assert_eq!(rows, 14);
+}
+
 /// Every packet that the manuals print is in the list, and in a stored case of
-/// bench and trials.
+/// bench and of trials or carousels.
 #[test]
 fn the_manuals_packets_are_counted() {
     let count = |document| {
@@ -199,7 +300,7 @@ fn the_manuals_packets_are_counted() {
     let cases = case::manual_cases("");
     let lines: usize = cases.iter().map(|case| case.lines.len()).sum();
     assert_eq!(lines, PRINTED.len());
-    let stored = cases::trials();
+    let stored = [cases::trials(), cases::carousels()].join(&b'\n');
     let stored: HashSet<&[u8]> = hex::lines(&stored).into_iter().collect();
     for printed in PRINTED {
         let line = format!("11 {}", printed.bytes);
@@ -217,7 +318,9 @@ fn the_manuals_status_packets_read() {
 }
 
 #[test]
-fn a_node_record_has_31_bytes() {
-    let node = Node::powered_up(BenchValues::ZERO);
-    assert_eq!(layout::node(&node).len(), NODE_BYTES);
+fn a_node_record_has_31_bytes_or_63() {
+    for kind in Kind::ALL {
+        let node = Node::powered_up(Rules::RIGHT, kind);
+        assert_eq!(layout::node(&node).len(), 1 + node_bytes(kind));
+    }
 }

@@ -8,10 +8,12 @@ use crate::rules::{Mistake, Rules};
 /// The most bytes, and the most times, of a capture.
 pub const MOST_CAPTURED: usize = 0x0400;
 
-/// `50 n CAPTURE CAPTURE`, the command line first; None is `FF`.
+/// `50 n KIND*n CAPTURE CAPTURE`, the command line first; None is `FF`.
 pub fn read(rules: Rules, mut line: Cursor) -> Option<Recording> {
+    let nodes = line.byte()?;
     let recording = Recording {
-        nodes: line.byte()?,
+        nodes,
+        kinds: line.kinds(nodes)?,
         commands: capture(&mut line)?,
         replies: capture(&mut line)?,
     };

@@ -6,7 +6,6 @@ use lib.Dec.{leb}
 use Rattle.wire.specs.Kind.{isGate}
 use Rattle.wire.specs.declared.kind.Kind.{Kind}
 use Rattle.wire.specs.declared.kind.Kind.the-variants.{Gate, Drive}
-use Rattle.wire.proofs.Choice.{same}
 use Rattle.command.specs.declared.Place.{Place}
 use Rattle.command.specs.declared.Motion.{Motion}
 use Rattle.command.specs.declared.Loads.{Loads}
@@ -14,7 +13,8 @@ use Rattle.command.specs.declared.Command.{Command}
 use Rattle.command.specs.declared.Command.the-variants.{SetAddress, DefineStatus, ReadStatus, SetPwm, SynchOutput, SetOutputs, SetSynchOutput, SetTimerMode, SynchInput, Nop, HardReset, ResetPosition, LoadTrajectory, StartMotion, SetGain, StopMotor}
 use Rattle.command.specs.declared.Role.{Role}
 use Rattle.command.specs.declared.Role.the-variants.{Plain, Places, Masks, Captures, Zeroes, Idles, Resets}
-use Rattle.command.specs.Role.{roleOf}
+use Rattle.command.specs.Role.{roleOf, isPlacing}
+use Rattle.command.proofs.Roles.{only-places}
 use Rattle.command.specs.Control.{loadsOf}
 use Rattle.message.specs.declared.Message.{Message}
 use Rattle.message.specs.declared.Message.the-variants.{Intact, Other, Spoilt}
@@ -28,7 +28,7 @@ use Rattle.node.specs.declared.state.Shown.{Shown}
 use Rattle.node.specs.Setting.{MotionPart, Setting, place, mask, gate, drive, DriveSetting, waiting, inForce, Value, getMotion, makeMotion, makeDrive, makeGate, get}
 use Rattle.node.specs.Effect.{Effect, keeps, stores, copies, settingsPowerUp, placePowerUp, gatePowerUp, drivePowerUp, brings, starting, effect, applied, settingsAfter, ownAfter}
 use Rattle.node.specs.Node.{powerUp, nothing, doesHeed, addressedAfter, capturedAfter, positionAfter, actAs, takeAs, takeOf, maskAfter, shownOf}
-use Rattle.node.specs.Parts.{messageRole, withDrive, gateAfter, driveAfter, loadOf, loadedOf, placeBy, maskBy}
+use Rattle.node.specs.Parts.{messageRole, withDrive, gateAfter, driveAfter, gateTake, driveTake, heededRole, loadOf, loadedOf, placeBy, maskBy, maskTake}
 use Rattle.node.proofs.Laws.{placeEffect, place-effect}
 
 -- ---- a load
@@ -159,10 +159,10 @@ module _ (c : Command) (x : Settings) (role : Role) (p : Place) (k : ℕ) (er : 
       → record { drive = d; gate = g; place = p; mask = k } ≡ settingsAfter c x
   all-after g d ed eg = λ i. record { drive = (ed ∙ drive-part c x) i; gate = (eg ∙ gate-part c x) i; place = placed i; mask = masked i }
 
-  pub gate-own : (g : GateSettings) → g ≡ gateAfter c (x .gate) → record { drive = x .drive; gate = g; place = p; mask = k } ≡ ownAfter Gate c x
+  gate-own : (g : GateSettings) → g ≡ gateAfter c (x .gate) → record { drive = x .drive; gate = g; place = p; mask = k } ≡ ownAfter Gate c x
   gate-own g eg = λ i. record { drive = x .drive; gate = (eg ∙ gate-part c x) i; place = placed i; mask = masked i }
 
-  pub drive-own : (d : DriveSettings) → d ≡ driveAfter c (x .drive) → record { drive = d; gate = x .gate; place = p; mask = k } ≡ ownAfter Drive c x
+  drive-own : (d : DriveSettings) → d ≡ driveAfter c (x .drive) → record { drive = d; gate = x .gate; place = p; mask = k } ≡ ownAfter Drive c x
   drive-own d ed = λ i. record { drive = (ed ∙ drive-part c x) i; gate = x .gate; place = placed i; mask = masked i }
 
 pub settings-up : (d : DriveSettings) (g : GateSettings) (p : Place) → d ≡ drivePowerUp → g ≡ gatePowerUp → p ≡ placePowerUp
@@ -174,15 +174,6 @@ settings-up d g p ed eg ep = rw (ed, eg, ep)
 pub node-up : (k : Kind) (b : Bench) (s : Settings) (c : Captured) → s ≡ settingsPowerUp → c ≡ nothing
     → record { settings = s; bench = b; captured = c; position = 0; addressed = false; kind = k } ≡ powerUp k b
 node-up k b s c e f = rw (e, f)
-
-module _ (c : Command) (n : Node) (role : Role) (s : Settings) (a : Bool) (er : role ≡ roleOf c) (ea : a ≡ addressedAfter role (n .addressed)) where
-  pub gate-acted : (k : Captured) → s ≡ ownAfter Gate c (n .settings) → k ≡ capturedAfter role (n .bench) (n .captured)
-      → record { settings = s; bench = n .bench; captured = k; position = n .position; addressed = a; kind = n .kind } ≡ actAs Gate c n
-  gate-acted k es ek = rw (es, ek, ea, er)
-
-  pub drive-acted : (p : ℕ) → s ≡ ownAfter Drive c (n .settings) → p ≡ positionAfter role (n .position)
-      → record { settings = s; bench = n .bench; captured = n .captured; position = p; addressed = a; kind = n .kind } ≡ actAs Drive c n
-  drive-acted p es ep = rw (es, ep, ea, er)
 
 heeds-all : (r : Role) → doesHeed Gate r ≡ true
 heeds-all Plain = refl
@@ -197,21 +188,137 @@ pub heeds-place : (k : Kind) (role : Role) (p : Place) (b : Bool) → role ≡ P
 heeds-place k role p b e h = rw (e, h)
 
 -- a packet that was matched as k
-pub told-take : (kind : Kind) (h k : Message) (n r : Node) → h ≡ k → r ≡ takeAs kind k n → r ≡ takeAs kind h n
-told-take kind h k n r e p = p ∙ sym (ap (λ (x : Message). takeAs kind x n) e)
+pub told-gate-take : (h k : Message) (x r : GateSettings) → h ≡ k → r ≡ gateTake k x → r ≡ gateTake h x
+told-gate-take h k x r e p = p ∙ sym (ap (λ (y : Message). gateTake y x) e)
 
-pub gate-takes : (h : Message) (c : Command) (n r : Node) → h ≡ Intact c → r ≡ actAs Gate c n → r ≡ takeAs Gate h n
-gate-takes h c n r e p = rw (e, heeds-all (roleOf c)) p
+pub told-drive-take : (h k : Message) (x r : DriveSettings) → h ≡ k → r ≡ driveTake k x → r ≡ driveTake h x
+told-drive-take h k x r e p = p ∙ sym (ap (λ (y : Message). driveTake y x) e)
 
-module _ (h : Message) (c : Command) (n : Node) (role : Role) (b : Bool) (e : h ≡ Intact c) (er : role ≡ roleOf c) (eb : b ≡ doesHeed Drive role) where
-  heeded : doesHeed Drive (roleOf c) ≡ b
-  heeded = ap (λ (x : Role). doesHeed Drive x) (sym er) ∙ sym eb
+pub told-mask-take : (h k : Message) (m r : ℕ) → h ≡ k → r ≡ maskTake k m → r ≡ maskTake h m
+told-mask-take h k m r e p = p ∙ sym (ap (λ (y : Message). maskTake y m) e)
 
-  pub drive-takes : (r : Node) → b ≡ true → r ≡ actAs Drive c n → r ≡ takeAs Drive h n
-  drive-takes r t p = rw (e, heeded ∙ t) p
+module _ (h : Message) (role : Role) (b : Bool) (er : role ≡ messageRole h) (eb : b ≡ doesHeed Drive role) where
+  heeding : doesHeed Drive (messageRole h) ≡ b
+  heeding = ap (λ (x : Role). doesHeed Drive x) (sym er) ∙ sym eb
 
-  pub drive-leaves : b ≡ false → n ≡ takeAs Drive h n
-  drive-leaves f = rw (e, heeded ∙ f)
+  pub heeded : b ≡ true → role ≡ heededRole h
+  heeded t = rw (heeding ∙ t) er
+
+  pub unheeded : b ≡ false → Idles ≡ heededRole h
+  unheeded f = rw (heeding ∙ f)
+
+-- as a gate takes a packet, part by part
+gate-made : (h : Message) (n : Node)
+    → record {
+      settings = record {
+        drive = n .settings .drive;
+        gate = gateTake h (n .settings .gate);
+        place = placeBy (messageRole h) (n .settings .place);
+        mask = maskTake h (n .settings .mask);
+      };
+      bench = n .bench;
+      captured = capturedAfter (messageRole h) (n .bench) (n .captured);
+      position = n .position;
+      addressed = addressedAfter (messageRole h) (n .addressed);
+      kind = n .kind;
+    }
+    ≡ takeAs Gate h n
+gate-made (Intact c) n =
+    rw (heeds-all (roleOf c))
+    (ap (λ (s : Settings). record {
+      settings = s;
+      bench = n .bench;
+      captured = capturedAfter (roleOf c) (n .bench) (n .captured);
+      position = n .position;
+      addressed = addressedAfter (roleOf c) (n .addressed);
+      kind = n .kind;
+    }) (gate-own c (n .settings) (roleOf c) _ _ refl refl refl (gateAfter c (n .settings .gate)) refl))
+gate-made Other n = refl
+gate-made Spoilt n = refl
+
+pub gate-taken : (h : Message) (n : Node) (role : Role) (g : GateSettings) (p : Place) (m : ℕ) (k : Captured) (a : Bool) → role ≡ messageRole h
+    → g ≡ gateTake h (n .settings .gate) → p ≡ placeBy role (n .settings .place) → m ≡ maskTake h (n .settings .mask) → k ≡ capturedAfter role (n .bench) (n .captured)
+    → a ≡ addressedAfter role (n .addressed)
+    → record {
+      settings = record { drive = n .settings .drive; gate = g; place = p; mask = m };
+      bench = n .bench;
+      captured = k;
+      position = n .position;
+      addressed = a;
+      kind = n .kind;
+    }
+    ≡ takeAs Gate h n
+gate-taken h n role g p m k a er eg ep em ek ea = rw (eg, ep, em, ek, ea, er) (gate-made h n)
+
+-- only a Set Address goes unheeded
+unheeded-places : (k : Kind) (r : Role) → doesHeed k r ≡ false → isPlacing r ≡ true
+unheeded-places k Plain h = absurd (true≢false h)
+unheeded-places k (Places p) h = refl
+unheeded-places k (Masks m) h = absurd (true≢false h)
+unheeded-places k Captures h = absurd (true≢false h)
+unheeded-places k Zeroes h = absurd (true≢false h)
+unheeded-places k Idles h = absurd (true≢false h)
+unheeded-places k Resets h = absurd (true≢false h)
+
+-- and changes nothing but the place
+left-alone : (c : Command) (q : Place) (n : Node) → c ≡ SetAddress q
+    → record {
+      settings = record { drive = driveAfter c (n .settings .drive); gate = n .settings .gate; place = n .settings .place; mask = maskBy c (n .settings .mask) };
+      bench = n .bench;
+      captured = n .captured;
+      position = n .position;
+      addressed = n .addressed;
+      kind = n .kind;
+    }
+    ≡ n
+left-alone c q n e = rw e
+
+-- as a drive takes it
+abbrev driving : Message → Role → Node → Node
+driving h r n = record {
+  settings = record {
+    drive = driveTake h (n .settings .drive);
+    gate = n .settings .gate;
+    place = placeBy r (n .settings .place);
+    mask = maskTake h (n .settings .mask);
+  };
+  bench = n .bench;
+  captured = n .captured;
+  position = positionAfter r (n .position);
+  addressed = addressedAfter r (n .addressed);
+  kind = n .kind;
+}
+
+drive-by : (b : Bool) (c : Command) (n : Node) → doesHeed Drive (roleOf c) ≡ b → driving (Intact c) (cond b (roleOf c) Idles) n ≡ cond b (actAs Drive c n) n
+drive-by true c n e =
+    ap (λ (s : Settings). record {
+      settings = s;
+      bench = n .bench;
+      captured = n .captured;
+      position = positionAfter (roleOf c) (n .position);
+      addressed = addressedAfter (roleOf c) (n .addressed);
+      kind = n .kind;
+    }) (drive-own c (n .settings) (roleOf c) _ _ refl refl refl (driveAfter c (n .settings .drive)) refl)
+drive-by false c n e = let p = only-places c (unheeded-places Drive (roleOf c) e) in left-alone c (p .to) n (p .by)
+
+drive-made : (h : Message) (n : Node) → driving h (heededRole h) n ≡ takeAs Drive h n
+drive-made (Intact c) n = drive-by (doesHeed Drive (roleOf c)) c n refl
+drive-made Other n = refl
+drive-made Spoilt n = refl
+
+pub drive-taken : (h : Message) (n : Node) (role : Role) (d : DriveSettings) (p : Place) (m k : ℕ) (a : Bool) → role ≡ heededRole h
+    → d ≡ driveTake h (n .settings .drive) → p ≡ placeBy role (n .settings .place) → m ≡ maskTake h (n .settings .mask) → k ≡ positionAfter role (n .position)
+    → a ≡ addressedAfter role (n .addressed)
+    → record {
+      settings = record { drive = d; gate = n .settings .gate; place = p; mask = m };
+      bench = n .bench;
+      captured = n .captured;
+      position = k;
+      addressed = a;
+      kind = n .kind;
+    }
+    ≡ takeAs Drive h n
+drive-taken h n role d p m k a er ed ep em ek ea = rw (ed, ep, em, ek, ea, er) (drive-made h n)
 
 pub by-kind : (k d : Kind) (h : Message) (n r : Node) → n .kind ≡ d → r ≡ takeAs d h n → r ≡ takeOf h n
 by-kind k d h n r e p = p ∙ sym (ap (λ (x : Kind). takeAs x h n) e)
@@ -223,88 +330,21 @@ told-captured x y b k r e h = h ∙ sym (ap (λ (z : Role). capturedAfter z b k)
 pub told-place : (x y : Role) (p r : Place) → x ≡ y → r ≡ placeBy y p → r ≡ placeBy x p
 told-place x y p r e h = h ∙ sym (ap (λ (z : Role). placeBy z p) e)
 
--- only a Set Address goes unheeded, and that changes none of what a reply shows
-module _ (k : Kind) where
-  unheeded-captured : (r : Role) (b : Bench) (x : Captured) → doesHeed k r ≡ false → capturedAfter r b x ≡ x
-  unheeded-captured Plain b x h = absurd (true≢false h)
-  unheeded-captured (Places p) b x h = refl
-  unheeded-captured (Masks m) b x h = absurd (true≢false h)
-  unheeded-captured Captures b x h = absurd (true≢false h)
-  unheeded-captured Zeroes b x h = absurd (true≢false h)
-  unheeded-captured Idles b x h = absurd (true≢false h)
-  unheeded-captured Resets b x h = absurd (true≢false h)
+mask-as : (k : Kind) (h : Message) (n : Node) → maskTake h (n .settings .mask) ≡ takeAs k h n .settings .mask
+mask-as Gate h n = ap (λ (m : Node). m .settings .mask) (gate-made h n)
+mask-as Drive h n = ap (λ (m : Node). m .settings .mask) (drive-made h n)
 
-  unheeded-position : (r : Role) (p : ℕ) → doesHeed k r ≡ false → positionAfter r p ≡ p
-  unheeded-position Plain p h = absurd (true≢false h)
-  unheeded-position (Places q) p h = refl
-  unheeded-position (Masks m) p h = absurd (true≢false h)
-  unheeded-position Captures p h = absurd (true≢false h)
-  unheeded-position Zeroes p h = absurd (true≢false h)
-  unheeded-position Idles p h = absurd (true≢false h)
-  unheeded-position Resets p h = absurd (true≢false h)
+pub mask-told : (h : Message) (n : Node) (m : ℕ) → m ≡ maskTake h (n .settings .mask) → m ≡ maskAfter h n
+mask-told h n m p = p ∙ mask-as (n .kind) h n
 
-  unheeded-mask : (c : Command) (m : ℕ) → doesHeed k (roleOf c) ≡ false → maskBy c m ≡ m
-  unheeded-mask (SetAddress p) m h = refl
-  unheeded-mask (DefineStatus n) m h = absurd (true≢false h)
-  unheeded-mask (ReadStatus n) m h = refl
-  unheeded-mask (SetPwm w) m h = refl
-  unheeded-mask SynchOutput m h = refl
-  unheeded-mask (SetOutputs w) m h = refl
-  unheeded-mask (SetSynchOutput x) m h = refl
-  unheeded-mask (SetTimerMode t) m h = refl
-  unheeded-mask SynchInput m h = refl
-  unheeded-mask Nop m h = refl
-  unheeded-mask HardReset m h = absurd (true≢false h)
-  unheeded-mask ResetPosition m h = refl
-  unheeded-mask (LoadTrajectory x) m h = refl
-  unheeded-mask StartMotion m h = refl
-  unheeded-mask (SetGain g) m h = refl
-  unheeded-mask (StopMotor x) m h = refl
+module _ (h : Message) (n : Node) (role : Role) where
+  shown-as : (k : Kind) → n .kind ≡ k → shownOf (takeAs k h n) ≡ shownOf (takeOf h n)
+  shown-as k e = sym (ap (λ (x : Kind). shownOf (takeAs x h n)) e)
 
-mask-heeded : (c : Command) (n : Node) (b : Bool) → doesHeed (n .kind) (roleOf c) ≡ b → maskBy c (n .settings .mask) ≡ cond b (actAs (n .kind) c n) n .settings .mask
-mask-heeded c n true e = mask-part c (n .settings)
-mask-heeded c n false e = unheeded-mask (n .kind) c (n .settings .mask) e
-
-pub mask-told : (h : Message) (c : Command) (n : Node) (m : ℕ) → h ≡ Intact c → m ≡ maskBy c (n .settings .mask) → m ≡ maskAfter h n
-mask-told h c n m e p = rw e (p ∙ mask-heeded c n (doesHeed (n .kind) (roleOf c)) refl)
-
--- what is shown of a node after a packet, by the packet's role
-abbrev showing : Role → Node → Shown
-showing r n = record {
-  bench = n .bench;
-  captured = cond (isGate (n .kind)) (capturedAfter r (n .bench) (n .captured)) (n .captured);
-  position = cond (isGate (n .kind)) (n .position) (positionAfter r (n .position));
-  kind = n .kind;
-}
-
-show-heeded : (c : Command) (n : Node) (b : Bool) → doesHeed (n .kind) (roleOf c) ≡ b → showing (roleOf c) n ≡ shownOf (cond b (actAs (n .kind) c n) n)
-show-heeded c n true e = refl
-show-heeded c n false e =
-    rw (
-      unheeded-captured (n .kind) (roleOf c) (n .bench) (n .captured) e,
-      unheeded-position (n .kind) (roleOf c) (n .position) e,
-      same (isGate (n .kind)) (n .captured),
-      same (isGate (n .kind)) (n .position),
-    )
-
-shows : (h : Message) (n : Node) → showing (messageRole h) n ≡ shownOf (takeOf h n)
-shows (Intact c) n = show-heeded c n (doesHeed (n .kind) (roleOf c)) refl
-shows Other n = rw (same (isGate (n .kind)) (n .captured), same (isGate (n .kind)) (n .position))
-shows Spoilt n = rw (same (isGate (n .kind)) (n .captured), same (isGate (n .kind)) (n .position))
-
-module _ (h : Message) (n : Node) (role : Role) (er : role ≡ messageRole h) where
-  gate-showing : (k : Captured) → isGate (n .kind) ≡ true → k ≡ capturedAfter role (n .bench) (n .captured)
-      → record { bench = n .bench; captured = k; position = n .position; kind = n .kind } ≡ showing (messageRole h) n
-  gate-showing k g ek = rw (g, ek, er)
-
-  pub gate-shown : (k : Captured) → n .kind ≡ Gate → k ≡ capturedAfter role (n .bench) (n .captured)
+  pub gate-shown : (k : Captured) → role ≡ messageRole h → n .kind ≡ Gate → k ≡ capturedAfter role (n .bench) (n .captured)
       → record { bench = n .bench; captured = k; position = n .position; kind = n .kind } ≡ shownOf (takeOf h n)
-  gate-shown k e ek = gate-showing k (ap (λ (x : Kind). isGate x) e) ek ∙ shows h n
+  gate-shown k er e ek = rw (ek, er) (ap (λ (m : Node). shownOf m) (gate-made h n) ∙ shown-as Gate e)
 
-  drive-showing : (p : ℕ) → isGate (n .kind) ≡ false → p ≡ positionAfter role (n .position)
-      → record { bench = n .bench; captured = n .captured; position = p; kind = n .kind } ≡ showing (messageRole h) n
-  drive-showing p g ep = rw (g, ep, er)
-
-  pub drive-shown : (p : ℕ) → n .kind ≡ Drive → p ≡ positionAfter role (n .position)
+  pub drive-shown : (p : ℕ) → role ≡ heededRole h → n .kind ≡ Drive → p ≡ positionAfter role (n .position)
       → record { bench = n .bench; captured = n .captured; position = p; kind = n .kind } ≡ shownOf (takeOf h n)
-  drive-shown p e ep = drive-showing p (ap (λ (x : Kind). isGate x) e) ep ∙ shows h n
+  drive-shown p er e ep = rw (ep, er) (ap (λ (m : Node). shownOf m) (drive-made h n) ∙ shown-as Drive e)

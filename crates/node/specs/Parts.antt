@@ -1,7 +1,7 @@
 -- Serves private contracts: the table of effects, part by part, as the code has the settings.
 use Prim.Native.Nat.{ℕ}
 use mathlib.Core.Bool.{cond}
-use Rattle.wire.specs.declared.kind.Kind.the-variants.{Gate, Drive}
+use Rattle.wire.specs.declared.kind.Kind.the-variants.{Drive}
 use Rattle.command.specs.declared.Place.{Place}
 use Rattle.command.specs.declared.Motion.{Motion}
 use Rattle.command.specs.declared.Command.{Command}
@@ -16,9 +16,8 @@ use Rattle.node.specs.declared.gate.GateSettings.{GateSettings}
 use Rattle.node.specs.declared.drive.DriveSettings.{DriveSettings}
 use Rattle.node.specs.declared.state.Settings.{Settings}
 use Rattle.node.specs.Setting.{MotionPart, getMotion, makeMotion}
-use Rattle.node.specs.declared.state.Node.{Node}
-use Rattle.node.specs.Effect.{settingsPowerUp, brings, settingsAfter, ownAfter}
-use Rattle.node.specs.Node.{actAs}
+use Rattle.node.specs.Effect.{settingsPowerUp, brings, settingsAfter}
+use Rattle.node.specs.Node.{doesHeed}
 
 -- what is no command of ours is as a Nop
 abbrev pub messageRole : Message → Role
@@ -40,18 +39,20 @@ gateAfter c g = settingsAfter c (withGate g) .gate
 abbrev pub driveAfter : Command → DriveSettings → DriveSettings
 driveAfter c d = settingsAfter c (withDrive d) .drive
 
--- all of a gate's settings after a command, and of a drive's; a node of either kind after it
-abbrev pub afterGate : Command → Settings → Settings
-afterGate c x = ownAfter Gate c x
+-- after a packet: another command and a wrong sum change nothing
+abbrev pub gateTake : Message → GateSettings → GateSettings
+gateTake (Intact c) g = gateAfter c g
+gateTake Other g = g
+gateTake Spoilt g = g
 
-abbrev pub afterDrive : Command → Settings → Settings
-afterDrive c x = ownAfter Drive c x
+abbrev pub driveTake : Message → DriveSettings → DriveSettings
+driveTake (Intact c) d = driveAfter c d
+driveTake Other d = d
+driveTake Spoilt d = d
 
-abbrev pub actGate : Command → Node → Node
-actGate c n = actAs Gate c n
-
-abbrev pub actDrive : Command → Node → Node
-actDrive c n = actAs Drive c n
+-- as a drive heeds it: what it doesn't heed is as a Nop too
+abbrev pub heededRole : Message → Role
+heededRole h = cond (doesHeed Drive (messageRole h)) (messageRole h) Idles
 
 -- a motion with what a load brings
 abbrev pub loadOf : Motion → Motion → Motion
@@ -94,3 +95,8 @@ maskBy (LoadTrajectory x) m = m
 maskBy StartMotion m = m
 maskBy (SetGain g) m = m
 maskBy (StopMotor s) m = m
+
+abbrev pub maskTake : Message → ℕ → ℕ
+maskTake (Intact c) m = maskBy c m
+maskTake Other m = m
+maskTake Spoilt m = m

@@ -3,10 +3,11 @@ use command::Command;
 use command::Gains;
 use command::Loads;
 use command::Motion;
+use message::Message;
 ghost use mathlib.Core.Path.{_≡_};
 ghost use mathlib.Core.Bool.{cond};
 ghost use Rattle.node.specs.Effect.{atRest, drivePowerUp};
-ghost use Rattle.node.specs.Parts.{loadOf, loadedOf, driveAfter};
+ghost use Rattle.node.specs.Parts.{loadOf, loadedOf, driveAfter, driveTake};
 
 // What a drive has of its own: gains, stop byte, and the motion that waits for Start Motion and the one in force.
 pub struct DriveSettings {
@@ -119,6 +120,17 @@ impl DriveSettings {
             Command::SynchInput => s,
             Command::Nop => s,
             Command::ResetPosition => s,
+        }
+    }
+
+    // After a packet: another command and a wrong sum change nothing.
+    pub(crate) fn take(self, message: Message) -> DriveSettings
+        ensures { λ r. ⌜ r ≡ driveTake message self ⌝ }
+    {
+        match message {
+            Message::Intact(c) => self.after(c),
+            Message::Other => self,
+            Message::Spoilt => self,
         }
     }
 }

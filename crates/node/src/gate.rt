@@ -2,9 +2,10 @@
 use command::Command;
 use command::Held;
 use command::Pwm;
+use message::Message;
 ghost use mathlib.Core.Path.{_≡_};
 ghost use Rattle.node.specs.Effect.{gatePowerUp};
-ghost use Rattle.node.specs.Parts.{gateAfter};
+ghost use Rattle.node.specs.Parts.{gateAfter, gateTake};
 
 // What a gate has of its own.
 pub struct GateSettings {
@@ -80,6 +81,17 @@ impl GateSettings {
             Command::StartMotion => s,
             Command::SetGain(_) => s,
             Command::StopMotor(_) => s,
+        }
+    }
+
+    // After a packet: another command and a wrong sum change nothing.
+    pub(crate) fn take(self, message: Message) -> GateSettings
+        ensures { λ r. ⌜ r ≡ gateTake message self ⌝ }
+    {
+        match message {
+            Message::Intact(c) => self.after(c),
+            Message::Other => self,
+            Message::Spoilt => self,
         }
     }
 }

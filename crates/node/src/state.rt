@@ -11,7 +11,7 @@ use wire::Kind;
 ghost use mathlib.Core.Path.{_≡_};
 ghost use Rattle.node.specs.Effect.{placePowerUp, settingsPowerUp, settingsAfter};
 ghost use Rattle.node.specs.Node.{nothing, powerUp, doesHeed, addressedAfter, capturedAfter, positionAfter, takeGate, takeDrive, takeOf, shownOf, maskAfter};
-ghost use Rattle.node.specs.Parts.{messageRole, actGate, actDrive, placeBy, maskBy, afterGate, afterDrive};
+ghost use Rattle.node.specs.Parts.{messageRole, heededRole, placeBy, maskBy, maskTake};
 
 // The settings: every node's place and mask, and what its kind has of its own. A node has no use for the other kind's, and leaves them as they are.
 pub struct Settings {
@@ -159,17 +159,27 @@ impl Node {
         }
     }
 
-    // The node after a command, as a gate takes it: a drive's part is not looked at.
-    fn act_gate(self, c: Command) -> Node
-        ensures { λ r. ⌜ r ≡ actGate c self ⌝ }
+    // The node after a packet, as a gate takes it: a drive's settings and position are not looked at.
+    // Who walks along a table asks for the kind there, and stores what this gives. It is made part by part, each by the packet,
+    // so that what every packet leaves is not copied.
+    pub fn take_gate(self, message: Message) -> Node
+        ensures { λ r. ⌜ r ≡ takeGate message self ⌝ }
     {
-        let role = c.role();
+        let role = message_role(message);
         let kind = self.kind;
         let bench = self.bench;
         let captured = self.captured;
         let settings = self.settings;
+        let drive = settings.drive;
+        let gate = settings.gate;
+        let place = settings.place;
         Node {
-            settings: settings.after_gate(c),
+            settings: Settings {
+                drive,
+                gate: gate.take(message),
+                place: place_by(role, place),
+                mask: mask_take(message, settings.mask),
+            },
             bench,
             captured: captured_after(role, bench, captured),
             position: self.position,
@@ -178,50 +188,30 @@ impl Node {
         }
     }
 
-    // As a drive takes it: a gate's part is not looked at.
-    fn act_drive(self, c: Command) -> Node
-        ensures { λ r. ⌜ r ≡ actDrive c self ⌝ }
+    // As a drive takes it: a gate's settings and captured values are not looked at.
+    pub fn take_drive(self, message: Message) -> Node
+        ensures { λ r. ⌜ r ≡ takeDrive message self ⌝ }
     {
-        let role = c.role();
+        let role = heeded_role(message);
         let kind = self.kind;
         let bench = self.bench;
         let captured = self.captured;
         let settings = self.settings;
+        let drive = settings.drive;
+        let gate = settings.gate;
+        let place = settings.place;
         Node {
-            settings: settings.after_drive(c),
+            settings: Settings {
+                drive: drive.take(message),
+                gate,
+                place: place_by(role, place),
+                mask: mask_take(message, settings.mask),
+            },
             bench,
             captured,
             position: position_after(role, self.position),
             addressed: addressed_after(role, self.addressed),
             kind,
-        }
-    }
-
-    // The node after a packet, as a gate takes it: another command and a wrong sum change nothing.
-    // Who walks along a table asks for the kind there, and stores what this gives: so the other kind's part is not copied.
-    pub fn take_gate(self, message: Message) -> Node
-        ensures { λ r. ⌜ r ≡ takeGate message self ⌝ }
-    {
-        match message {
-            Message::Intact(c) => self.act_gate(c),
-            Message::Other => self,
-            Message::Spoilt => self,
-        }
-    }
-
-    // As a drive takes it.
-    pub fn take_drive(self, message: Message) -> Node
-        ensures { λ r. ⌜ r ≡ takeDrive message self ⌝ }
-    {
-        match message {
-            Message::Intact(c) => {
-                if does_heed(Kind::Drive, c.role()) {
-                    return self.act_drive(c);
-                }
-                self
-            }
-            Message::Other => self,
-            Message::Spoilt => self,
         }
     }
 
@@ -248,6 +238,17 @@ fn message_role(message: Message) -> Role
     }
 }
 
+// As a kind of node heeds it: what it doesn't heed is as a Nop too.
+fn heeded_role(message: Message) -> Role
+    ensures { λ r. ⌜ r ≡ heededRole message ⌝ }
+{
+    let role = message_role(message);
+    if does_heed(Kind::Drive, role) {
+        return role;
+    }
+    Role::Idles
+}
+
 // The mask after a command.
 fn mask_by(c: Command, mask: u8) -> u8
     ensures { λ r. ⌜ r ≡ maskBy c mask ⌝ }
@@ -269,6 +270,17 @@ fn mask_by(c: Command, mask: u8) -> u8
         Command::StartMotion => mask,
         Command::SetGain(_) => mask,
         Command::StopMotor(_) => mask,
+    }
+}
+
+// After a packet.
+fn mask_take(message: Message, mask: u8) -> u8
+    ensures { λ r. ⌜ r ≡ maskTake message mask ⌝ }
+{
+    match message {
+        Message::Intact(c) => mask_by(c, mask),
+        Message::Other => mask,
+        Message::Spoilt => mask,
     }
 }
 
@@ -304,12 +316,7 @@ impl Node {
     pub fn mask_after(self, message: Message) -> u8
         ensures { λ r. ⌜ r ≡ maskAfter message self ⌝ }
     {
-        let held = self.settings.mask;
-        match message {
-            Message::Intact(c) => mask_by(c, held),
-            Message::Other => held,
-            Message::Spoilt => held,
-        }
+        mask_take(message, self.settings.mask)
     }
 
     // What its items are read off after a packet.
@@ -319,18 +326,17 @@ impl Node {
         let kind = self.kind;
         let bench = self.bench;
         let captured = self.captured;
-        let role = message_role(message);
         match kind {
             Kind::Gate => Shown {
                 bench,
-                captured: captured_after(role, bench, captured),
+                captured: captured_after(message_role(message), bench, captured),
                 position: self.position,
                 kind,
             },
             Kind::Drive => Shown {
                 bench,
                 captured,
-                position: position_after(role, self.position),
+                position: position_after(heeded_role(message), self.position),
                 kind,
             },
         }
@@ -360,36 +366,6 @@ impl Settings {
         Settings {
             drive: drive.after(c),
             gate: gate.after(c),
-            place: place_by(c.role(), place),
-            mask: mask_by(c, self.mask),
-        }
-    }
-
-    // A gate's, after a command.
-    fn after_gate(self, c: Command) -> Settings
-        ensures { λ r. ⌜ r ≡ afterGate c self ⌝ }
-    {
-        let drive = self.drive;
-        let gate = self.gate;
-        let place = self.place;
-        Settings {
-            drive,
-            gate: gate.after(c),
-            place: place_by(c.role(), place),
-            mask: mask_by(c, self.mask),
-        }
-    }
-
-    // A drive's, after a command.
-    fn after_drive(self, c: Command) -> Settings
-        ensures { λ r. ⌜ r ≡ afterDrive c self ⌝ }
-    {
-        let drive = self.drive;
-        let gate = self.gate;
-        let place = self.place;
-        Settings {
-            drive: drive.after(c),
-            gate,
             place: place_by(c.role(), place),
             mask: mask_by(c, self.mask),
         }

@@ -1,4 +1,4 @@
--- By the command, if there is one.
+-- As every kind takes it.
 use borrow.Author.Needs.{needs}
 use Rattle.node.proofs.Acting.{mask-told}
 use Rattle.node.proofs.state.Node.mask_after.Statement.{statement}
@@ -8,10 +8,5 @@ pub mask-after-spec : {M : Type 1} → statement M
 mask-after-spec =
     tie.close
     (tie.spec
-    (λ c. search needs)
     (λ c κs. search needs)
-    (λ c. search needs)
-    (λ c. search needs)
-    (λ c. search mask-told)
-    (λ c. search needs)
-    (λ c. search needs))
+    (λ c. search mask-told))

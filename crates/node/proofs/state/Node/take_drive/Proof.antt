@@ -1,6 +1,6 @@
--- Only an intact command that it heeds acts.
+-- Each part by the packet.
 use borrow.Author.Needs.{needs}
-use Rattle.node.proofs.Acting.{drive-takes, drive-leaves}
+use Rattle.node.proofs.Acting.{drive-taken}
 use Rattle.node.proofs.state.Node.take_drive.Statement.{statement}
 use Rattle.node.proofs.state.Node.take_drive.Tie as tie
 
@@ -8,13 +8,10 @@ pub take-drive-spec : {M : Type 1} → statement M
 take-drive-spec =
     tie.close
     (tie.spec
-    (λ c. search needs)
     (λ c κs. search needs)
     (λ c κs. search needs)
     (λ c κs. search needs)
-    (λ c. search drive-takes)
-    (λ c. search needs)
-    (λ c. search needs)
-    (λ c. search drive-leaves)
-    (λ c. search needs)
-    (λ c. search needs))
+    (λ c κs. search needs)
+    (λ c κs. search needs)
+    (λ c κs. search needs)
+    (λ c. search drive-taken))

@@ -1,6 +1,6 @@
 -- The record node by node: the entry of node i + 1 has index i. Whoever speaks of one node needs only these.
 use Prim.Native.Nat.{ℕ, zero, suc, _+_, _<_, _≤_}
-use mathlib.Core.Bool.{Bool, true, false, not, _&&_, _||_, false≢true}
+use mathlib.Core.Bool.{Bool, true, false, not, _&&_, _||_, false≢true, true≢false}
 use mathlib.Core.List.{List, [], _∷_}
 use mathlib.Core.Path.{_≡_, refl, ap, _∙_}
 use native.Mathlib.Nat.{not-suc-le-zero, le-of-suc-le-suc}
@@ -18,8 +18,11 @@ use Rattle.command.specs.declared.Command.{Command}
 use Rattle.command.specs.declared.Command.the-variants.{HardReset}
 use Rattle.command.specs.Owner.{has}
 use Rattle.status.specs.declared.Answer.{Answer}
+use Rattle.status.specs.declared.Answer.the-variants.{Clear, Marked, Silent}
 use Rattle.node.specs.Setting.{place}
 use Rattle.entry.specs.declared.Entry.{Entry}
+use Rattle.entry.specs.declared.Reach.{Reach}
+use Rattle.entry.specs.declared.Reach.the-variants.{Misses, Hits, May}
 use Rattle.entry.specs.Entry.{knows, shows, entryPowerUp, noteOf, doubtOf, Quiet}
 use Rattle.entry.proofs.Entries.{quiet-noted, kind-noted}
 use Rattle.ledger.specs.Ledger.{allGates, telling, ledgerPowerUp, ledgerLeast, reachOf, eachFrom, settling, settleOf, forgetOf, isRival, anyFrom, isLed, mayReach, doesLack, isLacked}
@@ -87,6 +90,29 @@ same-each f h j (suc n) (e ∷ es) = rw (h j e, same-each f h (suc j) n es)
 pub settled-quiet : (c : Command) → Quiet c → (a : Answer) (to : Address) (n : ℕ) (es : List Entry) → settleOf a to c n es ≡ es
 unfolding settleOf
 settled-quiet c q a to n es = same-each (settling a to c) (λ k e. quiet-noted c q a (reachOf to k e) e) 1 (ledgerLeast n) es
+
+-- and so does a command that may reach no node
+missed-noted : (a : Answer) (r : Reach) (c : Command) (e : Entry) → mayReach r ≡ false → noteOf a r c e ≡ e
+missed-noted Marked r c e h = refl
+missed-noted Clear Misses c e h = refl
+missed-noted Silent Misses c e h = refl
+missed-noted Clear Hits c e h = absurd (true≢false h)
+missed-noted Clear May c e h = absurd (true≢false h)
+missed-noted Silent Hits c e h = absurd (true≢false h)
+missed-noted Silent May c e h = absurd (true≢false h)
+
+module _ (a : Answer) (to : Address) (c : Command) where
+  same-missed : (j n : ℕ) (es : List Entry) → anyFrom (λ k e. mayReach (reachOf to k e)) j n es ≡ false → eachFrom (settling a to c) j n es ≡ es
+  unfolding eachFrom anyFrom
+  same-missed j zero es h = refl
+  same-missed j (suc n) [] h = refl
+  same-missed j (suc n) (e ∷ es) h =
+      let m = neither (mayReach (reachOf to j e)) (anyFrom (λ k e. mayReach (reachOf to k e)) (suc j) n es) h in
+      rw (missed-noted a (reachOf to j e) c e (m .0), same-missed (suc j) n es (m .1))
+
+  pub settled-unreached : (n : ℕ) (es : List Entry) → anyFrom (λ k e. mayReach (reachOf to k e)) 1 (ledgerLeast n) es ≡ false → settleOf a to c n es ≡ es
+  unfolding settleOf
+  settled-unreached n es h = same-missed 1 (ledgerLeast n) es h
 
 -- after a Hard Reset
 pub length-forgotten : (es : List Entry) → length (forgetOf es) ≡ length es

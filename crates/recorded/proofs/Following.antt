@@ -23,6 +23,7 @@ use Rattle.capture.specs.Traces.{Traced, commanded, replied, tracedOf}
 use Rattle.recording.specs.Recording.{quietOf, followOf}
 use Rattle.recording.specs.declared.Ending.the-variants.{Ended, Foreign}
 use Rattle.recording.specs.declared.Replayed.{Replayed}
+use Rattle.recording.proofs.Alike.{alike-follows}
 
 -- ---- reports
 
@@ -97,4 +98,4 @@ found-by x c y z e = rw e
 pub call-leads : (s h : Session) (c : Call) (p : List ℕ) (g : Gives h c p) → quietOf s ≡ h → Leads s (commanded p ∷ []) (sessionAfter g)
 call-leads s h c p g e =
     let a = found-again h c p g in
-    record { then = λ ps. rw e (found-by (findOf h p .source) (a .call) _ _ (a .found) ∙ ap (λ (t : Session). followOf t ps) (a .session)) }
+    record { then = λ ps. rw e (found-by (findOf h p .source) (a .call) _ _ (a .found) ∙ alike-follows (a .session) ps) }

@@ -51,15 +51,15 @@ reply-full (some (b ∷ bs)) = (omega arith, tt)
 
 trace-full : {w : World} (c : Comes w) → NoneEmpty (trace c)
 trace-full (start ns) = tt
-trace-full (power c bs e) = tt
-trace-full (unpowered c n why e) = trace-full c
+trace-full (power c ds ks t e) = tt
+trace-full (unpowered c n ks why e) = trace-full c
 trace-full (call {w = w} c k typed out) = both-full (trace c) _ (trace-full c) (call-full k (w .host) out (callPerform k (w .host) out .answer .end) refl)
 trace-full (deliver c what p e q r a b) = both-full (trace c) (replyTrace r) (trace-full c) (reply-full r)
 trace-full (report c what r e) = trace-full c
 trace-full (hurry c what p e r n) = trace-full c
 trace-full (delay c p e q a) = trace-full c
 trace-full (stray c r why e) = trace-full c
-trace-full (bench c i b) = trace-full c
+trace-full (bench c i b p) = trace-full c
 
 pub recordable : Recordable
 recordable w c = can-be-laid (trace c) (trace-full c)

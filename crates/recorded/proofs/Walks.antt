@@ -5,6 +5,7 @@ use mathlib.Core.List.{List, [], _∷_, _++_}
 use mathlib.Core.Option.{Option, none, some}
 use mathlib.Core.Path.{_≡_, refl, sym, ap, subst, _∙_}
 use lib.ListN.{length, take}
+use Rattle.wire.specs.declared.kind.Kind.{Kind}
 use Rattle.status.specs.Status.{judgeOf}
 use Rattle.status.specs.declared.Answer.the-variants.{Silent}
 use Rattle.survey.specs.Chain.{silence}
@@ -35,7 +36,7 @@ use Rattle.line.specs.Demand3.{Kept}
 use Rattle.line.proofs.Demand3.{demand3}
 use Rattle.line.proofs.Powering.{freshAt, accepted-power}
 use Rattle.line.proofs.Refusing.{refused-power, refused-call, refused-report}
-use Rattle.recorded.specs.Trace.{callTrace, replyTrace, trace, told}
+use Rattle.recorded.specs.Trace.{callTrace, replyTrace, trace, told, toldKinds}
 use Rattle.recorded.specs.Walks.{Walks, Replays, OwnRecord, RecordKept}
 use Rattle.recorded.proofs.Following.{idle-finishes, idle-quiet, idle-reports, finished-quiet, Leads, leads-on, leads-nowhere, leads-end, call-leads}
 
@@ -64,9 +65,9 @@ Stands s h (going what p) = (s ≡ h) × (Free h → ⊥)
 Stands s h (coming what r) = (s ≡ heard h r) × (Free h → ⊥)
 Stands s h (lingering p) = quietOf s ≡ h
 
-record Follows (n : ℕ) (xs : List Traced) (h : Session) (l : Line) : Type 0 where
+record Follows (n : ℕ) (ks : List Kind) (xs : List Traced) (h : Session) (l : Line) : Type 0 where
   session : Session
-  leads : Leads (powerOf n) xs session
+  leads : Leads (powerOf n ks) xs session
   stands : Stands session h l
 
 -- where a call sends, or no exchange is open, silence leads on to the host's session
@@ -90,8 +91,8 @@ nothing-heard : {r : Option (List ℕ)} → Nothing r → (s : Session) → hear
 nothing-heard absent s = refl
 nothing-heard empty s = refl
 
-module _ {n : ℕ} {xs : List Traced} (w : World) (f : Follows n xs (w .host) (w .line)) (k : Call) (typed : TypedCall k) (out : List ℕ) where
-  call-follows : Follows n (xs ++ callTrace (callPerform k (w .host) out .answer .end) (callPerform k (w .host) out .left)) (callMade k out w .host) (callMade k out w .line)
+module _ {n : ℕ} {ks : List Kind} {xs : List Traced} (w : World) (f : Follows n ks xs (w .host) (w .line)) (k : Call) (typed : TypedCall k) (out : List ℕ) where
+  call-follows : Follows n ks (xs ++ callTrace (callPerform k (w .host) out .answer .end) (callPerform k (w .host) out .left)) (callMade k out w .host) (callMade k out w .line)
   call-follows = go (callPerform k (w .host) out .answer .end) refl
     where
       t : Session
@@ -100,7 +101,7 @@ module _ {n : ℕ} {xs : List Traced} (w : World) (f : Follows n xs (w .host) (w
       left : List ℕ
       left = callPerform k (w .host) out .left
 
-      go : (e : End) → callPerform k (w .host) out .answer .end ≡ e → Follows n (xs ++ callTrace e left) (callEnded e k t left w .host) (callEnded e k t left w .line)
+      go : (e : End) → callPerform k (w .host) out .answer .end ≡ e → Follows n ks (xs ++ callTrace e left) (callEnded e k t left w .host) (callEnded e k t left w .line)
       go (ends.Sent m) e = record {
         session = t;
         leads = leads-on (f .leads)
@@ -112,20 +113,20 @@ module _ {n : ℕ} {xs : List Traced} (w : World) (f : Follows n xs (w .host) (w
       go (ends.Refused why) e = rw (refused-call k (w .host) out why e) (record { session = f .session; leads = leads-on (f .leads) leads-nowhere; stands = f .stands })
 
 -- "the recording begins at power-up", and before any there is none
-never-powered : quietOf (powerOf 0) ≡ freshOf
+never-powered : quietOf (powerOf 0 []) ≡ freshOf
 unfolding powerOf
-never-powered = ap (λ (t : Step). quietOf (t .session)) (powered-none freshOf) ∙ idle-quiet freshOf refl
+never-powered = ap (λ (t : Step). quietOf (t .session)) (powered-none freshOf []) ∙ idle-quiet freshOf refl
 
-powered-follows : (h : Session) (n : ℕ) → startPowerUp h n .end ≡ ends.Done → quietOf (powerOf n) ≡ startPowerUp h n .session
+powered-follows : (h : Session) (n : ℕ) (ks : List Kind) → startPowerUp h n ks .end ≡ ends.Done → quietOf (powerOf n ks) ≡ startPowerUp h n ks .session
 unfolding powerOf
-powered-follows h n e =
-    let p = accepted-power h n e in
-    ap (λ (t : Step). quietOf (t .session)) (powered-good freshOf n (p .some) (p .few)) ∙ idle-quiet (freshAt n) refl ∙ sym (p .session)
+powered-follows h n ks e =
+    let p = accepted-power h n ks e in
+    ap (λ (t : Step). quietOf (t .session)) (powered-good freshOf n ks (p .some) (p .few)) ∙ idle-quiet (freshAt n ks) refl ∙ sym (p .session)
 
-follows : {w : World} (c : Comes w) → Follows (told c) (trace c) (w .host) (w .line)
-follows (start ns) = record { session = powerOf 0; leads = leads-nowhere; stands = never-powered }
-follows (power {w = w} c bs e) = record { session = powerOf (length bs); leads = leads-nowhere; stands = powered-follows (w .host) (length bs) e }
-follows (unpowered {w = w} c n why e) = rw (refused-power (w .host) n why e) (follows c)
+follows : {w : World} (c : Comes w) → Follows (told c) (toldKinds c) (trace c) (w .host) (w .line)
+follows (start ns) = record { session = powerOf 0 []; leads = leads-nowhere; stands = never-powered }
+follows (power {w = w} c ds ks t e) = record { session = powerOf (length ds) ks; leads = leads-nowhere; stands = powered-follows (w .host) (length ds) ks e }
+follows (unpowered {w = w} c n ks why e) = rw (refused-power (w .host) n ks why e) (follows c)
 follows (call {w = w} c k typed out) = call-follows w (follows c) k typed out
 follows (deliver {w = w} c what p e q r a b) =
     let f = follows c in
@@ -143,7 +144,7 @@ follows (delay {w = w} c p e q a) =
     let f = follows c in
     record { session = f .session; leads = f .leads; stands = subst (Stands (f .session) (w .host)) e (f .stands) }
 follows (stray {w = w} c r why e) = rw (refused-report (w .host) r why e) (follows c)
-follows (bench c i b) = follows c
+follows (bench c i b p) = follows c
 
 pub walks : Walks
 walks w c e ps same =
@@ -157,23 +158,23 @@ replays w c e cs cts rs rts good same = rw good (walks w c e (leftAt cs cts rs r
 -- no power-up with more than 31 nodes is accepted
 told-few : {w : World} (c : Comes w) → told c ≤ 31
 told-few (start ns) = omega arith
-told-few (power {w = w} c bs e) = accepted-power (w .host) (length bs) e .few
-told-few (unpowered c n why e) = told-few c
+told-few (power {w = w} c ds ks t e) = accepted-power (w .host) (length ds) ks e .few
+told-few (unpowered c n ks why e) = told-few c
 told-few (call c k typed out) = told-few c
 told-few (deliver c what p e q r a b) = told-few c
 told-few (report c what r e) = told-few c
 told-few (hurry c what p e r n) = told-few c
 told-few (delay c p e q a) = told-few c
 told-few (stray c r why e) = told-few c
-told-few (bench c i b) = told-few c
+told-few (bench c i b p) = told-few c
 
-good-check : (n : ℕ) (cs cts rs rts : List ℕ) → 1 ≤ n → n ≤ 31 → checkOf cs cts rs rts ≡ Good → recordingCheck n cs cts rs rts ≡ Good
+good-check : (n : ℕ) (ks : List Kind) (cs cts rs rts : List ℕ) → 1 ≤ n → n ≤ 31 → checkOf cs cts rs rts ≡ Good → recordingCheck n ks cs cts rs rts ≡ Good
 unfolding recordingCheck
-good-check n cs cts rs rts p q e = rw (powered-good freshOf n p q) e
+good-check n ks cs cts rs rts p q e = rw (powered-good freshOf n ks p q) e
 
 pub own-record : OwnRecord
 own-record w c e least cs cts rs rts l =
-    replays w c e cs cts rs rts (good-check (told c) cs cts rs rts least (told-few c) (laid-good l)) (laid-packets l)
+    replays w c e cs cts rs rts (good-check (told c) (toldKinds c) cs cts rs rts least (told-few c) (laid-good l)) (laid-packets l)
 
 pub record-kept : RecordKept
 record-kept w c up e least cs cts rs rts l =

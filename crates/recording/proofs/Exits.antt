@@ -6,6 +6,7 @@ use mathlib.Core.Path.{_≡_, sym, ap, _∙_}
 use lib.ListN.{length}
 use denote.Ref.{RefT, now}
 use Rattle.wire.specs.Promise.{Promise, promised}
+use Rattle.wire.specs.declared.kind.Kind.{Kind}
 use Rattle.wire.specs.declared.refusal.Refusal.{Refusal}
 use Rattle.session.specs.declared.Session.{Session}
 use Rattle.session.specs.declared.Step.{Step}
@@ -42,16 +43,16 @@ use Rattle.recording.specs.Stages.{moveTo, takeCommand, takeReply, takeE
 pub count-refused : (e : End) (why : Refusal) → e ≡ end.Refused why → Refused why ≡ countCheck e
 count-refused e why h = rw h
 
-pub powered : (n : ℕ) (f : Session) (r : Step) → f ≡ freshOf → Promise stepNumber r (startPowerUp f n) → r .session ≡ powerOf n
+pub powered : (n : ℕ) (ks : List Kind) (f : Session) (r : Step) → f ≡ freshOf → Promise stepNumber r (startPowerUp f n ks) → r .session ≡ powerOf n ks
 unfolding powerOf
-powered n f r e h = rw (h .answer, e)
+powered n ks f r e h = rw (h .answer, e)
 
-module _ (n : ℕ) (cs cts rs rts : List ℕ) (f : Session) (r : Step) (t : Checked) (e : f ≡ freshOf) (h : Promise stepNumber r (startPowerUp f n)) (g : t ≡ countCheck (r .end)) where
-  pub checked-on : (x : Checked) → t ≡ Good → Promise checkedNumber x (checkOf cs cts rs rts) → Promise checkedNumber x (recordingCheck n cs cts rs rts)
+module _ (n : ℕ) (ks : List Kind) (cs cts rs rts : List ℕ) (f : Session) (r : Step) (t : Checked) (e : f ≡ freshOf) (h : Promise stepNumber r (startPowerUp f n ks)) (g : t ≡ countCheck (r .end)) where
+  pub checked-on : (x : Checked) → t ≡ Good → Promise checkedNumber x (checkOf cs cts rs rts) → Promise checkedNumber x (recordingCheck n ks cs cts rs rts)
   unfolding recordingCheck
   checked-on x i j = promised (rw (← e, ← (h .answer), ← g, i) (j .answer))
 
-  pub checked-off : (why : Refusal) → t ≡ Refused why → Promise checkedNumber (Refused why) (recordingCheck n cs cts rs rts)
+  pub checked-off : (why : Refusal) → t ≡ Refused why → Promise checkedNumber (Refused why) (recordingCheck n ks cs cts rs rts)
   unfolding recordingCheck
   checked-off why i = promised (rw (← e, ← (h .answer), ← g, i))
 
@@ -110,29 +111,29 @@ module _ (c r : RefT (List ℕ)) (cts rts : List ℕ) (g : Stage) (x : RefT (Lis
 
 -- ---- begin and replay
 
-module _ (n : ℕ) (cs cts rs rts : List ℕ) (t : Checked) (h : Promise checkedNumber t (recordingCheck n cs cts rs rts)) where
-  pub began : (s : Session) (b : Begun) → t ≡ Good → s ≡ powerOf n → b ≡ beginAt Good false s → Promise begunNumber b (beginOf n cs cts rs rts)
+module _ (n : ℕ) (ks : List Kind) (cs cts rs rts : List ℕ) (t : Checked) (h : Promise checkedNumber t (recordingCheck n ks cs cts rs rts)) where
+  pub began : (s : Session) (b : Begun) → t ≡ Good → s ≡ powerOf n ks → b ≡ beginAt Good false s → Promise begunNumber b (beginOf n ks cs cts rs rts)
   unfolding beginOf
   began s b e f g = promised (rw (← (h .answer), e, ← f) g)
 
-  pub began-not : (why : Refusal) (s : Session) (b : Begun) → t ≡ Refused why → s ≡ freshOf → b ≡ beginAt (Refused why) true s → Promise begunNumber b (beginOf n cs cts rs rts)
+  pub began-not : (why : Refusal) (s : Session) (b : Begun) → t ≡ Refused why → s ≡ freshOf → b ≡ beginAt (Refused why) true s → Promise begunNumber b (beginOf n ks cs cts rs rts)
   unfolding beginOf
   began-not why s b e f g = promised (rw (← (h .answer), e, ← f) g)
 
-  pub replayed : (s : Session) (r : Replayed) → t ≡ Good → s ≡ powerOf n → r ≡ followOf s (leftAt cs cts rs rts outset) → Promise replayedNumber r (replayOf n cs cts rs rts)
+  pub replayed : (s : Session) (r : Replayed) → t ≡ Good → s ≡ powerOf n ks → r ≡ followOf s (leftAt cs cts rs rts outset) → Promise replayedNumber r (replayOf n ks cs cts rs rts)
   unfolding replayOf
   replayed s r e f g = promised (rw (← (h .answer), e, ← f) g)
 
   pub replayed-not : (why : Refusal) (s : Session) → t ≡ Refused why → s ≡ freshOf
-      → Promise replayedNumber (record { ending = ending.Refused why; session = s }) (replayOf n cs cts rs rts)
+      → Promise replayedNumber (record { ending = ending.Refused why; session = s }) (replayOf n ks cs cts rs rts)
   unfolding replayOf
   replayed-not why s e f = promised (rw (← (h .answer), e, f))
 
 -- ---- what the walk counts on, once the checks are passed
 
-module _ (n : ℕ) (cs cts rs rts : List ℕ) (t : Checked) (h : Promise checkedNumber t (recordingCheck n cs cts rs rts)) where
+module _ (n : ℕ) (ks : List Kind) (cs cts rs rts : List ℕ) (t : Checked) (h : Promise checkedNumber t (recordingCheck n ks cs cts rs rts)) where
   pub even-command : t ≡ Good → length cts ≡ length cs
-  even-command e = good-sound n cs cts rs rts (sym (h .answer) ∙ e) .command-number
+  even-command e = good-sound n ks cs cts rs rts (sym (h .answer) ∙ e) .command-number
 
   pub even-reply : t ≡ Good → length rts ≡ length rs
-  even-reply e = good-sound n cs cts rs rts (sym (h .answer) ∙ e) .reply-number
+  even-reply e = good-sound n ks cs cts rs rts (sym (h .answer) ∙ e) .reply-number

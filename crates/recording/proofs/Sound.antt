@@ -3,6 +3,7 @@ use Prim.Native.Nat.{ℕ}
 use mathlib.Core.List.{List}
 use mathlib.Core.Path.{_≡_}
 use Rattle.wire.proofs.Impossible.{impossible}
+use Rattle.wire.specs.declared.kind.Kind.{Kind}
 use Rattle.start.specs.Start.{freshOf, startPowerUp}
 use Rattle.capture.specs.Checks.{checkOf}
 use Rattle.capture.specs.declared.Checked.{Checked}
@@ -16,6 +17,6 @@ then-good Good b e = e
 then-good (Refused why) b e = impossible cc
 
 -- times and bytes are as many, and no time is less than the one before
-pub good-sound : (n : ℕ) (cs cts rs rts : List ℕ) → recordingCheck n cs cts rs rts ≡ Good → Sound cs cts rs rts
+pub good-sound : (n : ℕ) (ks : List Kind) (cs cts rs rts : List ℕ) → recordingCheck n ks cs cts rs rts ≡ Good → Sound cs cts rs rts
 unfolding recordingCheck
-good-sound n cs cts rs rts e = captured.good-sound cs cts rs rts (then-good (countCheck (startPowerUp freshOf n .end)) (checkOf cs cts rs rts) e)
+good-sound n ks cs cts rs rts e = captured.good-sound cs cts rs rts (then-good (countCheck (startPowerUp freshOf n ks .end)) (checkOf cs cts rs rts) e)

@@ -5,6 +5,7 @@ use mathlib.Core.List.{List}
 use mathlib.Core.Path.{_≡_, refl, sym, ap, subst, _∙_}
 use lib.ListN.{length}
 use Rattle.wire.specs.Promise.{Promise}
+use Rattle.wire.specs.declared.kind.Kind.{Kind}
 use Rattle.session.specs.declared.Session.{Session}
 use Rattle.session.specs.declared.End.{End}
 use Rattle.session.specs.declared.End.the-variants as end
@@ -176,18 +177,18 @@ module _ (cs cts rs rts : List ℕ) (t : Session) (g : Stage) (m : Moved) (i : C
       let a : comesTo cs cts rs rts (m .stage) ≡ m .stage .session = rw f in
       sym a ∙ passes .same ∙ i .comes
 
-start-by : (x : Checked) (n : ℕ) (cs cts rs rts : List ℕ) → recordingCheck n cs cts rs rts ≡ x
-    → Coming cs cts rs rts (replayBy x (followOf (powerOf n) (leftAt cs cts rs rts outset)) .session) (begunBy x (powerOf n) .stage)
-start-by checked.Good n cs cts rs rts e =
-    let d = good-sound n cs cts rs rts e in
+start-by : (x : Checked) (n : ℕ) (ks : List Kind) (cs cts rs rts : List ℕ) → recordingCheck n ks cs cts rs rts ≡ x
+    → Coming cs cts rs rts (replayBy x (followOf (powerOf n ks) (leftAt cs cts rs rts outset)) .session) (begunBy x (powerOf n ks) .stage)
+start-by checked.Good n ks cs cts rs rts e =
+    let d = good-sound n ks cs cts rs rts e in
     record { comes = refl; command-number = λ f. d .command-number; reply-number = λ f. d .reply-number }
-start-by (checked.Refused why) n cs cts rs rts e = record { comes = refl; command-number = λ f. absurd (true≢false f); reply-number = λ f. absurd (true≢false f) }
+start-by (checked.Refused why) n ks cs cts rs rts e = record { comes = refl; command-number = λ f. absurd (true≢false f); reply-number = λ f. absurd (true≢false f) }
 
-pub comes-start : (n : ℕ) (cs cts rs rts : List ℕ) (b : Begun) → Promise begunNumber b (beginOf n cs cts rs rts)
-    → Coming cs cts rs rts (replayOf n cs cts rs rts .session) (b .stage)
+pub comes-start : (n : ℕ) (ks : List Kind) (cs cts rs rts : List ℕ) (b : Begun) → Promise begunNumber b (beginOf n ks cs cts rs rts)
+    → Coming cs cts rs rts (replayOf n ks cs cts rs rts .session) (b .stage)
 unfolding beginOf replayOf
-comes-start n cs cts rs rts b p =
-    subst (λ (y : Begun). Coming cs cts rs rts (replayOf n cs cts rs rts .session) (y .stage)) (sym (p .answer)) (start-by (recordingCheck n cs cts rs rts) n cs cts rs rts refl)
+comes-start n ks cs cts rs rts b p =
+    subst (λ (y : Begun). Coming cs cts rs rts (replayOf n ks cs cts rs rts .session) (y .stage)) (sym (p .answer)) (start-by (recordingCheck n ks cs cts rs rts) n ks cs cts rs rts refl)
 
 -- ---- the loop of `follow`, which says how the walk ended too
 

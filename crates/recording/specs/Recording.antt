@@ -2,6 +2,7 @@
 use Prim.Native.Nat.{ℕ}
 use mathlib.Core.List.{List, [], _∷_}
 use Rattle.wire.specs.Numbers.{done, numberOf}
+use Rattle.wire.specs.declared.kind.Kind.{Kind}
 use Rattle.session.specs.declared.Session.{Session}
 use Rattle.session.specs.declared.End.{End}
 use Rattle.session.specs.declared.End.the-variants as end
@@ -28,12 +29,12 @@ thenCheck checked.Good x = x
 thenCheck (checked.Refused why) x = checked.Refused why
 
 -- 6, then 15, then 16
-unfoldable pub recordingCheck : ℕ → List ℕ → List ℕ → List ℕ → List ℕ → Checked
-recordingCheck n cs cts rs rts = thenCheck (countCheck (startPowerUp freshOf n .end)) (checkOf cs cts rs rts)
+unfoldable pub recordingCheck : ℕ → List Kind → List ℕ → List ℕ → List ℕ → List ℕ → Checked
+recordingCheck n ks cs cts rs rts = thenCheck (countCheck (startPowerUp freshOf n ks .end)) (checkOf cs cts rs rts)
 
--- "the recording begins at power-up"
-unfoldable pub powerOf : ℕ → Session
-powerOf n = startPowerUp freshOf n .session
+-- "the recording begins at power-up", with the kinds that are told then
+unfoldable pub powerOf : ℕ → List Kind → Session
+powerOf n ks = startPowerUp freshOf n ks .session
 
 -- "a command with no reply before the next, or the end, is silent"
 unfoldable pub quietOf : Session → Session
@@ -55,8 +56,8 @@ replayBy checked.Good x = x
 replayBy (checked.Refused why) x = record { ending = Refused why; session = freshOf }
 
 -- "Walk them packet by packet"
-unfoldable pub replayOf : ℕ → List ℕ → List ℕ → List ℕ → List ℕ → Replayed
-replayOf n cs cts rs rts = replayBy (recordingCheck n cs cts rs rts) (followOf (powerOf n) (leftAt cs cts rs rts outset))
+unfoldable pub replayOf : ℕ → List Kind → List ℕ → List ℕ → List ℕ → List ℕ → Replayed
+replayOf n ks cs cts rs rts = replayBy (recordingCheck n ks cs cts rs rts) (followOf (powerOf n ks) (leftAt cs cts rs rts outset))
 
 -- the number of how a walk ended
 abbrev pub endingNumber : Ending → ℕ

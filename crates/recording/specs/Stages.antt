@@ -2,6 +2,7 @@
 use Prim.Native.Nat.{ℕ}
 use mathlib.Core.Bool.{Bool, true, false, cond}
 use mathlib.Core.List.{List}
+use Rattle.wire.specs.declared.kind.Kind.{Kind}
 use Rattle.session.specs.declared.Session.{Session}
 use Rattle.session.specs.declared.End.{End}
 use Rattle.session.specs.declared.End.the-variants as end
@@ -73,8 +74,8 @@ begunBy checked.Good s = beginAt checked.Good false s
 begunBy (checked.Refused why) s = beginAt (checked.Refused why) true freshOf
 
 -- the first stage of a recording, or its refusal
-unfoldable pub beginOf : ℕ → List ℕ → List ℕ → List ℕ → List ℕ → Begun
-beginOf n cs cts rs rts = begunBy (recordingCheck n cs cts rs rts) (powerOf n)
+unfoldable pub beginOf : ℕ → List Kind → List ℕ → List ℕ → List ℕ → List ℕ → Begun
+beginOf n ks cs cts rs rts = begunBy (recordingCheck n ks cs cts rs rts) (powerOf n ks)
 
 abbrev pub begunNumber : Begun → ℕ
 begunNumber b = checkedNumber (b .checked)

@@ -8,6 +8,8 @@ use capture::Cursor;
 use capture::Stepped;
 use session::End;
 use session::Session;
+use wire::Kind;
+use wire::MOST_NODES;
 use wire::Refusal;
 ghost use mathlib.Core.Path.{_≡_};
 ghost use lib.ListN.{length};
@@ -94,14 +96,15 @@ fn count_check(end: End) -> Checked
 // 6 for the node count, then 15, then 16.
 pub fn check(
     n: u8,
+    kinds: [Kind; MOST_NODES],
     command: &[u8],
     command_times: &[u32],
     reply: &[u8],
     reply_times: &[u32],
 ) -> Checked
-    ensures { λ r. ⌜ Promise checkedNumber r (recordingCheck n (now (command .entry)) (now («command_times» .entry)) (now (reply .entry)) (now («reply_times» .entry))) ⌝ }
+    ensures { λ r. ⌜ Promise checkedNumber r (recordingCheck n kinds (now (command .entry)) (now («command_times» .entry)) (now (reply .entry)) (now («reply_times» .entry))) ⌝ }
 {
-    let up = start::power_up(start::fresh(), n);
+    let up = start::power_up(start::fresh(), n, kinds);
     let end = up.end;
     match count_check(end) {
         Checked::Good => capture::check(command, command_times, reply, reply_times),
@@ -109,11 +112,11 @@ pub fn check(
     }
 }
 
-// The session with which a recording of n nodes begins: as power-up makes it, or a fresh one.
-fn power(n: u8) -> Session
-    ensures { λ r. ⌜ r ≡ powerOf n ⌝ }
+// The session with which a recording of n nodes begins: as power-up makes it of the kinds told, or a fresh one.
+fn power(n: u8, kinds: [Kind; MOST_NODES]) -> Session
+    ensures { λ r. ⌜ r ≡ powerOf n kinds ⌝ }
 {
-    let up = start::power_up(start::fresh(), n);
+    let up = start::power_up(start::fresh(), n, kinds);
     up.session
 }
 
@@ -207,15 +210,16 @@ fn begin_at(checked: Checked, over: bool, session: Session) -> Begun
 // The first stage of a walk, or a refusal with one that is over.
 pub fn begin(
     n: u8,
+    kinds: [Kind; MOST_NODES],
     command: &[u8],
     command_times: &[u32],
     reply: &[u8],
     reply_times: &[u32],
 ) -> Begun
-    ensures { λ r. ⌜ Promise begunNumber r (beginOf n (now (command .entry)) (now («command_times» .entry)) (now (reply .entry)) (now («reply_times» .entry))) ⌝ }
+    ensures { λ r. ⌜ Promise begunNumber r (beginOf n kinds (now (command .entry)) (now («command_times» .entry)) (now (reply .entry)) (now («reply_times» .entry))) ⌝ }
 {
-    match check(n, command, command_times, reply, reply_times) {
-        Checked::Good => begin_at(Checked::Good, false, power(n)),
+    match check(n, kinds, command, command_times, reply, reply_times) {
+        Checked::Good => begin_at(Checked::Good, false, power(n, kinds)),
         Checked::Refused(why) => begin_at(Checked::Refused(why), true, start::fresh()),
     }
 }
@@ -272,15 +276,16 @@ fn follow<'a>(
 // The whole walk: how it ended, and the host's record at its end.
 pub fn replay<'a>(
     n: u8,
+    kinds: [Kind; MOST_NODES],
     command: &'a [u8],
     command_times: &[u32],
     reply: &'a [u8],
     reply_times: &[u32],
 ) -> Replayed
-    ensures { λ r. ⌜ Promise replayedNumber r (replayOf n (now (command .entry)) (now («command_times» .entry)) (now (reply .entry)) (now («reply_times» .entry))) ⌝ }
+    ensures { λ r. ⌜ Promise replayedNumber r (replayOf n kinds (now (command .entry)) (now («command_times» .entry)) (now (reply .entry)) (now («reply_times» .entry))) ⌝ }
 {
-    match check(n, command, command_times, reply, reply_times) {
-        Checked::Good => follow(command, command_times, reply, reply_times, power(n)),
+    match check(n, kinds, command, command_times, reply, reply_times) {
+        Checked::Good => follow(command, command_times, reply, reply_times, power(n, kinds)),
         Checked::Refused(why) => Replayed {
             ending: Ending::Refused(why),
             session: start::fresh(),

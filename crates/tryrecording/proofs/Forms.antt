@@ -10,8 +10,9 @@ use borrow.Author.Tests.{not-true, not-false, le-leb, lt-leb}
 use lib.Dec.{leb, eqb}
 use lib.ListN.{length, take, drop, set}
 use lib.Seq.{take-suc-set}
-use Rattle.fields.specs.Field.{fieldsWord, longOf}
-use Rattle.tryrecording.specs.Form.{byteCount, bytePart, timePart, timeCount, timesFrom, timesIn, captureLength, mostCaptured, isCapture, replyPart, isRecording}
+use Rattle.fields.specs.Field.{fieldsByte, fieldsWord, longOf}
+use Rattle.fields.specs.Kind.{areKinds}
+use Rattle.tryrecording.specs.Form.{byteCount, bytePart, timePart, timeCount, timesFrom, timesIn, captureLength, mostCaptured, isCapture, kindPart, commandPart, replyPart, isRecording}
 
 -- ---- the parts of a capture
 
@@ -58,22 +59,35 @@ module _ (s : List ℕ) (b t : ℕ) (e : b ≡ byteCount s) (h : b ≤ mostCaptu
   unfolding isCapture
   capture-whole l k g = rw (← g, ← f, ← e, le-leb b mostCaptured h, le-leb t mostCaptured k)
 
--- ---- whether a line is n and two captures
+-- ---- whether a line is n, so many kinds and two captures
 
-pub reply-behind : (s c r : List ℕ) (l : ℕ) → c ≡ drop 1 s → l ≡ captureLength c → r ≡ drop l c → r ≡ replyPart s
+module _ (s d : List ℕ) (n : ℕ) (e : d ≡ drop 1 s) (f : n ≡ fieldsByte s 0) where
+  pub kinds-first : (r : List ℕ) → r ≡ take n d → r ≡ kindPart s
+  kinds-first r g = rw (g, e, f)
+
+  pub command-behind : (r : List ℕ) → r ≡ drop n d → r ≡ commandPart s
+  unfolding commandPart
+  command-behind r g = rw (g, e, f)
+
+pub reply-behind : (s c r : List ℕ) (l : ℕ) → c ≡ commandPart s → l ≡ captureLength c → r ≡ drop l c → r ≡ replyPart s
 unfolding replyPart
 reply-behind s c r l e f g = rw (g, f, e)
 
-module _ (s c : List ℕ) (t : Bool) (e : c ≡ drop 1 s) (f : t ≡ isCapture c) where
-  pub no-command : not t ≡ true → false ≡ isRecording s
+module _ (s k : List ℕ) (w : Bool) (i : k ≡ kindPart s) (j : w ≡ areKinds k) where
+  pub no-kinds : not w ≡ true → false ≡ isRecording s
   unfolding isRecording
-  no-command h = rw (← e, ← f, not-true t h)
+  no-kinds h = rw (← i, ← j, not-true w h)
 
-  module _ (r : List ℕ) (u : Bool) (h : not t ≡ false) (g : r ≡ replyPart s) (k : u ≡ isCapture r) where
-    pub no-reply : not u ≡ true → false ≡ isRecording s
+  module _ (c : List ℕ) (t : Bool) (p : not w ≡ false) (e : c ≡ commandPart s) (f : t ≡ isCapture c) where
+    pub no-command : not t ≡ true → false ≡ isRecording s
     unfolding isRecording
-    no-reply m = rw (← e, ← f, not-false t h, ← g, ← k, not-true u m)
+    no-command h = rw (← i, ← j, not-false w p, ← e, ← f, not-true t h)
 
-    pub nothing-behind : (l : ℕ) → not u ≡ false → l ≡ captureLength r → eqb (length r) l ≡ isRecording s
-    unfolding isRecording
-    nothing-behind l m q = rw (← e, ← f, not-false t h, ← g, ← k, not-false u m, q)
+    module _ (r : List ℕ) (u : Bool) (h : not t ≡ false) (g : r ≡ replyPart s) (k : u ≡ isCapture r) where
+      pub no-reply : not u ≡ true → false ≡ isRecording s
+      unfolding isRecording
+      no-reply m = rw (← i, ← j, not-false w p, ← e, ← f, not-false t h, ← g, ← k, not-true u m)
+
+      pub nothing-behind : (l : ℕ) → not u ≡ false → l ≡ captureLength r → eqb (length r) l ≡ isRecording s
+      unfolding isRecording
+      nothing-behind l m q = rw (← i, ← j, not-false w p, ← e, ← f, not-false t h, ← g, ← k, not-false u m, q)

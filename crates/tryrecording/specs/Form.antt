@@ -1,10 +1,11 @@
--- The line `50` of the program `trials`: "`n CAPTURE CAPTURE`", the command line's first.
+-- The line `50` of the program `trials`: "`n KIND*n CAPTURE CAPTURE`", the command line's first.
 use Prim.Native.Nat.{ℕ, zero, suc, _+_, _*_}
 use mathlib.Core.Bool.{Bool, _&&_}
 use mathlib.Core.List.{List, [], _∷_, _++_}
 use lib.Dec.{leb, eqb}
 use lib.ListN.{length, take, drop}
-use Rattle.fields.specs.Field.{fieldsWord, longOf}
+use Rattle.fields.specs.Field.{fieldsByte, fieldsWord, longOf}
+use Rattle.fields.specs.Kind.{areKinds}
 
 -- "CAPTURE: `b(2) byte*b t(2) time(4)*t`", at the start of s: b
 abbrev pub byteCount : List ℕ → ℕ
@@ -43,13 +44,17 @@ mostCaptured = 0x400
 unfoldable pub isCapture : List ℕ → Bool
 isCapture s = leb (byteCount s) mostCaptured && (leb (timeCount s) mostCaptured && leb (captureLength s) (length s))
 
--- the two captures behind n, the second with what follows
-abbrev pub commandPart : List ℕ → List ℕ
-commandPart s = drop 1 s
+-- `KIND*n`
+abbrev pub kindPart : List ℕ → List ℕ
+kindPart s = take (fieldsByte s 0) (drop 1 s)
+
+-- the two captures behind the kinds, the second with what follows
+unfoldable pub commandPart : List ℕ → List ℕ
+commandPart s = drop (fieldsByte s 0) (drop 1 s)
 
 unfoldable pub replyPart : List ℕ → List ℕ
 replyPart s = drop (captureLength (commandPart s)) (commandPart s)
 
--- the line is n and two captures, and nothing behind them
+-- the line is n, so many kinds and two captures, and nothing behind them
 unfoldable pub isRecording : List ℕ → Bool
-isRecording s = isCapture (commandPart s) && (isCapture (replyPart s) && eqb (length (replyPart s)) (captureLength (replyPart s)))
+isRecording s = areKinds (kindPart s) && (isCapture (commandPart s) && (isCapture (replyPart s) && eqb (length (replyPart s)) (captureLength (replyPart s))))

@@ -4,6 +4,7 @@ use mathlib.Core.Bool.{false}
 use mathlib.Core.List.{List, []}
 use mathlib.Core.Path.{_≡_}
 use lib.ListN.{length}
+use Rattle.wire.specs.declared.kind.Kind.{Kind}
 use Rattle.capture.specs.declared.Cursor.{Cursor}
 use Rattle.capture.specs.Steps.{leftAt, bytesLeft}
 use Rattle.capture.specs.declared.Checked.the-variants.{Good}
@@ -38,7 +39,7 @@ pub record Walkable (cs cts rs rts : List ℕ) (g : Stage) (at : ℕ) : Type 0 w
   pub small : Small cts rts (g .at) at
 
 -- a recording that isn't refused, and has no more times than a line may
-pub record IsGood (n : ℕ) (cs cts rs rts : List ℕ) : Type 0 where
-  pub good : recordingCheck n cs cts rs rts ≡ Good
+pub record IsGood (n : ℕ) (ks : List Kind) (cs cts rs rts : List ℕ) : Type 0 where
+  pub good : recordingCheck n ks cs cts rs rts ≡ Good
   pub command : length cts ≤ 0x400
   pub reply : length rts ≤ 0x400

@@ -4,6 +4,7 @@ use mathlib.Core.Bool.{cond}
 use mathlib.Core.List.{List, [], _∷_, _++_}
 use lib.ListN.{length, take}
 use Rattle.wire.specs.Numbers.{done, numberOf}
+use Rattle.wire.specs.declared.kind.Kind.{Kind}
 use Rattle.session.specs.declared.Session.{Session}
 use Rattle.reports.specs.Report.{reportOf}
 use Rattle.calls.specs.Finding.{bySource, findOf}
@@ -16,8 +17,9 @@ use Rattle.recording.specs.declared.Replayed.{Replayed}
 use Rattle.recording.specs.Recording.{quietOf, powerOf, replayOf}
 use Rattle.fields.specs.Field.{fieldsByte}
 use Rattle.fields.specs.Answer.{fieldsNothing}
+use Rattle.fields.specs.Kind.{readKinds}
 use Rattle.state.specs.State.{putState}
-use Rattle.tryrecording.specs.Form.{bytePart, timesIn, commandPart, replyPart, isRecording}
+use Rattle.tryrecording.specs.Form.{bytePart, timesIn, kindPart, commandPart, replyPart, isRecording}
 
 -- "STEP, 5 bytes ..: `line start(2) length(2)`", least significant byte first
 unfoldable pub stepBytes : ℕ → ℕ → ℕ → List ℕ
@@ -62,14 +64,15 @@ replayedBytes r steps Foreign = walkBytes 1 steps (r .session)
 replayedBytes r steps (Refused why) = numberOf why ∷ []
 
 -- the walk of a recording from power-up on
-unfoldable pub replayBytes : ℕ → List ℕ → List ℕ → List ℕ → List ℕ → List ℕ
-replayBytes n cs cts rs rts =
-    replayedBytes (replayOf n cs cts rs rts) (stepsOf (powerOf n) outset (leftAt cs cts rs rts outset)) (replayOf n cs cts rs rts .ending)
+unfoldable pub replayBytes : ℕ → List Kind → List ℕ → List ℕ → List ℕ → List ℕ → List ℕ
+replayBytes n ks cs cts rs rts =
+    replayedBytes (replayOf n ks cs cts rs rts) (stepsOf (powerOf n ks) outset (leftAt cs cts rs rts outset)) (replayOf n ks cs cts rs rts .ending)
 
 -- of a line of the form
 abbrev pub recordingBytes : List ℕ → List ℕ
-recordingBytes s = replayBytes (fieldsByte s 0) (bytePart (commandPart s)) (timesIn (commandPart s)) (bytePart (replyPart s)) (timesIn (replyPart s))
+recordingBytes s =
+    replayBytes (fieldsByte s 0) (readKinds (kindPart s)) (bytePart (commandPart s)) (timesIn (commandPart s)) (bytePart (replyPart s)) (timesIn (replyPart s))
 
--- "`50 n CAPTURE CAPTURE` walk a recording, the command line first"; what is not of the form answers `FF`
+-- "`50 n KIND*n CAPTURE CAPTURE` walk a recording, the command line first"; what is not of the form answers `FF`
 unfoldable pub tryrecordingReplay : List ℕ → List ℕ
 tryrecordingReplay s = cond (isRecording s) (recordingBytes s) (0xFF ∷ [])

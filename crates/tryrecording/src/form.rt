@@ -1,4 +1,6 @@
-// `n CAPTURE CAPTURE`; CAPTURE: `b(2) byte*b t(2) time(4)*t`.
+// `n KIND*n CAPTURE CAPTURE`; CAPTURE: `b(2) byte*b t(2) time(4)*t`.
+use fields::are_kinds;
+use fields::byte;
 use fields::long;
 use fields::word;
 use text::first;
@@ -6,7 +8,7 @@ use text::rest;
 ghost use mathlib.Core.Path.{_≡_};
 ghost use Prim.Native.Nat.{_≤_};
 ghost use lib.ListN.{take};
-ghost use Rattle.tryrecording.specs.Form.{byteCount, bytePart, timePart, timeCount, timesIn, captureLength, mostCaptured, isCapture, replyPart, isRecording};
+ghost use Rattle.tryrecording.specs.Form.{byteCount, bytePart, timePart, timeCount, timesIn, captureLength, mostCaptured, isCapture, kindPart, commandPart, replyPart, isRecording};
 
 // The most bytes of a capture, and the most times.
 pub(crate) const MOST_CAPTURED: usize = 0x400;
@@ -75,11 +77,25 @@ fn is_capture(s: &[u8]) -> bool
     capture_length(s) <= s.len()
 }
 
+// The kinds behind n.
+pub(crate) fn kind_part(args: &[u8]) -> &[u8]
+    ensures { λ r. ⌜ now r ≡ kindPart (now (args .entry)) ⌝ }
+{
+    first(rest(args, 1), byte(args, 0) as usize)
+}
+
+// The first capture, behind them, with what follows.
+pub(crate) fn command_part(args: &[u8]) -> &[u8]
+    ensures { λ r. ⌜ now r ≡ commandPart (now (args .entry)) ⌝ }
+{
+    rest(rest(args, 1), byte(args, 0) as usize)
+}
+
 // The second capture, with what follows.
 pub(crate) fn reply_part(args: &[u8]) -> &[u8]
     ensures { λ r. ⌜ now r ≡ replyPart (now (args .entry)) ⌝ }
 {
-    let command = rest(args, 1);
+    let command = command_part(args);
     rest(command, capture_length(command))
 }
 
@@ -87,7 +103,10 @@ pub(crate) fn reply_part(args: &[u8]) -> &[u8]
 pub(crate) fn is_recording(args: &[u8]) -> bool
     ensures { λ r. ⌜ r ≡ isRecording (now (args .entry)) ⌝ }
 {
-    if !is_capture(rest(args, 1)) {
+    if !are_kinds(kind_part(args)) {
+        return false;
+    }
+    if !is_capture(command_part(args)) {
         return false;
     }
     let reply = reply_part(args);

@@ -7,8 +7,11 @@ mod writing;
 
 use fields::byte;
 use fields::nothing;
+use fields::read_kinds;
 use form::byte_part;
+use form::command_part;
 use form::is_recording;
+use form::kind_part;
 use form::reply_part;
 use form::time_count;
 use form::times_in;
@@ -18,7 +21,8 @@ use state::put_state;
 use steps::count_steps;
 use steps::put_steps_from;
 use text::first;
-use text::rest;
+use wire::Kind;
+use wire::MOST_NODES;
 use writing::put_bytes;
 ghost use mathlib.Core.Bool.{true};
 ghost use mathlib.Core.Path.{_≡_};
@@ -31,8 +35,8 @@ ghost use Rattle.tryrecording.specs.Writing.{WroteEach};
 ghost use Rattle.tryrecording.specs.Trying.{stepsOf, headBytes, stateBytes, walkBytes, replayBytes, recordingBytes, tryrecordingReplay};
 ghost use Rattle.tryrecording.specs.Moves.{IsGood};
 
-// The longest answer: number, end and count, 2048 steps of 5 bytes, a session of 438.
-pub const MOST_BYTES: usize = 10682;
+// The longest answer: number, end and count, 2048 steps of 5 bytes, a session of 1541.
+pub const MOST_BYTES: usize = 11785;
 
 // How a walk ended.
 const ENDED: u8 = 0;
@@ -64,15 +68,16 @@ fn put_walk_bytes<'a>(
     end: u8,
     session: Session,
     n: u8,
+    kinds: [Kind; MOST_NODES],
     command: &'a [u8],
     command_times: &[u32],
     reply: &'a [u8],
     reply_times: &[u32],
 ) -> usize
-    requires { ⌜ IsGood n (now command) (now «command_times») (now reply) (now «reply_times») ⌝ }
-    ensures { λ r. ⌜ WroteEach (walkBytes end (stepsOf (powerOf n) outset (leftAt (now (command .entry)) (now («command_times» .entry)) (now (reply .entry)) (now («reply_times» .entry)) outset)) session) 0 (now (out .entry)) r (now (out .exit)) ⌝ }
+    requires { ⌜ IsGood n kinds (now command) (now «command_times») (now reply) (now «reply_times») ⌝ }
+    ensures { λ r. ⌜ WroteEach (walkBytes end (stepsOf (powerOf n kinds) outset (leftAt (now (command .entry)) (now («command_times» .entry)) (now (reply .entry)) (now («reply_times» .entry)) outset)) session) 0 (now (out .entry)) r (now (out .exit)) ⌝ }
 {
-    let begun = recording::begin(n, command, command_times, reply, reply_times);
+    let begun = recording::begin(n, kinds, command, command_times, reply, reply_times);
     let stage = begun.stage;
     let count = count_steps(command, command_times, reply, reply_times, stage);
     let head = put_head_bytes(out, end, count);
@@ -84,15 +89,16 @@ fn put_walk_bytes<'a>(
 fn put_replay_bytes<'a>(
     out: &mut [u8],
     n: u8,
+    kinds: [Kind; MOST_NODES],
     command: &'a [u8],
     command_times: &[u32],
     reply: &'a [u8],
     reply_times: &[u32],
 ) -> usize
     requires { ⌜ (length (now «command_times») ≤ 0x400) × (length (now «reply_times») ≤ 0x400) ⌝ }
-    ensures { λ r. ⌜ WroteEach (replayBytes n (now (command .entry)) (now («command_times» .entry)) (now (reply .entry)) (now («reply_times» .entry))) 0 (now (out .entry)) r (now (out .exit)) ⌝ }
+    ensures { λ r. ⌜ WroteEach (replayBytes n kinds (now (command .entry)) (now («command_times» .entry)) (now (reply .entry)) (now («reply_times» .entry))) 0 (now (out .entry)) r (now (out .exit)) ⌝ }
 {
-    let replayed = recording::replay(n, command, command_times, reply, reply_times);
+    let replayed = recording::replay(n, kinds, command, command_times, reply, reply_times);
     let ending = replayed.ending;
     let session = replayed.session;
     match ending {
@@ -101,6 +107,7 @@ fn put_replay_bytes<'a>(
             ENDED,
             session,
             n,
+            kinds,
             command,
             command_times,
             reply,
@@ -111,6 +118,7 @@ fn put_replay_bytes<'a>(
             FOREIGN,
             session,
             n,
+            kinds,
             command,
             command_times,
             reply,
@@ -125,7 +133,8 @@ fn put_recording_bytes(out: &mut [u8], args: &[u8]) -> usize
     requires { ⌜ isRecording (now args) ≡ true ⌝ }
     ensures { λ r. ⌜ WroteEach (recordingBytes (now (args .entry))) 0 (now (out .entry)) r (now (out .exit)) ⌝ }
 {
-    let command = rest(args, 1);
+    let command = command_part(args);
+    let kinds = read_kinds(kind_part(args));
     let reply = reply_part(args);
     let command_times = times_in(command);
     let reply_times = times_in(reply);
@@ -134,6 +143,7 @@ fn put_recording_bytes(out: &mut [u8], args: &[u8]) -> usize
     put_replay_bytes(
         out,
         byte(args, 0),
+        kinds,
         byte_part(command),
         &command_times[0..t],
         byte_part(reply),
@@ -141,7 +151,7 @@ fn put_recording_bytes(out: &mut [u8], args: &[u8]) -> usize
     )
 }
 
-// `n CAPTURE CAPTURE`: its answer goes to the start of `out`, each byte that has room, and the rest stays; how many bytes it has.
+// `n KIND*n CAPTURE CAPTURE`: its answer goes to the start of `out`, each byte that has room, and the rest stays; how many bytes it has.
 pub fn replay(args: &[u8], out: &mut [u8]) -> usize
     ensures { λ r. ⌜ WroteEach (tryrecordingReplay (now (args .entry))) 0 (now (out .entry)) r (now (out .exit)) ⌝ }
 {

@@ -10,9 +10,9 @@ use borrow.Author.Tests.{not-true, not-false, le-leb, lt-leb}
 use lib.Dec.{leb, eqb}
 use lib.ListN.{length, take, drop, set}
 use lib.Seq.{take-suc-set}
-use Rattle.fields.specs.Field.{fieldsByte, fieldsWord, longOf}
+use Rattle.fields.specs.Field.{fieldsByte, fieldsWord, fieldsLong}
 use Rattle.fields.specs.Kind.{areKinds}
-use Rattle.tryrecording.specs.Form.{byteCount, bytePart, timePart, timeCount, timesFrom, timesIn, captureLength, mostCaptured, isCapture, kindPart, commandPart, replyPart, isRecording}
+use Rattle.tryrecording.specs.Form.{byteCount, bytePart, timePart, timeCount, timesFrom, timesIn, captureLength, mostCaptured, isCapture, kindPart, commandPart, replyPart, areCaptures, isRecording}
 
 -- ---- the parts of a capture
 
@@ -35,7 +35,7 @@ pub times-none : (ts from : List ℕ) → take 0 ts ≡ timesFrom 0 from
 unfolding timesFrom
 times-none ts from = refl
 
-pub times-more : (s ts from : List ℕ) (i v n : ℕ) → take i ts ≡ timesFrom i from → v ≡ longOf from (4 * i) → i < n → n ≡ timeCount s → timeCount s ≤ mostCaptured
+pub times-more : (s ts from : List ℕ) (i v n : ℕ) → take i ts ≡ timesFrom i from → v ≡ fieldsLong from (4 * i) → i < n → n ≡ timeCount s → timeCount s ≤ mostCaptured
     → length ts ≡ mostCaptured → take (i + 1) (set ts i v) ≡ timesFrom (i + 1) from
 unfolding timesFrom
 times-more s ts from i v n e f h k m l = rw (add-one i, take-suc-set ts i v (omega arith), e, f)
@@ -73,21 +73,25 @@ pub reply-behind : (s c r : List ℕ) (l : ℕ) → c ≡ commandPart s → l �
 unfolding replyPart
 reply-behind s c r l e f g = rw (g, f, e)
 
-module _ (s k : List ℕ) (w : Bool) (i : k ≡ kindPart s) (j : w ≡ areKinds k) where
-  pub no-kinds : not w ≡ true → false ≡ isRecording s
+module _ (s c : List ℕ) (t : Bool) (e : c ≡ commandPart s) (f : t ≡ isCapture c) where
+  pub no-command : not t ≡ true → false ≡ areCaptures s
+  unfolding areCaptures
+  no-command h = rw (← e, ← f, not-true t h)
+
+  module _ (r : List ℕ) (u : Bool) (h : not t ≡ false) (g : r ≡ replyPart s) (k : u ≡ isCapture r) where
+    pub no-reply : not u ≡ true → false ≡ areCaptures s
+    unfolding areCaptures
+    no-reply m = rw (← e, ← f, not-false t h, ← g, ← k, not-true u m)
+
+    pub nothing-behind : (l : ℕ) → not u ≡ false → l ≡ captureLength r → eqb (length r) l ≡ areCaptures s
+    unfolding areCaptures
+    nothing-behind l m q = rw (← e, ← f, not-false t h, ← g, ← k, not-false u m, q)
+
+module _ (s d : List ℕ) (t : Bool) (e : d ≡ kindPart s) (f : t ≡ areKinds d) where
+  pub no-kinds : t ≡ false → false ≡ isRecording s
   unfolding isRecording
-  no-kinds h = rw (← i, ← j, not-true w h)
+  no-kinds h = rw (← e, ← f, h)
 
-  module _ (c : List ℕ) (t : Bool) (p : not w ≡ false) (e : c ≡ commandPart s) (f : t ≡ isCapture c) where
-    pub no-command : not t ≡ true → false ≡ isRecording s
-    unfolding isRecording
-    no-command h = rw (← i, ← j, not-false w p, ← e, ← f, not-true t h)
-
-    module _ (r : List ℕ) (u : Bool) (h : not t ≡ false) (g : r ≡ replyPart s) (k : u ≡ isCapture r) where
-      pub no-reply : not u ≡ true → false ≡ isRecording s
-      unfolding isRecording
-      no-reply m = rw (← i, ← j, not-false w p, ← e, ← f, not-false t h, ← g, ← k, not-true u m)
-
-      pub nothing-behind : (l : ℕ) → not u ≡ false → l ≡ captureLength r → eqb (length r) l ≡ isRecording s
-      unfolding isRecording
-      nothing-behind l m q = rw (← i, ← j, not-false w p, ← e, ← f, not-false t h, ← g, ← k, not-false u m, q)
+  pub with-kinds : (u : Bool) → t ≡ true → u ≡ areCaptures s → u ≡ isRecording s
+  unfolding isRecording
+  with-kinds u h g = rw (← e, ← f, h, g)

@@ -26,9 +26,9 @@ use Rattle.recording.specs.Recording.{recordingCheck, powerOf, followOf, replay
 use Rattle.recording.specs.Stages.{beginOf, begunNumber}
 use Rattle.fields.specs.Field.{fieldsByte}
 use Rattle.fields.specs.Kind.{areKinds, readKinds}
-use Rattle.tryrecording.specs.Form.{byteCount, bytePart, timeCount, timesIn, captureLength, mostCaptured, isCapture, kindPart, commandPart, replyPart, isRecording}
+use Rattle.tryrecording.specs.Form.{byteCount, bytePart, timeCount, timesIn, captureLength, mostCaptured, isCapture, kindPart, commandPart, replyPart, areCaptures, isRecording}
 use Rattle.tryrecording.specs.Writing.{WroteEach}
-use Rattle.tryrecording.specs.Trying.{stepsOf, joinedSteps, headBytes, stateBytes, walkBytes, replayBytes, recordingBytes, tryrecordingReplay}
+use Rattle.tryrecording.specs.Trying.{stepsOf, joinedSteps, headBytes, stateBytes, walkBytes, replayBytes, capturedBytes, recordingBytes, tryrecordingReplay}
 use Rattle.tryrecording.specs.Moves.{stepsFrom, Walkable, IsGood}
 use Rattle.tryrecording.proofs.Writes.{each-then}
 
@@ -116,8 +116,8 @@ module _ (s : List ℕ) (h : isRecording s ≡ true) where
   replies = isCapture (replyPart s) && eqb (length (replyPart s)) (captureLength (replyPart s))
 
   captures : (isCapture (commandPart s) ≡ true) × (replies ≡ true)
-  unfolding isRecording
-  captures = both (isCapture (commandPart s)) replies (both (areKinds (kindPart s)) (isCapture (commandPart s) && replies) h .1)
+  unfolding isRecording areCaptures
+  captures = both (isCapture (commandPart s)) replies (both (areKinds (kindPart s)) (areCaptures s) h .1)
 
   pub command-few : (c : List ℕ) → c ≡ commandPart s → timeCount c ≤ mostCaptured
   command-few c e = rw e (captured-few (commandPart s) (captures .0))
@@ -134,11 +134,16 @@ module _ (s : List ℕ) (h : isRecording s ≡ true) where
 pub part-few : (ts : List ℕ) (n : ℕ) → length ts ≡ 0x400 → length (take n ts) ≤ 0x400
 part-few ts n l = omega (arith, length-take n ts)
 
-pub shows-recording : (s c d k cb db cts dts : List ℕ) (ks : List Kind) (n t u r : ℕ) (out left : List ℕ) → c ≡ commandPart s → d ≡ replyPart s → take (timeCount c) cts ≡ timesIn c
-    → take (timeCount d) dts ≡ timesIn d → t ≡ timeCount c → u ≡ timeCount d → n ≡ fieldsByte s 0 → k ≡ kindPart s → ks ≡ readKinds k → cb ≡ bytePart c → db ≡ bytePart d
-    → WroteEach (replayBytes n ks cb (take (t - 0) cts) db (take (u - 0) dts)) 0 out r left → WroteEach (recordingBytes s) 0 out r left
-shows-recording s c d k cb db cts dts ks n t u r out left ec ed ecs eds et eu en ek eks eb fb w =
-    rw (← ec, ← ed, ← ek, ← eks, ← en, ← eb, ← fb, ← ecs, ← eds, ← et, ← eu, ← (sub-zero t), ← (sub-zero u)) w
+pub shows-captured : (s c d cb db cts dts : List ℕ) (ks : List Kind) (n t u r : ℕ) (out left : List ℕ) → c ≡ commandPart s → d ≡ replyPart s → take (timeCount c) cts ≡ timesIn c
+    → take (timeCount d) dts ≡ timesIn d → t ≡ timeCount c → u ≡ timeCount d → n ≡ fieldsByte s 0 → cb ≡ bytePart c → db ≡ bytePart d
+    → WroteEach (replayBytes n ks cb (take (t - 0) cts) db (take (u - 0) dts)) 0 out r left → WroteEach (capturedBytes ks s) 0 out r left
+unfolding capturedBytes
+shows-captured s c d cb db cts dts ks n t u r out left ec ed ecs eds et eu en eb fb w =
+    rw (← ec, ← ed, ← en, ← eb, ← fb, ← ecs, ← eds, ← et, ← eu, ← (sub-zero t), ← (sub-zero u)) w
+
+pub shows-recording : (s k : List ℕ) (ks : List Kind) (r : ℕ) (out left : List ℕ) → k ≡ kindPart s → ks ≡ readKinds k → WroteEach (capturedBytes ks s) 0 out r left
+    → WroteEach (recordingBytes s) 0 out r left
+shows-recording s k ks r out left e f w = rw (← e, ← f) w
 
 -- ---- any line
 

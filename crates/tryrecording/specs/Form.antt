@@ -4,7 +4,7 @@ use mathlib.Core.Bool.{Bool, _&&_}
 use mathlib.Core.List.{List, [], _∷_, _++_}
 use lib.Dec.{leb, eqb}
 use lib.ListN.{length, take, drop}
-use Rattle.fields.specs.Field.{fieldsByte, fieldsWord, longOf}
+use Rattle.fields.specs.Field.{fieldsByte, fieldsWord, fieldsLong}
 use Rattle.fields.specs.Kind.{areKinds}
 
 -- "CAPTURE: `b(2) byte*b t(2) time(4)*t`", at the start of s: b
@@ -26,7 +26,7 @@ timeCount s = fieldsWord (timePart s) 0
 -- so many times, four bytes each
 unfoldable pub timesFrom : ℕ → List ℕ → List ℕ
 timesFrom zero s = []
-timesFrom (suc n) s = timesFrom n s ++ (longOf s (4 * n) ∷ [])
+timesFrom (suc n) s = timesFrom n s ++ (fieldsLong s (4 * n) ∷ [])
 
 -- `time(4)*t`
 abbrev pub timesIn : List ℕ → List ℕ
@@ -55,6 +55,10 @@ commandPart s = drop (fieldsByte s 0) (drop 1 s)
 unfoldable pub replyPart : List ℕ → List ℕ
 replyPart s = drop (captureLength (commandPart s)) (commandPart s)
 
--- the line is n, so many kinds and two captures, and nothing behind them
+-- two captures stand behind the kinds, and nothing behind them
+unfoldable pub areCaptures : List ℕ → Bool
+areCaptures s = isCapture (commandPart s) && (isCapture (replyPart s) && eqb (length (replyPart s)) (captureLength (replyPart s)))
+
+-- the line is n, so many kinds and two captures
 unfoldable pub isRecording : List ℕ → Bool
-isRecording s = areKinds (kindPart s) && (isCapture (commandPart s) && (isCapture (replyPart s) && eqb (length (replyPart s)) (captureLength (replyPart s))))
+isRecording s = areKinds (kindPart s) && areCaptures s

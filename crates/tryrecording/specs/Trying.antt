@@ -68,10 +68,13 @@ unfoldable pub replayBytes : ℕ → List Kind → List ℕ → List ℕ → Lis
 replayBytes n ks cs cts rs rts =
     replayedBytes (replayOf n ks cs cts rs rts) (stepsOf (powerOf n ks) outset (leftAt cs cts rs rts outset)) (replayOf n ks cs cts rs rts .ending)
 
--- of a line of the form
+-- of a line's node count and captures, with some kinds
+unfoldable pub capturedBytes : List Kind → List ℕ → List ℕ
+capturedBytes ks s = replayBytes (fieldsByte s 0) ks (bytePart (commandPart s)) (timesIn (commandPart s)) (bytePart (replyPart s)) (timesIn (replyPart s))
+
+-- of a line of the form, with its own
 abbrev pub recordingBytes : List ℕ → List ℕ
-recordingBytes s =
-    replayBytes (fieldsByte s 0) (readKinds (kindPart s)) (bytePart (commandPart s)) (timesIn (commandPart s)) (bytePart (replyPart s)) (timesIn (replyPart s))
+recordingBytes s = capturedBytes (readKinds (kindPart s)) s
 
 -- "`50 n KIND*n CAPTURE CAPTURE` walk a recording, the command line first"; what is not of the form answers `FF`
 unfoldable pub tryrecordingReplay : List ℕ → List ℕ

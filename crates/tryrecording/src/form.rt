@@ -8,7 +8,7 @@ use text::rest;
 ghost use mathlib.Core.Path.{_≡_};
 ghost use Prim.Native.Nat.{_≤_};
 ghost use lib.ListN.{take};
-ghost use Rattle.tryrecording.specs.Form.{byteCount, bytePart, timePart, timeCount, timesIn, captureLength, mostCaptured, isCapture, kindPart, commandPart, replyPart, isRecording};
+ghost use Rattle.tryrecording.specs.Form.{byteCount, bytePart, timePart, timeCount, timesIn, captureLength, mostCaptured, isCapture, kindPart, commandPart, replyPart, areCaptures, isRecording};
 
 // The most bytes of a capture, and the most times.
 pub(crate) const MOST_CAPTURED: usize = 0x400;
@@ -99,13 +99,10 @@ pub(crate) fn reply_part(args: &[u8]) -> &[u8]
     rest(command, capture_length(command))
 }
 
-// Whether a line is of this form.
-pub(crate) fn is_recording(args: &[u8]) -> bool
-    ensures { λ r. ⌜ r ≡ isRecording (now (args .entry)) ⌝ }
+// Whether two captures stand behind the kinds, and nothing behind them.
+fn are_captures(args: &[u8]) -> bool
+    ensures { λ r. ⌜ r ≡ areCaptures (now (args .entry)) ⌝ }
 {
-    if !are_kinds(kind_part(args)) {
-        return false;
-    }
     if !is_capture(command_part(args)) {
         return false;
     }
@@ -114,4 +111,14 @@ pub(crate) fn is_recording(args: &[u8]) -> bool
         return false;
     }
     reply.len() == capture_length(reply)
+}
+
+// Whether a line is of this form.
+pub(crate) fn is_recording(args: &[u8]) -> bool
+    ensures { λ r. ⌜ r ≡ isRecording (now (args .entry)) ⌝ }
+{
+    if are_kinds(kind_part(args)) {
+        return are_captures(args);
+    }
+    false
 }

@@ -32,7 +32,7 @@ ghost use Rattle.capture.specs.Steps.{outset, leftAt};
 ghost use Rattle.recording.specs.Recording.{powerOf};
 ghost use Rattle.tryrecording.specs.Form.{isRecording};
 ghost use Rattle.tryrecording.specs.Writing.{WroteEach};
-ghost use Rattle.tryrecording.specs.Trying.{stepsOf, headBytes, stateBytes, walkBytes, replayBytes, recordingBytes, tryrecordingReplay};
+ghost use Rattle.tryrecording.specs.Trying.{stepsOf, headBytes, stateBytes, walkBytes, replayBytes, capturedBytes, recordingBytes, tryrecordingReplay};
 ghost use Rattle.tryrecording.specs.Moves.{IsGood};
 
 // The longest answer: number, end and count, 2048 steps of 5 bytes, a session of 1541.
@@ -128,13 +128,12 @@ fn put_replay_bytes<'a>(
     }
 }
 
-// What a line of the form is answered.
-fn put_recording_bytes(out: &mut [u8], args: &[u8]) -> usize
+// What a line of the form is answered, with some kinds.
+fn put_captured_bytes(out: &mut [u8], kinds: [Kind; MOST_NODES], args: &[u8]) -> usize
     requires { ⌜ isRecording (now args) ≡ true ⌝ }
-    ensures { λ r. ⌜ WroteEach (recordingBytes (now (args .entry))) 0 (now (out .entry)) r (now (out .exit)) ⌝ }
+    ensures { λ r. ⌜ WroteEach (capturedBytes kinds (now (args .entry))) 0 (now (out .entry)) r (now (out .exit)) ⌝ }
 {
     let command = command_part(args);
-    let kinds = read_kinds(kind_part(args));
     let reply = reply_part(args);
     let command_times = times_in(command);
     let reply_times = times_in(reply);
@@ -149,6 +148,15 @@ fn put_recording_bytes(out: &mut [u8], args: &[u8]) -> usize
         byte_part(reply),
         &reply_times[0..u],
     )
+}
+
+// With its own.
+fn put_recording_bytes(out: &mut [u8], args: &[u8]) -> usize
+    requires { ⌜ isRecording (now args) ≡ true ⌝ }
+    ensures { λ r. ⌜ WroteEach (recordingBytes (now (args .entry))) 0 (now (out .entry)) r (now (out .exit)) ⌝ }
+{
+    let kinds = read_kinds(kind_part(args));
+    put_captured_bytes(out, kinds, args)
 }
 
 // `n KIND*n CAPTURE CAPTURE`: its answer goes to the start of `out`, each byte that has room, and the rest stays; how many bytes it has.

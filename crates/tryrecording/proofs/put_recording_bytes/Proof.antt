@@ -1,6 +1,6 @@
--- The parts of the line.
+-- The kinds of the line.
 use borrow.Author.Needs.{needs}
-use Rattle.tryrecording.proofs.Tries.{command-few, reply-few, command-fits, reply-fits, part-few, shows-recording}
+use Rattle.tryrecording.proofs.Tries.{shows-recording}
 use Rattle.tryrecording.proofs.put_recording_bytes.Statement.{statement}
 use Rattle.tryrecording.proofs.put_recording_bytes.Tie as tie
 
@@ -10,21 +10,6 @@ put-recording-bytes-spec =
     (tie.spec
     (λ c κs. search needs)
     (λ c κs. search needs)
-    (λ c κs. search command-few)
-    (λ c κs. search reply-few)
     (λ c κs. search needs)
-    (λ c. search needs)
-    (λ c κs. search needs)
-    (λ c. search needs)
-    (λ c κs. search needs)
-    (λ c κs. search needs)
-    (λ c. search needs)
-    (λ c. search needs)
-    (λ c. search (needs, command-fits))
-    (λ c κs. search needs)
-    (λ c. search needs)
-    (λ c. search needs)
-    (λ c. search (needs, reply-fits))
-    (λ c κs. (search (needs, part-few), search (needs, part-few)))
     (λ c. search needs)
     (λ c. search shows-recording))

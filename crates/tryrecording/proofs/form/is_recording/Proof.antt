@@ -1,6 +1,6 @@
--- By the tests, in order.
+-- By the kinds.
 use borrow.Author.Needs.{needs}
-use Rattle.tryrecording.proofs.Forms.{no-kinds, no-command, no-reply, nothing-behind}
+use Rattle.tryrecording.proofs.Forms.{no-kinds, with-kinds}
 use Rattle.tryrecording.proofs.form.is_recording.Statement.{statement}
 use Rattle.tryrecording.proofs.form.is_recording.Tie as tie
 
@@ -10,12 +10,6 @@ is-recording-spec =
     (tie.spec
     (λ c κs. search needs)
     (λ c κs. search needs)
-    (λ c. search no-kinds)
     (λ c κs. search needs)
-    (λ c κs. search needs)
-    (λ c. search no-command)
-    (λ c κs. search needs)
-    (λ c κs. search needs)
-    (λ c. search no-reply)
-    (λ c κs. search needs)
-    (λ c. search nothing-behind))
+    (λ c. search with-kinds)
+    (λ c. search no-kinds))

@@ -10,8 +10,7 @@ use survey::Survey;
 use wire::Kind;
 ghost use mathlib.Core.Path.{_≡_};
 ghost use Rattle.wire.specs.Kind.{isGate};
-ghost use Rattle.wire.specs.declared.kind.Kind.the-variants.{Gate, Drive};
-ghost use Rattle.node.specs.Node.{takeAs};
+ghost use Rattle.node.specs.Node.{takeGate, takeDrive};
 ghost use Rattle.survey.specs.Survey.{chainStart, surveyWith, surveyAlone};
 ghost use Rattle.survey.specs.Decision.{spanOf};
 
@@ -82,7 +81,7 @@ pub(crate) fn is_gate(n: Node) -> bool
 
 // A node that acts, as a gate takes what the packet says to gates.
 pub(crate) fn take_gate(n: Node, d: Decided) -> Node
-    ensures { λ r. ⌜ r ≡ takeAs Gate (d .messages .gate) n ⌝ }
+    ensures { λ r. ⌜ r ≡ takeGate (d .messages .gate) n ⌝ }
 {
     let messages = d.messages;
     let message = messages.gate;
@@ -91,7 +90,7 @@ pub(crate) fn take_gate(n: Node, d: Decided) -> Node
 
 // As a drive takes what it says to drives.
 pub(crate) fn take_drive(n: Node, d: Decided) -> Node
-    ensures { λ r. ⌜ r ≡ takeAs Drive (d .messages .drive) n ⌝ }
+    ensures { λ r. ⌜ r ≡ takeDrive (d .messages .drive) n ⌝ }
 {
     let messages = d.messages;
     let message = messages.drive;

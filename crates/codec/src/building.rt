@@ -10,13 +10,12 @@ use command::Stop;
 use wire::Address;
 use wire::Refusal;
 ghost use mathlib.Core.Path.{_≡_};
-ghost use Prim.Native.Nat.{_%_, _/_};
-ghost use mathlib.Core.List.{[], _∷_, _++_};
+ghost use mathlib.Core.List.{_∷_, _++_};
 ghost use lib.ListN.{take};
 ghost use Rattle.wire.specs.Promise.{Lending};
 ghost use Rattle.buffer.specs.Buffer.{builtNumber, written};
 ghost use Rattle.codec.specs.Build.{groupByte, bytesIf, longBytes, loadData, gainData, stopData, ownData, packetTo, codecBuild};
-ghost use Rattle.codec.specs.Filling.{commandHead, filled};
+ghost use Rattle.codec.specs.Filling.{commandHead, filled, fourData, wordData, byteData};
 
 // The second data byte of Set Address: the group, with bit 7 clear for a leader.
 fn group_byte(p: Place) -> u8
@@ -27,7 +26,7 @@ fn group_byte(p: Place) -> u8
 }
 
 // The command byte: how many data bytes, and the command.
-fn head(c: Command) -> u8
+fn command_head(c: Command) -> u8
     ensures { λ r. ⌜ r ≡ commandHead c ⌝ }
 {
     match c {
@@ -52,21 +51,21 @@ fn head(c: Command) -> u8
 
 // Up to four data bytes, and zeros behind them.
 fn four_data(one: u8, two: u8, three: u8, four: u8) -> [u8; 14]
-    ensures { λ r. ⌜ r ≡ filled (one ∷ two ∷ three ∷ four ∷ []) ⌝ }
+    ensures { λ r. ⌜ r ≡ fourData one two three four ⌝ }
 {
     [one, two, three, four, 0, 0, 0, 0, 0, 0, 0, 0, 0, 0]
 }
 
 // A word's two bytes, least significant first, and two more.
 fn word_data(w: u16, third: u8, fourth: u8) -> [u8; 14]
-    ensures { λ r. ⌜ r ≡ filled (w % 256 ∷ w / 256 ∷ third ∷ fourth ∷ []) ⌝ }
+    ensures { λ r. ⌜ r ≡ wordData w third fourth ⌝ }
 {
     four_data((w % 256) as u8, (w / 256) as u8, third, fourth)
 }
 
 // A byte, if it is brought.
 fn byte_data(brought: bool, b: u8) -> [u8; 14]
-    ensures { λ r. ⌜ r ≡ filled (bytesIf brought (b ∷ [])) ⌝ }
+    ensures { λ r. ⌜ r ≡ byteData brought b ⌝ }
 {
     if brought {
         return four_data(b, 0, 0, 0);
@@ -178,7 +177,7 @@ fn own_data(c: Command) -> [u8; 14]
 pub fn put_packet_to(a: u8, c: Command, out: &mut [u8]) -> Built
     ensures { λ r. ⌜ Lending builtNumber r (now (out .exit)) (written (packetTo a c) (now (out .entry))) ⌝ }
 {
-    let command_byte = head(c);
+    let command_byte = command_head(c);
     let bytes = own_data(c);
     let count = (command_byte / 16) as usize;
     packet::build(a, command_byte % 16, &bytes[..count], out)

@@ -8,14 +8,11 @@ use command::Command;
 use command::Reading;
 use command::Stop;
 ghost use mathlib.Core.Path.{_≡_};
-ghost use lib.ListN.{length};
-ghost use Rattle.command.specs.declared.Reading.the-variants.{Known};
-ghost use Rattle.codec.specs.Reading.{ifCounted};
-ghost use Rattle.codec.specs.Own.{ownLoad, ownGain, ownStop, driveOwn};
+ghost use Rattle.codec.specs.Own.{ownPlain, ownLoad, ownGain, ownStop, driveOwn};
 
 // One without data bytes.
 fn own_plain(c: Command, bytes: &[u8]) -> Reading
-    ensures { λ r. ⌜ r ≡ ifCounted (length (now (bytes .entry))) 0 (Known c) ⌝ }
+    ensures { λ r. ⌜ r ≡ ownPlain c (now (bytes .entry)) ⌝ }
 {
     if bytes.len() != 0 {
         return Reading::Other;

@@ -16,10 +16,9 @@ ghost use Prim.Native.Nat.{_%_, _/_};
 ghost use mathlib.Core.List.{[], _∷_};
 ghost use lib.ListN.{getD};
 ghost use Rattle.buffer.specs.Wide.{wordOf, longOf};
-ghost use Rattle.command.specs.declared.Command.the-variants.{SetAddress, LoadTrajectory, StopMotor};
 ghost use Rattle.command.specs.declared.Reading.the-variants.{Known, Other};
-ghost use Rattle.codec.specs.Reading.{wordAt, longIf, byteIf, placeOf, loadCount, motionOf, gainsOf, stopCount, stopOf, ifCounted, ranged, gained, codecRead, readingsOf};
-ghost use Rattle.codec.specs.Looking.{alikeOf, listedOf, wideRows};
+ghost use Rattle.codec.specs.Reading.{wordAt, longIf, byteIf, loadCount, motionOf, gainsOf, ranged, codecRead, readingsOf};
+ghost use Rattle.codec.specs.Looking.{alikeOf, placingOf, loadingOf, gainingOf, stoppingOf, listedOf, wideRows};
 
 // What a packet says to each kind of node.
 pub struct Readings {
@@ -86,7 +85,7 @@ fn byte_if(brought: bool, bytes: &[u8], at: u8) -> u8
 }
 
 // A command, if its values are of their ranges; else another one.
-fn in_range(c: Command) -> Reading
+fn ranged(c: Command) -> Reading
     ensures { λ r. ⌜ r ≡ ranged c ⌝ }
 {
     if c.fits() {
@@ -97,7 +96,7 @@ fn in_range(c: Command) -> Reading
 
 // Set Address, of its two data bytes: any second byte gives a group.
 fn placing(address: u8, group: u8) -> Reading
-    ensures { λ r. ⌜ r ≡ ranged (SetAddress (placeOf address group)) ⌝ }
+    ensures { λ r. ⌜ r ≡ placingOf address group ⌝ }
 {
     if 0x80 <= address {
         return Reading::Other;
@@ -136,17 +135,17 @@ pub(crate) fn motion_of(bytes: &[u8]) -> Motion
 
 // Load Trajectory of so many data bytes.
 fn loading(count: u8, bytes: &[u8]) -> Reading
-    ensures { λ r. ⌜ r ≡ ifCounted count (loadCount (getD (now (bytes .entry)) 0 0)) (ranged (LoadTrajectory (motionOf (now (bytes .entry))))) ⌝ }
+    ensures { λ r. ⌜ r ≡ loadingOf count (now (bytes .entry)) ⌝ }
 {
     if count != load_count(byte(bytes, 0)) {
         return Reading::Other;
     }
-    in_range(Command::LoadTrajectory(motion_of(bytes)))
+    ranged(Command::LoadTrajectory(motion_of(bytes)))
 }
 
 // Load Trajectory of two data bytes, which a gate reads as Set PWM: only a PWM value is brought, else it is none.
 fn loading_two(bytes: &[u8]) -> Reading
-    ensures { λ r. ⌜ r ≡ ifCounted 2 (loadCount (getD (now (bytes .entry)) 0 0)) (ranged (LoadTrajectory (motionOf (now (bytes .entry))))) ⌝ }
+    ensures { λ r. ⌜ r ≡ loadingOf 2 (now (bytes .entry)) ⌝ }
 {
     if byte(bytes, 0) % 16 != 8 {
         return Reading::Other;
@@ -172,7 +171,7 @@ pub(crate) fn gains_of(bytes: &[u8]) -> Gains
 
 // Set Gain of so many data bytes.
 fn gaining(count: u8, bytes: &[u8]) -> Reading
-    ensures { λ r. ⌜ r ≡ ifCounted count 14 (gained (now (bytes .entry))) ⌝ }
+    ensures { λ r. ⌜ r ≡ gainingOf count (now (bytes .entry)) ⌝ }
 {
     if count != 14 {
         return Reading::Other;
@@ -180,25 +179,25 @@ fn gaining(count: u8, bytes: &[u8]) -> Reading
     if byte(bytes, 9) != 0 {
         return Reading::Other;
     }
-    in_range(Command::SetGain(gains_of(bytes)))
+    ranged(Command::SetGain(gains_of(bytes)))
 }
 
 // Stop Motor of so many data bytes.
 fn stopping(count: u8, bytes: &[u8]) -> Reading
-    ensures { λ r. ⌜ r ≡ ifCounted count (stopCount (getD (now (bytes .entry)) 0 0)) (ranged (StopMotor (stopOf (now (bytes .entry))))) ⌝ }
+    ensures { λ r. ⌜ r ≡ stoppingOf count (now (bytes .entry)) ⌝ }
 {
     let stop = byte(bytes, 0);
     if count != 1 + stop / 16 % 2 * 4 {
         return Reading::Other;
     }
-    in_range(Command::StopMotor(Stop {
+    ranged(Command::StopMotor(Stop {
         position: long_if(command::is_stop_here(stop), bytes, 1),
         byte: stop,
     }))
 }
 
 // A drive's commands that have data bytes: apart, so that what is said to gates doesn't wait for them.
-fn wide(head: u8, bytes: &[u8]) -> Reading
+fn wide_rows(head: u8, bytes: &[u8]) -> Reading
     ensures { λ r. ⌜ r ≡ wideRows (head % 16) (head / 16) (now (bytes .entry)) ⌝ }
 {
     match head % 16 {
@@ -268,7 +267,7 @@ fn listed(head: u8, one: u8, two: u8, three: u8, four: u8, bytes: &[u8]) -> Read
         0x18 => for_gate(Command::SetTimerMode(one)),
         0x0C => for_gate(Command::SynchInput),
         0x00 => for_drive(Reading::Known(Command::ResetPosition)),
-        _ => for_drive(wide(head, bytes)),
+        _ => for_drive(wide_rows(head, bytes)),
     }
 }
 

@@ -4,6 +4,7 @@ use mathlib.Core.Bool.{Bool, true, false, cond, _||_}
 use lib.Dec.{leb}
 use Rattle.wire.specs.Kind.{isGate}
 use Rattle.wire.specs.declared.kind.Kind.{Kind}
+use Rattle.wire.specs.declared.kind.Kind.the-variants.{Gate, Drive}
 use Rattle.command.specs.declared.Command.{Command}
 use Rattle.command.specs.declared.Role.{Role}
 use Rattle.command.specs.declared.Role.the-variants.{Plain, Places, Masks, Captures, Zeroes, Idles, Resets}
@@ -80,6 +81,13 @@ abbrev pub takeAs : Kind → Message → Node → Node
 takeAs k (Intact c) n = cond (doesHeed k (roleOf c)) (actAs k c n) n
 takeAs k Other n = n
 takeAs k Spoilt n = n
+
+-- as a gate takes it, and as a drive
+abbrev pub takeGate : Message → Node → Node
+takeGate h n = takeAs Gate h n
+
+abbrev pub takeDrive : Message → Node → Node
+takeDrive h n = takeAs Drive h n
 
 -- a node takes a packet as its kind does
 abbrev pub takeOf : Message → Node → Node

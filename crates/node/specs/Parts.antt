@@ -1,6 +1,7 @@
 -- Serves private contracts: the table of effects, part by part, as the code has the settings.
 use Prim.Native.Nat.{ℕ}
 use mathlib.Core.Bool.{cond}
+use Rattle.wire.specs.declared.kind.Kind.the-variants.{Gate, Drive}
 use Rattle.command.specs.declared.Place.{Place}
 use Rattle.command.specs.declared.Motion.{Motion}
 use Rattle.command.specs.declared.Command.{Command}
@@ -15,7 +16,9 @@ use Rattle.node.specs.declared.gate.GateSettings.{GateSettings}
 use Rattle.node.specs.declared.drive.DriveSettings.{DriveSettings}
 use Rattle.node.specs.declared.state.Settings.{Settings}
 use Rattle.node.specs.Setting.{MotionPart, getMotion, makeMotion}
-use Rattle.node.specs.Effect.{settingsPowerUp, brings, settingsAfter}
+use Rattle.node.specs.declared.state.Node.{Node}
+use Rattle.node.specs.Effect.{settingsPowerUp, brings, settingsAfter, ownAfter}
+use Rattle.node.specs.Node.{actAs}
 
 -- what is no command of ours is as a Nop
 abbrev pub messageRole : Message → Role
@@ -36,6 +39,19 @@ gateAfter c g = settingsAfter c (withGate g) .gate
 
 abbrev pub driveAfter : Command → DriveSettings → DriveSettings
 driveAfter c d = settingsAfter c (withDrive d) .drive
+
+-- all of a gate's settings after a command, and of a drive's; a node of either kind after it
+abbrev pub afterGate : Command → Settings → Settings
+afterGate c x = ownAfter Gate c x
+
+abbrev pub afterDrive : Command → Settings → Settings
+afterDrive c x = ownAfter Drive c x
+
+abbrev pub actGate : Command → Node → Node
+actGate c n = actAs Gate c n
+
+abbrev pub actDrive : Command → Node → Node
+actDrive c n = actAs Drive c n
 
 -- a motion with what a load brings
 abbrev pub loadOf : Motion → Motion → Motion

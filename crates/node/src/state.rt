@@ -9,10 +9,9 @@ use wire::Group;
 use wire::Individual;
 use wire::Kind;
 ghost use mathlib.Core.Path.{_≡_};
-ghost use Rattle.wire.specs.declared.kind.Kind.the-variants.{Gate, Drive};
-ghost use Rattle.node.specs.Effect.{placePowerUp, settingsPowerUp, settingsAfter, ownAfter};
-ghost use Rattle.node.specs.Node.{nothing, powerUp, doesHeed, addressedAfter, capturedAfter, positionAfter, actAs, takeAs, takeOf, shownOf, maskAfter};
-ghost use Rattle.node.specs.Parts.{messageRole, placeBy, maskBy};
+ghost use Rattle.node.specs.Effect.{placePowerUp, settingsPowerUp, settingsAfter};
+ghost use Rattle.node.specs.Node.{nothing, powerUp, doesHeed, addressedAfter, capturedAfter, positionAfter, takeGate, takeDrive, takeOf, shownOf, maskAfter};
+ghost use Rattle.node.specs.Parts.{messageRole, actGate, actDrive, placeBy, maskBy, afterGate, afterDrive};
 
 // The settings: every node's place and mask, and what its kind has of its own. A node has no use for the other kind's, and leaves them as they are.
 pub struct Settings {
@@ -162,7 +161,7 @@ impl Node {
 
     // The node after a command, as a gate takes it: a drive's part is not looked at.
     fn act_gate(self, c: Command) -> Node
-        ensures { λ r. ⌜ r ≡ actAs Gate c self ⌝ }
+        ensures { λ r. ⌜ r ≡ actGate c self ⌝ }
     {
         let role = c.role();
         let kind = self.kind;
@@ -181,7 +180,7 @@ impl Node {
 
     // As a drive takes it: a gate's part is not looked at.
     fn act_drive(self, c: Command) -> Node
-        ensures { λ r. ⌜ r ≡ actAs Drive c self ⌝ }
+        ensures { λ r. ⌜ r ≡ actDrive c self ⌝ }
     {
         let role = c.role();
         let kind = self.kind;
@@ -201,7 +200,7 @@ impl Node {
     // The node after a packet, as a gate takes it: another command and a wrong sum change nothing.
     // Who walks along a table asks for the kind there, and stores what this gives: so the other kind's part is not copied.
     pub fn take_gate(self, message: Message) -> Node
-        ensures { λ r. ⌜ r ≡ takeAs Gate message self ⌝ }
+        ensures { λ r. ⌜ r ≡ takeGate message self ⌝ }
     {
         match message {
             Message::Intact(c) => self.act_gate(c),
@@ -212,7 +211,7 @@ impl Node {
 
     // As a drive takes it.
     pub fn take_drive(self, message: Message) -> Node
-        ensures { λ r. ⌜ r ≡ takeAs Drive message self ⌝ }
+        ensures { λ r. ⌜ r ≡ takeDrive message self ⌝ }
     {
         match message {
             Message::Intact(c) => {
@@ -368,7 +367,7 @@ impl Settings {
 
     // A gate's, after a command.
     fn after_gate(self, c: Command) -> Settings
-        ensures { λ r. ⌜ r ≡ ownAfter Gate c self ⌝ }
+        ensures { λ r. ⌜ r ≡ afterGate c self ⌝ }
     {
         let drive = self.drive;
         let gate = self.gate;
@@ -383,7 +382,7 @@ impl Settings {
 
     // A drive's, after a command.
     fn after_drive(self, c: Command) -> Settings
-        ensures { λ r. ⌜ r ≡ ownAfter Drive c self ⌝ }
+        ensures { λ r. ⌜ r ≡ afterDrive c self ⌝ }
     {
         let drive = self.drive;
         let gate = self.gate;

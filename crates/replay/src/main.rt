@@ -1,14 +1,19 @@
 // The program `replay`: the text of a recording on standard input, and on standard output what each packet says and did, and the host's record at the end;
 // or why not, in a line on standard error.
+mod drive;
+mod gate;
+mod kinds;
 mod packets;
 mod record;
 mod runs;
+mod setting;
+mod values;
 mod words;
 mod writing;
 
 use libc::STDERR_FILENO;
 use libc::STDIN_FILENO;
-use text::Decimal;
+use wire::Kind;
 use wire::MOST_NODES;
 ghost use mathlib.Core.Path.{_≡_};
 ghost use lib.ListN.{length, take};
@@ -50,19 +55,6 @@ fn say_line(number: usize, words: &[u8]) {
     say(words);
 }
 
-// The node count that a line is; 0 where it is none.
-fn node_count(line: &[u8]) -> u8 {
-    match text::read_decimal(line) {
-        Decimal::Value(n) => {
-            if MOST_NODES < n as usize {
-                return 0;
-            }
-            n
-        }
-        Decimal::Malformed => 0,
-    }
-}
-
 // The first n times; all of them where there are fewer.
 fn first_times(times: &[u32], n: usize) -> &[u32]
     ensures { λ r. ⌜ now r ≡ take n (now (times .entry)) ⌝ }
@@ -74,7 +66,7 @@ fn first_times(times: &[u32], n: usize) -> &[u32]
 }
 
 // Walks through the runs, all of the form, and writes the record.
-fn walk(nodes: u8, text: &[u8]) {
+fn walk(n: u8, kinds: [Kind; MOST_NODES], text: &[u8]) {
     let mut command = bytes_room();
     let mut command_times = times_room();
     let mut reply = bytes_room();
@@ -82,7 +74,8 @@ fn walk(nodes: u8, text: &[u8]) {
     let sent = runs::gather(text, runs::COMMAND, &mut command, &mut command_times);
     let came = runs::gather(text, runs::REPLY, &mut reply, &mut reply_times);
     let session = packets::replay(
-        nodes,
+        n,
+        kinds,
         text::first(&command, sent),
         first_times(&command_times, sent),
         text::first(&reply, came),
@@ -92,7 +85,7 @@ fn walk(nodes: u8, text: &[u8]) {
 }
 
 // Looks at all lines of runs before the first is walked through.
-fn check_and_walk(nodes: u8, text: &[u8]) {
+fn check_and_walk(n: u8, kinds: [Kind; MOST_NODES], text: &[u8]) {
     let seen = runs::survey(text);
     if 0 < seen.malformed {
         say_line(seen.malformed, b": not a run of bytes\n");
@@ -105,22 +98,26 @@ fn check_and_walk(nodes: u8, text: &[u8]) {
         );
         return;
     }
-    walk(nodes, text);
+    walk(n, kinds, text);
 }
 
 fn main() {
     let mut room = input_room();
-    let n = io::read_full(STDIN_FILENO, &mut room);
-    if MOST < n {
+    let size = io::read_full(STDIN_FILENO, &mut room);
+    if MOST < size {
         say(b"the recording is longer than 64 KiB\n");
         return;
     }
-    let input = &room[..n];
+    let input = &room[..size];
     let line = text::first_line(input);
-    let nodes = node_count(line);
-    if nodes < 1 {
-        say(b"the first line is not a node count, 1 to 31\n");
+    let n = kinds::read_count(line);
+    if n < 1 {
+        say(b"the first line is not a node count, 1 to 31, alone or with the kind of each node\n");
         return;
     }
-    check_and_walk(nodes, text::rest(input, line.len() + 1));
+    check_and_walk(
+        n,
+        kinds::read_kinds(line),
+        text::rest(input, line.len() + 1),
+    );
 }

@@ -1,27 +1,25 @@
 // The host's record: which settings one shows otherwise than another, and its lines.
-use crate::words::put_held;
-use crate::words::put_place;
-use crate::words::put_pwm;
+use crate::drive::DriveChosen;
+use crate::gate::GateChosen;
+use crate::setting::put_doubt;
+use crate::setting::put_name;
+use crate::values::put_place;
 use crate::writing::put;
 use crate::writing::put_byte;
 use crate::writing::put_decimal;
-use crate::writing::put_word;
-use command::Held;
 use command::Place;
-use command::Pwm;
 use entry::Entry;
 use session::Session;
 use session::Shown;
 use wire::Individual;
+use wire::Kind;
 
-// Some of a node's six settings.
+// Some of a node's settings; those of the other kind are of no use.
 struct Chosen {
     place: bool,
     mask: bool,
-    outputs: bool,
-    pwm: bool,
-    held: bool,
-    timer: bool,
+    gate: GateChosen,
+    drive: DriveChosen,
 }
 
 // ---- what differs
@@ -30,24 +28,12 @@ fn is_other_place(a: Place, b: Place) -> bool {
     (a.address.0 != b.address.0) | (a.group.0 != b.group.0) | (a.leader != b.leader)
 }
 
-fn is_other_pwm(a: Pwm, b: Pwm) -> bool {
-    (a.first != b.first) | (a.second != b.second)
-}
-
-fn is_other_held(a: Held, b: Held) -> bool {
-    let p = a.pwm;
-    let q = b.pwm;
-    (a.outputs != b.outputs) | is_other_pwm(p, q)
-}
-
 impl Chosen {
     const ALL: Chosen = Chosen {
         place: true,
         mask: true,
-        outputs: true,
-        pwm: true,
-        held: true,
-        timer: true,
+        gate: GateChosen::ALL,
+        drive: DriveChosen::ALL,
     };
 
     // Those whose value, or whether it is in doubt, differs between two entries.
@@ -59,96 +45,52 @@ impl Chosen {
         Chosen {
             place: is_other_place(s.place, t.place) | (k.place != l.place),
             mask: (s.mask != t.mask) | (k.mask != l.mask),
-            outputs: (s.outputs != t.outputs) | (k.outputs != l.outputs),
-            pwm: is_other_pwm(s.pwm, t.pwm) | (k.pwm != l.pwm),
-            held: is_other_held(s.held, t.held) | (k.held != l.held),
-            timer: (s.timer != t.timer) | (k.timer != l.timer),
+            gate: GateChosen::changed(s.gate, k.gate, t.gate, l.gate),
+            drive: DriveChosen::changed(s.drive, k.drive, t.drive, l.drive),
         }
     }
 
-    // Whether there is one; and one behind each of the first five, which has a comma then.
-    fn has_any(self) -> bool {
-        self.place | self.has_behind_place()
-    }
-
-    fn has_behind_place(self) -> bool {
-        self.mask | self.has_behind_mask()
-    }
-
-    fn has_behind_mask(self) -> bool {
-        self.outputs | self.has_behind_outputs()
-    }
-
-    fn has_behind_outputs(self) -> bool {
-        self.pwm | self.has_behind_pwm()
-    }
-
-    fn has_behind_pwm(self) -> bool {
-        self.held | self.timer
+    // Whether a node of this kind has one of them.
+    fn has_any(self, kind: Kind) -> bool {
+        let gate = self.gate;
+        let drive = self.drive;
+        let own = match kind {
+            Kind::Gate => gate.has_any(),
+            Kind::Drive => drive.has_any(),
+        };
+        self.place | self.mask | own
     }
 }
 
 // ---- one node
 
-// What stands behind a setting's value: whether it is in doubt, and a comma where another setting follows.
-fn put_state(known: bool, more: bool) {
-    if !known {
-        put(b" in doubt");
-    }
-    if more {
-        put(b", ");
-    }
-}
-
-// The first three of the chosen settings.
-fn put_first(e: Entry, chosen: Chosen) {
+// The chosen settings of an entry, in the sequence of RECORDINGS' tables.
+fn put_settings(e: Entry, chosen: Chosen) {
     let settings = e.settings;
     let known = e.known;
+    let gate = chosen.gate;
+    let drive = chosen.drive;
     if chosen.place {
         put(b"place ");
         put_place(settings.place);
-        put_state(known.place, chosen.has_behind_place());
+        put_doubt(known.place);
     }
     if chosen.mask {
-        put(b"mask ");
+        put_name(chosen.place, b"mask ");
         put_byte(settings.mask);
-        put_state(known.mask, chosen.has_behind_mask());
+        put_doubt(known.mask);
     }
-    if chosen.outputs {
-        put(b"outputs ");
-        put_word(settings.outputs);
-        put_state(known.outputs, chosen.has_behind_outputs());
-    }
-}
-
-// The other three.
-fn put_second(e: Entry, chosen: Chosen) {
-    let settings = e.settings;
-    let known = e.known;
-    if chosen.pwm {
-        put(b"PWM ");
-        put_pwm(settings.pwm);
-        put_state(known.pwm, chosen.has_behind_pwm());
-    }
-    if chosen.held {
-        put(b"held ");
-        put_held(settings.held);
-        put_state(known.held, chosen.timer);
-    }
-    if chosen.timer {
-        put(b"timer ");
-        put_byte(settings.timer);
-        put_state(known.timer, false);
+    let behind = chosen.place | chosen.mask;
+    let kind = e.kind;
+    match kind {
+        Kind::Gate => gate.put(settings.gate, known.gate, behind),
+        Kind::Drive => drive.put(settings.drive, known.drive, behind),
     }
 }
 
-// A node, and the chosen settings of its entry.
-fn put_entry(node: u8, e: Entry, chosen: Chosen) {
+fn put_node_name(node: u8) {
     put(b"node ");
     put_decimal(node as u64);
-    put(b": ");
-    put_first(e, chosen);
-    put_second(e, chosen);
 }
 
 // A node's entry.
@@ -156,7 +98,7 @@ fn entry_of(s: Session, node: u8) -> Entry {
     match session::look(s, Individual(node)) {
         Shown::Found(e) => e,
         // It never comes to this: the nodes are counted to n.
-        Shown::Refused(_) => Entry::power_up(),
+        Shown::Refused(_) => Entry::power_up(Kind::Gate),
     }
 }
 
@@ -167,11 +109,14 @@ fn put_node_changes(before: Session, after: Session, node: u8, some: bool) -> bo
     let old = entry_of(before, node);
     let new = entry_of(after, node);
     let chosen = Chosen::changed(old, new);
-    if chosen.has_any() {
+    let kind = new.kind;
+    if chosen.has_any(kind) {
         if some {
             put(b"; ");
         }
-        put_entry(node, new, chosen);
+        put_node_name(node);
+        put(b": ");
+        put_settings(new, chosen);
         return true;
     }
     some
@@ -211,9 +156,16 @@ fn put_walk(s: Session) {
     }
 }
 
-// A node's line: all of its settings.
+// A node's line: its kind, if it is a drive, and all of its settings.
 fn put_node(s: Session, node: u8) {
-    put_entry(node, entry_of(s, node), Chosen::ALL);
+    let e = entry_of(s, node);
+    put_node_name(node);
+    let kind = e.kind;
+    match kind {
+        Kind::Gate => put(b": "),
+        Kind::Drive => put(b", drive: "),
+    }
+    put_settings(e, Chosen::ALL);
     put(b"\n");
 }
 

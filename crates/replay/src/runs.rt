@@ -88,7 +88,7 @@ fn read_time(s: &[u8]) -> Time
 }
 
 // The part of a text before its first space; all of it where it has none.
-fn first_word(s: &[u8]) -> &[u8] {
+pub(crate) fn first_word(s: &[u8]) -> &[u8] {
     let mut i = 0;
     while i < s.len() {
         if s[i] == SPACE {

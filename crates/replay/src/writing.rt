@@ -22,6 +22,24 @@ pub(crate) fn put_word(w: u16) {
     put_byte((w % 256) as u8);
 }
 
+// Eight.
+pub(crate) fn put_long(v: u32) {
+    put_word((v / 65536) as u16);
+    put_word((v % 65536) as u16);
+}
+
+// A name and a byte.
+pub(crate) fn put_with_byte(name: &[u8], b: u8) {
+    put(name);
+    put_byte(b);
+}
+
+// A name and a word.
+pub(crate) fn put_with_word(name: &[u8], w: u16) {
+    put(name);
+    put_word(w);
+}
+
 // A space and two capitals.
 fn put_next(b: u8) {
     put(b" ");

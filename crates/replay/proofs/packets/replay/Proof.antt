@@ -1,14 +1,12 @@
--- The invariant: from here on the walk comes to the session that `recording::replay` gives; the measure: the bytes that are left.
+-- The invariant: from here on the walk comes to what it comes to from the first stage on; the measure: the bytes that are left.
 use borrow.Author.Needs.{needs}
 use Rattle.capture.specs.Steps.{bytesLeft}
-use Rattle.recording.specs.Recording.{replayOf}
-use Rattle.recording.proofs.Stepping.{Coming, comes-start, comes-less, comes-on, comes-end}
+use Rattle.replay.proofs.Onward.{Onward, onward-start, onward-less, onward-on, onward-end}
 use Rattle.replay.proofs.packets.replay.Statement.{statement}
 use Rattle.replay.proofs.packets.replay.Tie as tie
 
 abbrev Inv-loop : tie.InvT-loop
-Inv-loop n command command-times reply reply-times stage₀ stage =
-    Coming command command-times reply reply-times (replayOf n command command-times reply reply-times .session) stage
+Inv-loop n command command-times reply reply-times stage₀ stage = Onward command command-times reply reply-times stage₀ stage
 
 abbrev μ-loop : tie.MeasureT-loop
 μ-loop n command command-times reply reply-times stage₀ stage = bytesLeft command-times reply-times (stage .at)
@@ -20,9 +18,9 @@ replay-spec =
     Inv-loop
     μ-loop
     (λ c κs. search needs)
-    (λ c. search comes-start)
+    (λ c. search onward-start)
     (λ c κs. search needs)
     (λ c κs. search needs)
-    (λ c. search comes-end)
-    (λ c. search comes-less)
-    (λ c. search comes-on))
+    (λ c. search onward-end)
+    (λ c. search onward-less)
+    (λ c. search onward-on))

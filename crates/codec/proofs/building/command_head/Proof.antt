@@ -2,12 +2,12 @@
 use borrow.Author.Needs.{needs}
 use Rattle.codec.specs.Build.{gainData}
 use Rattle.codec.proofs.Filling.{head-told, load-head, stop-head}
-use Rattle.codec.proofs.building.head.Statement.{statement}
-use Rattle.codec.proofs.building.head.Tie as tie
+use Rattle.codec.proofs.building.command_head.Statement.{statement}
+use Rattle.codec.proofs.building.command_head.Tie as tie
 
-pub head-spec : {M : Type 1} → statement M
+pub command-head-spec : {M : Type 1} → statement M
 unfolding gainData
-head-spec =
+command-head-spec =
     tie.close
     (tie.spec
     (λ c. search needs)

@@ -1,8 +1,0 @@
--- A command of its ranges is known, any other isn't.
-use borrow.Author.Needs.{needs}
-use Rattle.codec.proofs.Looking.{unfitting, fitting}
-use Rattle.codec.proofs.reading.in_range.Statement.{statement}
-use Rattle.codec.proofs.reading.in_range.Tie as tie
-
-pub in-range-spec : {M : Type 1} → statement M
-in-range-spec = tie.close (tie.spec (λ c κs. search needs) (λ c. search fitting) (λ c. search unfitting))

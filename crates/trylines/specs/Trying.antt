@@ -50,9 +50,12 @@ abbrev pub saidBytes : Content → List ℕ
 saidBytes (bytes d) = d
 saidBytes malformed = []
 
+abbrev pub trylinesReadLine : List ℕ → List ℕ
+trylinesReadLine line = saidBytes (bytesIn line)
+
 -- as many as a line of 64 KiB can say
 abbrev pub keptBytes : List ℕ → List ℕ
-keptBytes line = take 21846 (saidBytes (bytesIn line))
+keptBytes line = take 21846 (trylinesReadLine line)
 
 -- "The first byte says what is tried"
 unfoldable pub tryLine : Session → List ℕ → Session

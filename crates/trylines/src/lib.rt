@@ -13,10 +13,9 @@ use tryhost::Tried;
 ghost use mathlib.Core.Path.{_≡_};
 ghost use Prim.Native.Nat.{_≤_};
 ghost use lib.ListN.{length, take};
-ghost use Rattle.hex.specs.Hex.{bytesIn};
 ghost use Rattle.start.specs.Start.{freshOf};
 ghost use Rattle.text.specs.Lines.{linesOf};
-ghost use Rattle.trylines.specs.Trying.{inputRoom, trylinesAnswer, trylinesAttempt, saidBytes, tryBytes, tryLine, tryLines, tryAll};
+ghost use Rattle.trylines.specs.Trying.{inputRoom, trylinesAnswer, trylinesAttempt, trylinesReadLine, tryBytes, tryLine, tryLines, tryAll};
 
 // The longest input.
 const MOST: usize = 65536;
@@ -109,7 +108,7 @@ pub fn attempt(s: Session, kind: u8, args: &[u8]) -> Tried
 
 // Reads a line's bytes; how many. A line that is not of the form has none: it is answered as an empty line is.
 fn read_line(line: &[u8], bytes: &mut [u8]) -> usize
-    ensures { λ r. ⌜ take r (now (bytes .exit)) ≡ take (length (now (bytes .entry))) (saidBytes (bytesIn (now (line .entry)))) ⌝ }
+    ensures { λ r. ⌜ take r (now (bytes .exit)) ≡ take (length (now (bytes .entry))) (trylinesReadLine (now (line .entry))) ⌝ }
 {
     match hex::read_bytes(line, bytes) {
         Parsed::Bytes(n) => n,

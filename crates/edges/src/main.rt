@@ -89,7 +89,7 @@ fn build_nop(kind: u8, address: u8) {
     } else {
         Address::Group(Group(address))
     };
-    let answer = command::build(to, Command::Nop, &mut lent);
+    let answer = codec::build(to, Command::Nop, &mut lent);
     show(
         b"build Nop, kind and address ",
         kind,
@@ -104,7 +104,7 @@ fn build_nop(kind: u8, address: u8) {
 fn build_place(address: u8, group: u8) {
     let mut lent = [0x55; 5];
     let to = Address::Individual(Individual(1));
-    let answer = command::build(to, set_address(address, group), &mut lent);
+    let answer = codec::build(to, set_address(address, group), &mut lent);
     show(
         b"build Set Address, address and group ",
         address,

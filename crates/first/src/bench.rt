@@ -6,6 +6,7 @@ use session::End;
 use session::Session;
 use session::Step;
 use table::Table;
+use wire::Kind;
 
 // The session after an exchange, and the chain.
 pub(crate) struct Show {
@@ -13,18 +14,23 @@ pub(crate) struct Show {
     pub(crate) chain: Table,
 }
 
-// Two nodes that have just powered up.
+// Two gates that have just powered up.
 pub(crate) fn two_nodes() -> Table {
     let bench = Bench {
-        inputs: 0,
         counter: 0,
+        home: 0,
+        inputs: 0,
+        velocity: 0,
+        error: 0,
         analog0: 0,
         analog1: 0,
         analog2: 0,
+        ad: 0,
+        auxiliary: 0,
         id: 0,
         version: 0,
     };
-    let fresh = Node::power_up(bench);
+    let fresh = Node::power_up(Kind::Gate, bench);
     Table {
         nodes: [fresh; table::ROOM],
         count: 2,

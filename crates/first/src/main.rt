@@ -8,12 +8,14 @@ use session::Session;
 use session::Shown;
 use wire::Address;
 use wire::Individual;
+use wire::Kind;
+use wire::MOST_NODES;
 
 // Prints a node's number, whether its outputs are known, and the outputs.
 fn print(s: Session, node: u8) {
     if let Shown::Found(entry) = session::look(s, Individual(node)) {
-        let known = if entry.known.outputs { 1 } else { 0 };
-        let outputs = entry.settings.outputs;
+        let known = if entry.known.gate.outputs { 1 } else { 0 };
+        let outputs = entry.settings.gate.outputs;
         let low = (outputs % 256) as u8;
         let high = (outputs / 256) as u8;
         let mut line = [0; 12];
@@ -25,7 +27,8 @@ fn print(s: Session, node: u8) {
 
 fn main() {
     let mut out = [0; 19];
-    let up = start::power_up(start::fresh(), 2);
+    let kinds = [Kind::Gate; MOST_NODES];
+    let up = start::power_up(start::fresh(), 2, kinds);
     // The walk: each node gets its address.
     let sent = walk::next(up.session, &mut out);
     let first = exchange(bench::two_nodes(), sent, &out);

@@ -33,14 +33,14 @@ pub delivered-put : (d : Delivered) (s : List ℕ) (n k l : ℕ) (a b c e r : An
 unfolding putDelivered
 delivered-put d s n k l a b c e r p q t u v w x = rw (x, w, v, u, t, q, p)
 
-pub delivered-to : (records packet buffer left : List ℕ) (n l : ℕ) (ns : List Node) (d : Delivered) (r : Answer) → ns ≡ readNodes records → l ≡ nodesLength n
+pub delivered-to : (records packet buffer left : List ℕ) (n l : ℕ) (ns : List Node) (d : Delivered) (r : Answer) → ns ≡ readNodes records → l ≡ nodesLength records n
     → packet ≡ drop l records → Lending deliveredNumber d left (tableDeliver (record { nodes = ns; count = n }) packet buffer) → r ≡ putDelivered d left n
     → r ≡ deliverTo records n buffer
 unfolding deliverTo
 delivered-to records packet buffer left n l ns d r p q s k e =
     e ∙ ap (λ (d : Delivered). putDelivered d left n) (k .answer) ∙ ap (λ (left : List ℕ). putDelivered (tableDeliver (record { nodes = ns; count = n }) packet buffer .answer) left n) (k .leaves)
     ∙ ap (λ (packet : List ℕ). putOutcome (tableDeliver (record { nodes = ns; count = n }) packet buffer) n) (s ∙ ap (λ (l : ℕ). drop l records) q)
-    ∙ ap (λ (ns : List Node). putOutcome (tableDeliver (record { nodes = ns; count = n }) (drop (nodesLength n) records) buffer) n) p
+    ∙ ap (λ (ns : List Node). putOutcome (tableDeliver (record { nodes = ns; count = n }) (drop (nodesLength records n) records) buffer) n) p
 
 -- a line that is not of its form, and one that is
 pub not-lending : (args : List ℕ) (t : Bool) (r : Answer) → t ≡ isLending args 2 mostRoom → not t ≡ true → r ≡ malformedOf → r ≡ trychainDeliver args

@@ -33,7 +33,7 @@ putOutcome o n = putDelivered (o .answer) (o .left) n
 
 -- the packet stands behind n node records, "lent, for that line alone"
 unfoldable pub deliverTo : List ℕ → ℕ → List ℕ → Answer
-deliverTo records n buffer = putOutcome (tableDeliver (record { nodes = readNodes records; count = n }) (drop (nodesLength n) records) buffer) n
+deliverTo records n buffer = putOutcome (tableDeliver (record { nodes = readNodes records; count = n }) (drop (nodesLength records n) records) buffer) n
 
 -- "room n NODE*n packet..", else FF
 unfoldable pub trychainDeliver : List ℕ → Answer

@@ -53,7 +53,7 @@ fn deliver_to(records: &[u8], count: usize, lent: &mut [u8]) -> Answer
     ensures { λ r. ⌜ r ≡ deliverTo (now (records .entry)) count (now (lent .entry)) ⌝ }
 {
     let nodes = read_nodes(records);
-    let packet = rest(records, nodes_length(count));
+    let packet = rest(records, nodes_length(records, count));
     let delivered = table::deliver(Table { nodes, count }, packet, lent);
     put_delivered(delivered, lent, count)
 }

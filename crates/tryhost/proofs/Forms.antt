@@ -1,5 +1,5 @@
 -- Whether a line is of its form; a law for each exit of the code.
-use Prim.Native.Nat.{ℕ}
+use Prim.Native.Nat.{ℕ, _+_}
 use mathlib.Core.Bool.{Bool, true, false, not}
 use mathlib.Core.List.{List}
 use mathlib.Core.Path.{_≡_}
@@ -10,10 +10,11 @@ use Rattle.command.specs.declared.Command.{Command}
 use Rattle.command.specs.declared.Role.{Role}
 use Rattle.command.specs.Role.{roleOf, isPlacing}
 use Rattle.fields.specs.Field.{fieldsByte}
+use Rattle.fields.specs.Kind.{areKinds}
 use Rattle.fields.specs.Lending.{mostRoom, isLending}
 use Rattle.state.specs.Order.{isOrder, readCommand}
 use Rattle.state.specs.State.{isState}
-use Rattle.tryhost.specs.Form.{isReadyOrder, isRegroup, isFormed, isSending, isCall}
+use Rattle.tryhost.specs.Form.{isReadyOrder, isRegroup, isFormed, isSending, isPowerUp, isCall}
 
 module _ (s : List ℕ) where
   pub ready-not : (t : Bool) → t ≡ isOrder s → t ≡ false → false ≡ isReadyOrder s
@@ -31,6 +32,14 @@ module _ (s : List ℕ) where
   pub regroup-flag : (k : ℕ) (r : Bool) → length s ≡ 3 → k ≡ fieldsByte s 2 → r ≡ ltb k 2 → r ≡ isRegroup s
   unfolding isRegroup
   regroup-flag k r p q h = rw (eq-eqb (length s) 3 p, ← q) h
+
+  pub power-up-length : (n : ℕ) → n ≡ fieldsByte s 0 → (length s ≡ 1 + n → ⊥) → false ≡ isPowerUp s
+  unfolding isPowerUp
+  power-up-length n p q = rw (← p, ne-eqb (length s) (1 + n) q)
+
+  pub power-up-kinds : (n : ℕ) (b : List ℕ) (r : Bool) → n ≡ fieldsByte s 0 → length s ≡ 1 + n → b ≡ drop 1 s → r ≡ areKinds b → r ≡ isPowerUp s
+  unfolding isPowerUp
+  power-up-kinds n b r p q h i = rw (← p, eq-eqb (length s) (1 + n) q, ← h) i
 
 module _ (s : List ℕ) (kind : ℕ) where
   pub formed-next : (r : Bool) → kind ≡ 0x31 → r ≡ ltb (length s) 1 → r ≡ isFormed kind s
@@ -61,7 +70,7 @@ module _ (s : List ℕ) (kind : ℕ) where
   unfolding isSending
   sending-is t r b p q h i = rw (← p, q, ← h) i
 
-  pub call-power-up : (r : Bool) → kind ≡ 0x30 → r ≡ eqb (length s) 1 → r ≡ isCall kind s
+  pub call-power-up : (r : Bool) → kind ≡ 0x30 → r ≡ isPowerUp s → r ≡ isCall kind s
   unfolding isCall
   call-power-up r p q = rw p q
 

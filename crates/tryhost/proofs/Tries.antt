@@ -3,12 +3,14 @@ use Prim.Native.Nat.{ℕ, _<_, _≤_}
 use mathlib.Core.Bool.{Bool, true, false}
 use mathlib.Core.List.{List, []}
 use mathlib.Core.Path.{_≡_}
-use lib.ListN.{length}
+use lib.ListN.{length, drop}
 use borrow.Author.Tests.{ne-eqb, lt-ltb, le-ltb}
 use Rattle.wire.specs.Promise.{Promise, promised}
 use Rattle.wire.specs.Numbers.{done}
 use Rattle.fields.specs.declared.answer.Answer.{Answer}
+use Rattle.wire.specs.declared.kind.Kind.{Kind}
 use Rattle.fields.specs.Field.{fieldsByte}
+use Rattle.fields.specs.Kind.{readKinds}
 use Rattle.fields.specs.Answer.{fieldsNothing, answerPut, malformedOf}
 use Rattle.session.specs.declared.Session.{Session}
 use Rattle.session.specs.declared.Step.{Step}
@@ -19,15 +21,19 @@ use Rattle.reports.specs.Report.{reportOf, silenceOf}
 use Rattle.state.specs.State.{readState, putState}
 use Rattle.tryhost.specs.declared.Tried.{Tried}
 use Rattle.tryhost.specs.Form.{isCall, isSending}
-use Rattle.tryhost.specs.Trying.{withSession, triedBy, lendOf, handedIn, callOf, showOf, answerTo, attemptOf}
+use Rattle.tryhost.specs.Trying.{withSession, triedBy, lendOf, tryhostPowerUp, handedIn, callOf, showOf, answerTo, attemptOf}
 
 pub hands-in : (args : List ℕ) (s : Session) → s ≡ readState args → Promise stepNumber (record { end = Done; session = s }) (handedIn args)
 hands-in args s e = promised (rw e)
 
+pub powers-up : (s : Session) (args b : List ℕ) (n : ℕ) (ks : List Kind) (r : Step) → b ≡ drop 1 args → ks ≡ readKinds b → n ≡ fieldsByte args 0
+    → Promise stepNumber r (startPowerUp s n ks) → Promise stepNumber r (tryhostPowerUp s args)
+powers-up s args b n ks r p q h l = rw (← p, ← q, ← h) l
+
 module _ (s : Session) (kind : ℕ) (args : List ℕ) where
-  pub calls-power-up : (r : Step) (b : ℕ) → kind ≡ 0x30 → b ≡ fieldsByte args 0 → Promise stepNumber r (startPowerUp s b) → Promise stepNumber r (callOf s kind args)
+  pub calls-power-up : (r : Step) → kind ≡ 0x30 → Promise stepNumber r (tryhostPowerUp s args) → Promise stepNumber r (callOf s kind args)
   unfolding callOf
-  calls-power-up r b p q l = rw (p, ← q) l
+  calls-power-up r p l = rw p l
 
   pub calls-report : (r : Step) → kind ≡ 0x35 → Promise stepNumber r (reportOf s args) → Promise stepNumber r (callOf s kind args)
   unfolding callOf

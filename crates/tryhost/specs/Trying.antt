@@ -8,6 +8,7 @@ use Rattle.wire.specs.Promise.{Outcome}
 use Rattle.wire.specs.Numbers.{done}
 use Rattle.fields.specs.declared.answer.Answer.{Answer}
 use Rattle.fields.specs.Field.{fieldsByte}
+use Rattle.fields.specs.Kind.{readKinds}
 use Rattle.fields.specs.Answer.{fieldsNothing, answerPut, malformedOf, numberedOf}
 use Rattle.fields.specs.Lending.{mostRoom, filledOf, roomOf}
 use Rattle.session.specs.declared.Session.{Session}
@@ -51,6 +52,10 @@ sendLent s kind args out = triedBy (sendOf s kind args out .answer) (sendOf s ki
 unfoldable pub lendOf : Session → ℕ → List ℕ → Tried
 lendOf s kind args = sendLent s kind (drop 1 args) (take (roomOf args mostRoom) filledOf)
 
+-- "30 n KIND*n": power-up
+abbrev pub tryhostPowerUp : Session → List ℕ → Step
+tryhostPowerUp s args = startPowerUp s (fieldsByte args 0) (readKinds (drop 1 args))
+
 -- "38 STATE": hand in a session made by hand
 abbrev pub handedIn : List ℕ → Step
 handedIn args = record { end = Done; session = readState args }
@@ -58,7 +63,7 @@ handedIn args = record { end = Done; session = readState args }
 -- 30 power-up, 35 report, 36 silence, 38 hand in: these lend nothing
 unfoldable pub callOf : Session → ℕ → List ℕ → Step
 callOf s kind args =
-    cond (eqb kind 0x30) (startPowerUp s (fieldsByte args 0))
+    cond (eqb kind 0x30) (tryhostPowerUp s args)
     (cond (eqb kind 0x35) (reportOf s args)
     (cond (eqb kind 0x36) (silenceOf s)
     (handedIn args)))

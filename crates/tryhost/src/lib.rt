@@ -4,12 +4,14 @@
 // Left to others: what the calls do (start, walk, host, reports), and how a session is written (state).
 use fields::Answer;
 use fields::MOST_ROOM;
+use fields::are_kinds;
 use fields::byte;
 use fields::filled;
 use fields::is_lending;
 use fields::malformed;
 use fields::nothing;
 use fields::numbered;
+use fields::read_kinds;
 use fields::room;
 use session::End;
 use session::Session;
@@ -26,8 +28,8 @@ use wire::Individual;
 ghost use mathlib.Core.Path.{_≡_};
 ghost use Rattle.wire.specs.Promise.{Promise, Lending};
 ghost use Rattle.session.specs.Session.{stepNumber};
-ghost use Rattle.tryhost.specs.Form.{isReadyOrder, isRegroup, isFormed, isSending, isCall};
-ghost use Rattle.tryhost.specs.Trying.{withSession, triedBy, tryhostRegroup, sendOf, sendLent, lendOf, handedIn, callOf, showOf, answerTo, attemptOf};
+ghost use Rattle.tryhost.specs.Form.{isReadyOrder, isRegroup, isFormed, isSending, isPowerUp, isCall};
+ghost use Rattle.tryhost.specs.Trying.{withSession, triedBy, tryhostRegroup, sendOf, sendLent, lendOf, tryhostPowerUp, handedIn, callOf, showOf, answerTo, attemptOf};
 
 // What a line makes: its answer, and the session after it.
 pub struct Tried {
@@ -42,7 +44,7 @@ pub fn with_session(answer: Answer, session: Session) -> Tried
     Tried { answer, session }
 }
 
-// Whether s is an ORDER of a ready session: Set Address is not among its ten commands.
+// Whether s is an ORDER of a ready session: every command but Set Address.
 fn is_ready_order(s: &[u8]) -> bool
     ensures { λ r. ⌜ r ≡ isReadyOrder (now (s .entry)) ⌝ }
 {
@@ -85,12 +87,22 @@ fn is_sending(kind: u8, args: &[u8]) -> bool
     false
 }
 
+// `n KIND*n`: as many kinds as n says, whether or not a chain may have so many nodes.
+fn is_power_up(s: &[u8]) -> bool
+    ensures { λ r. ⌜ r ≡ isPowerUp (now (s .entry)) ⌝ }
+{
+    if s.len() != 1 + byte(s, 0) as usize {
+        return false;
+    }
+    are_kinds(rest(s, 1))
+}
+
 // Whether a line is a call that lends nothing, of its form.
 fn is_call(kind: u8, args: &[u8]) -> bool
     ensures { λ r. ⌜ r ≡ isCall kind (now (args .entry)) ⌝ }
 {
     match kind {
-        0x30 => args.len() == 1,
+        0x30 => is_power_up(args),
         0x35 => true,
         0x36 => args.len() < 1,
         0x38 => is_state(args),
@@ -145,6 +157,14 @@ fn lend(s: Session, kind: u8, args: &[u8]) -> Tried
     send_lent(s, kind, rest(args, 1), &mut buffer[0..room])
 }
 
+// `n KIND*n`.
+fn power_up(s: Session, args: &[u8]) -> Step
+    ensures { λ r. ⌜ Promise stepNumber r (tryhostPowerUp s (now (args .entry))) ⌝ }
+{
+    let kinds = read_kinds(rest(args, 1));
+    start::power_up(s, byte(args, 0), kinds)
+}
+
 // The session that is handed in.
 fn handed_in(args: &[u8]) -> Step
     ensures { λ r. ⌜ Promise stepNumber r (handedIn (now (args .entry))) ⌝ }
@@ -161,7 +181,7 @@ fn call(s: Session, kind: u8, args: &[u8]) -> Step
     ensures { λ r. ⌜ Promise stepNumber r (callOf s kind (now (args .entry))) ⌝ }
 {
     match kind {
-        0x30 => start::power_up(s, byte(args, 0)),
+        0x30 => power_up(s, args),
         0x35 => reports::report(s, args),
         0x36 => reports::silence(s),
         _ => handed_in(args),

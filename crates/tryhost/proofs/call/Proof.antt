@@ -12,7 +12,6 @@ call-spec =
     (λ c κs. search needs)
     (λ c κs. search needs)
     (λ c κs. search needs)
-    (λ c κs. search needs)
     (λ c. search calls-power-up)
     (λ c. search calls-report)
     (λ c. search calls-silence)

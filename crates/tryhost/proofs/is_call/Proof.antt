@@ -9,6 +9,7 @@ is-call-spec =
     tie.close
     (tie.spec
     (λ c κs. search needs)
+    (λ c κs. search needs)
     (λ c. search call-power-up)
     (λ c. search call-report)
     (λ c. search call-silence)

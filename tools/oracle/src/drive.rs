@@ -207,6 +207,15 @@ impl Motion {
         }
     }
 
+    /// Whether a value is set that the load doesn't bring: a packet has no place
+    /// for it, so the command would not come back from its packet (demand 2).
+    fn has_stray(self) -> bool {
+        let stray = |value: &Value| {
+            !self.brings(*value) && self.bytes(*value).iter().any(|byte| *byte != 0)
+        };
+        Value::ALL.iter().any(stray)
+    }
+
     /// Whether a load's values are of their ranges; every control byte and PWM
     /// value is.
     pub fn is_in_range(self, rules: Rules) -> bool {
@@ -214,7 +223,8 @@ impl Motion {
         let negative = self.position < 0 && rules.slips(Mistake::NegativePositionsRefused);
         let velocity = self.velocity <= MOST_LONG || rules.slips(Mistake::VelocityFree);
         let acceleration = self.acceleration <= MOST_LONG || rules.slips(Mistake::AccelerationFree);
-        position && !negative && velocity && acceleration
+        let stray = self.has_stray() && !rules.slips(Mistake::StrayValueBuilt);
+        position && !negative && velocity && acceleration && !stray
     }
 }
 
@@ -254,7 +264,8 @@ impl Stop {
     }
 
     /// Bits 5 to 7: "clear all to 0"; "more than one of a Stop byte's bits 1 to 4"
-    /// is off the range, too, and so is a position as a load's.
+    /// is off the range, too, and so is a position as a load's, or one that isn't
+    /// brought.
     pub fn is_in_range(self, rules: Rules) -> bool {
         let reserved = match rules.slips(Mistake::StopBit5Taken) {
             true => 0xC0,
@@ -269,5 +280,6 @@ impl Stop {
             && (ways <= 1 || rules.slips(Mistake::TwoStopBitsTaken))
             && (ways >= 1 || !rules.slips(Mistake::NoStopBitRefused))
             && (self.position != NO_POSITION || rules.slips(Mistake::LowestStopTaken))
+            && (self.has_position() || self.position == 0 || rules.slips(Mistake::StrayStopBuilt))
     }
 }

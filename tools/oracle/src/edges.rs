@@ -4,6 +4,7 @@
 //! the lent buffer, which held 55 before.
 
 use crate::command::{Command, Place};
+use crate::drive::{Motion, Stop};
 use crate::hex;
 use crate::refusal::{number_of, Refusal};
 use crate::rules::Rules;
@@ -11,7 +12,8 @@ use crate::session::{self, Session};
 use crate::target::Target;
 use crate::trials::FILL;
 
-/// A Nop has room in the lent buffer, a Set Address has not.
+/// A Nop has room in the lent buffer, and so has a load of no value; a Set
+/// Address has not.
 const ROOM: usize = 5;
 
 /// A line whose last byte lacks a digit.
@@ -25,7 +27,7 @@ struct Kind {
 }
 
 /// The kinds in the order of the output.
-const KINDS: [Kind; 5] = [
+const KINDS: [Kind; 7] = [
     Kind {
         what: "order Set Address, walk and node",
         call: order,
@@ -47,6 +49,16 @@ const KINDS: [Kind; 5] = [
         what: "build Set Address, address and group",
         call: build_place,
         arguments: &[(0x7F, 0x80), (0x80, 0x80), (0x7F, 0x7F)],
+    },
+    Kind {
+        what: "build Load Trajectory, control byte and velocity",
+        call: build_load,
+        arguments: &[(0x00, 0), (0x00, 1), (0x0D, 1), (0x02, 1)],
+    },
+    Kind {
+        what: "build Stop Motor, stop byte and position",
+        call: build_stop,
+        arguments: &[(0x01, 0), (0x01, 1), (0x11, 1)],
     },
     Kind {
         what: "read a line, from and characters",
@@ -112,6 +124,35 @@ fn build_nop(rules: Rules, kind: u8, address: u8, buffer: &mut [u8]) -> Result<u
 /// A Set Address to node 1 with this place.
 fn build_place(rules: Rules, address: u8, group: u8, buffer: &mut [u8]) -> Result<usize, Refusal> {
     session::build(rules, Target::Node(1), set_address(address, group), buffer)
+}
+
+/// A load for node 1 with this control byte, all else but the velocity 0.
+fn build_load(
+    rules: Rules,
+    control: u8,
+    velocity: u8,
+    buffer: &mut [u8],
+) -> Result<usize, Refusal> {
+    let load = Motion {
+        control,
+        velocity: velocity.into(),
+        ..Motion::ZERO
+    };
+    session::build(
+        rules,
+        Target::Node(1),
+        Command::LoadTrajectory(load),
+        buffer,
+    )
+}
+
+/// A Stop Motor for node 1 with this stop byte and position.
+fn build_stop(rules: Rules, byte: u8, position: u8, buffer: &mut [u8]) -> Result<usize, Refusal> {
+    let stop = Stop {
+        byte,
+        position: position.into(),
+    };
+    session::build(rules, Target::Node(1), Command::StopMotor(stop), buffer)
 }
 
 /// A part of the line.

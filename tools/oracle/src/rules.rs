@@ -242,6 +242,8 @@ mistakes! {
     SetAddressOrdered: "a Set Address is taken among a ready session's commands",
     AnyAddressBuilt: "a command is built to an address that is not of its kind's range",
     AnyPlaceBuilt: "a Set Address is built with a place that is not of its range",
+    StrayValueBuilt: "a load is built although it has a value that it doesn't bring",
+    StrayStopBuilt: "a Stop Motor is built although it has a position that it doesn't bring",
     RoomCounted: "reading a line answers how many of its bytes had room",
     BrokenLineFills: "a malformed line fills the buffer up to where it breaks",
     LookPastRecord: "a look past node 31 shows the last entry",

@@ -48,7 +48,8 @@ struct Session {
 #[repr(C)]
 struct Exchange {
     case: u8,
-    _waiting: [u32; 6],
+    _to: [u8; 2],
+    _command: [u32; 5],
 }
 
 extern "C" {
@@ -109,7 +110,8 @@ impl Walked {
             walk: 0,
             exchange: Exchange {
                 case: 0,
-                _waiting: [0; 6],
+                _to: [0; 2],
+                _command: [0; 5],
             },
             entries: [Entry::power_up(Kind::Gate); ENTRIES],
         },

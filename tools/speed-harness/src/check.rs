@@ -3,11 +3,14 @@
 
 use oracle::prng::Prng;
 use oracle::rules::Rules;
-use oracle::settings::{self, GateSettings, Own};
-use oracle::{bench, chain, command, make_bench, make_packets, node};
+use oracle::settings::{self, Own};
+use oracle::{bench, chain, command, drive, kind, make_bench, make_packets, node};
 
-use crate::plain::{Answer, Bench, Captured, Held, Node, Place, Settings, MOST_REPLY};
-use crate::sides::{Deliver, Rehearse, CHAINS, DELIVERIES, PACKETS, REHEARSALS};
+use crate::plain::{
+    Answer, Bench, Captured, DriveSettings, Gains, GateSettings, Held, Kind, Motion, Node, Place,
+    Settings, MOST_REPLY,
+};
+use crate::sides::{Deliver, Rehearse, CHAINS, DELIVERIES, MIXED_CHAINS, PACKETS, REHEARSALS};
 use crate::{work, SEED};
 
 /// A side that answers differently, and on what.
@@ -19,7 +22,10 @@ pub fn all(packets: usize, texts: u64) -> Outcome {
     for (name, deliver) in DELIVERIES {
         deliveries(name, deliver, packets)?;
         for length in CHAINS {
-            mix(name, deliver, length)?;
+            mix(name, deliver, &work::gates(length))?;
+        }
+        for length in MIXED_CHAINS {
+            mix(name, deliver, &work::half_drives(length))?;
         }
     }
     for (name, rehearse) in REHEARSALS {
@@ -33,68 +39,76 @@ pub fn all(packets: usize, texts: u64) -> Outcome {
     Ok(())
 }
 
-/// Seeded packets of all kinds to chains of 0 to 32 nodes, some with records
-/// off their range, and to reply buffers of every length.
+/// Seeded packets of all kinds to chains of 0 to 32 nodes, gates or drives or
+/// both, some with records off their range, and to reply buffers of every length.
 fn deliveries(name: &str, deliver: Deliver, count: usize) -> Outcome {
     let mut prng = Prng::new(SEED);
-    let mut nodes = Vec::new();
+    let mut chains = Chains::of(Vec::new());
     for turn in 0..count {
         if turn % 200 == 0 {
-            nodes = oracle_nodes(&mut prng);
+            chains = Chains::of(any_nodes(&mut prng));
         }
-        let packet = make_packets::packet(&mut prng, &nodes);
+        let packet = make_packets::packet(&mut prng, &chains.wanted);
         let room = prng.below(MOST_REPLY + 3);
-        one(name, deliver, &mut nodes, &packet, room)?;
+        chains.take(name, deliver, &packet, room)?;
     }
     Ok(())
 }
 
 /// The packets that are timed.
-fn mix(name: &str, deliver: Deliver, length: usize) -> Outcome {
-    let packets = work::Packets::make(length, PACKETS, SEED);
-    let mut nodes: Vec<node::Node> = work::chain(length).iter().map(oracle_node).collect();
+fn mix(name: &str, deliver: Deliver, kinds: &[Kind]) -> Outcome {
+    let packets = work::Packets::make(kinds, PACKETS, SEED);
+    let mut chains = Chains::of(work::chain(kinds));
     for packet in packets.iter() {
-        one(name, deliver, &mut nodes, packet, MOST_REPLY)?;
+        chains.take(name, deliver, packet, MOST_REPLY)?;
     }
     Ok(())
 }
 
-/// One packet to both. Both keep the nodes' changes.
-fn one(
-    name: &str,
-    deliver: Deliver,
-    nodes: &mut [node::Node],
-    packet: &[u8],
-    room: usize,
-) -> Outcome {
-    let before: Vec<Node> = nodes.iter().map(plain_node).collect();
-    // Room to spare, so that a node laid out in another way does no harm but shows.
-    let mut table = Vec::with_capacity(4 * before.len() + 1);
-    table.extend_from_slice(&before);
-    let mut reply = [0x5A; MOST_REPLY + 3];
-    let mut wanted_reply = reply;
-    let answer = deliver(&mut table, packet, &mut reply[..room]);
-    let wanted = chain::deliver(Rules::RIGHT, nodes, packet, &mut wanted_reply[..room]);
-    let wanted = match wanted {
-        Ok(chain::Delivery::Silent) => Answer::Silent,
-        Ok(chain::Delivery::Reply(count)) => Answer::Replied(count),
-        Ok(chain::Delivery::Collision) => Answer::Collision,
-        Err(refusal) => Answer::Refused(refusal.number()),
-    };
-    let after: Vec<Node> = nodes.iter().map(plain_node).collect();
-    if (answer, reply, &table) == (wanted, wanted_reply, &after) {
-        return Ok(());
+/// A side's chain, and the same as the independent program has it.
+struct Chains {
+    nodes: Vec<Node>,
+    wanted: Vec<node::Node>,
+}
+
+impl Chains {
+    fn of(nodes: Vec<Node>) -> Chains {
+        let wanted = nodes.iter().map(oracle_node).collect();
+        Chains { nodes, wanted }
     }
-    let changed = table
-        .iter()
-        .zip(&after)
-        .position(|(one, other)| one != other);
-    Err(format!(
-        "{name} differs on packet {packet:02X?} to {} nodes, room {room}: \
-         {answer:?}, not {wanted:?}; {reply:02X?}, not {wanted_reply:02X?}; \
-         first node that differs: {changed:?}",
-        before.len()
-    ))
+
+    /// One packet to both. Both keep the nodes' changes.
+    fn take(&mut self, name: &str, deliver: Deliver, packet: &[u8], room: usize) -> Outcome {
+        // Room to spare, so that a node laid out in another way does no harm but shows.
+        let mut table = Vec::with_capacity(4 * self.nodes.len() + 1);
+        table.extend_from_slice(&self.nodes);
+        let mut reply = [0x5A; MOST_REPLY + 3];
+        let mut wanted_reply = reply;
+        let answer = deliver(&mut table, packet, &mut reply[..room]);
+        let nodes = &mut self.wanted;
+        let wanted = chain::deliver(Rules::RIGHT, nodes, packet, &mut wanted_reply[..room]);
+        let wanted = match wanted {
+            Ok(chain::Delivery::Silent) => Answer::Silent,
+            Ok(chain::Delivery::Reply(count)) => Answer::Replied(count),
+            Ok(chain::Delivery::Collision) => Answer::Collision,
+            Err(refusal) => Answer::Refused(refusal.number()),
+        };
+        let both = self.nodes.iter().zip(nodes);
+        let after: Vec<Node> = both
+            .map(|(before, node)| plain_node(before, node))
+            .collect();
+        if (answer, reply, &table) == (wanted, wanted_reply, &after) {
+            self.nodes = table;
+            return Ok(());
+        }
+        let changed = table.iter().zip(&after).find(|(one, other)| one != other);
+        Err(format!(
+            "{name} differs on packet {packet:02X?} to {} nodes, room {room}: \
+             {answer:?}, not {wanted:?}; {reply:02X?}, not {wanted_reply:02X?}; \
+             first node that differs: {changed:?}",
+            after.len()
+        ))
+    }
 }
 
 /// One rehearsal.
@@ -122,49 +136,72 @@ fn text(name: &str, rehearse: Rehearse, input: &[u8]) -> Outcome {
     ))
 }
 
-/// A chain as the generator of packets likes to meet it.
-fn oracle_nodes(prng: &mut Prng) -> Vec<node::Node> {
+/// A chain as the generator of packets likes to meet it. What a node has no use
+/// for, the other kind's, is any value too: it is to stay.
+fn any_nodes(prng: &mut Prng) -> Vec<Node> {
     let length = prng.below(33);
     let off_range = prng.percent(3);
-    (0..length)
-        .map(|_| {
-            let mut place = make_packets::place(prng);
-            if off_range && prng.percent(10) {
-                place.address = prng.byte();
-                place.group = prng.byte();
-            }
-            let settings = Settings {
-                place: Place {
-                    address: place.address,
-                    group: place.group,
-                    leader: place.leader,
-                },
+    let kinds = make_packets::kinds(prng, length);
+    let nodes = kinds.into_iter().map(|kind| {
+        let mut place = make_packets::place(prng);
+        if off_range && prng.percent(10) {
+            place.address = prng.byte();
+            place.group = prng.byte();
+        }
+        Node {
+            settings: Settings {
+                drive: any_drive(prng),
+                gate: any_gate(prng),
+                place: plain_place(place),
                 mask: prng.byte(),
-                outputs: word(prng),
-                pwm: [prng.byte(), prng.byte()],
-                held: Held {
-                    outputs: word(prng),
-                    pwm: [prng.byte(), prng.byte()],
-                },
-                timer: prng.byte(),
-            };
-            oracle_node(&Node {
-                settings,
-                addressed: prng.percent(80),
-                bench: Bench {
-                    inputs: word(prng),
-                    counter: long(prng),
-                    analog: [prng.byte(), prng.byte(), prng.byte()],
-                    id: prng.byte(),
-                    version: prng.byte(),
-                },
-                captured: Captured {
-                    inputs: word(prng),
-                    counter: long(prng),
-                },
-            })
-        })
-        .collect()
+            },
+            bench: any_bench(prng),
+            captured: Captured {
+                counter: long(prng),
+                inputs: word(prng),
+            },
+            position: long(prng),
+            addressed: prng.percent(80),
+            kind: plain_kind(kind),
+        }
+    });
+    nodes.collect()
+}
+
+fn any_gate(prng: &mut Prng) -> GateSettings {
+    GateSettings {
+        outputs: word(prng),
+        held: Held {
+            outputs: word(prng),
+            pwm: [prng.byte(), prng.byte()],
+        },
+        pwm: [prng.byte(), prng.byte()],
+        timer: prng.byte(),
+    }
+}
+
+fn any_drive(prng: &mut Prng) -> DriveSettings {
+    DriveSettings {
+        waiting: plain_motion(make_packets::motion(prng)),
+        in_force: plain_motion(make_packets::motion(prng)),
+        gains: plain_gains(make_packets::gains(prng)),
+        stop: prng.byte(),
+    }
+}
+
+fn any_bench(prng: &mut Prng) -> Bench {
+    Bench {
+        counter: long(prng),
+        home: long(prng),
+        inputs: word(prng),
+        velocity: word(prng),
+        error: word(prng),
+        analog: [prng.byte(), prng.byte(), prng.byte()],
+        ad: prng.byte(),
+        auxiliary: prng.byte(),
+        id: prng.byte(),
+        version: prng.byte(),
+    }
 }
 
 fn word(prng: &mut Prng) -> u16 {
@@ -175,82 +212,178 @@ fn long(prng: &mut Prng) -> u32 {
     u32::from(word(prng)) << 16 | u32::from(word(prng))
 }
 
-/// Only gates are timed, and so are they alone compared here.
-fn plain_node(node: &node::Node) -> Node {
-    let node::Values::Gate { bench, captured } = node.values else {
-        panic!("a chain of gates");
-    };
-    Node {
-        settings: plain_settings(&node.settings),
+/// The node as the independent program leaves it; what that has not, the other
+/// kind's, is as it was before.
+fn plain_node(before: &Node, node: &node::Node) -> Node {
+    let mut after = Node {
+        settings: plain_settings(&before.settings, &node.settings),
         addressed: node.addressed,
-        bench: Bench {
-            inputs: bench.inputs,
-            counter: bench.counter,
-            analog: bench.analog,
-            id: bench.device_id,
-            version: bench.version,
-        },
-        captured: Captured {
-            inputs: captured.inputs,
-            counter: captured.counter,
-        },
+        ..*before
+    };
+    match node.values {
+        node::Values::Gate { captured, .. } => {
+            after.captured = Captured {
+                counter: captured.counter,
+                inputs: captured.inputs,
+            };
+        }
+        node::Values::Drive(values) => after.position = values.position as u32,
+    }
+    after
+}
+
+/// The same of settings.
+pub fn plain_settings(before: &Settings, settings: &settings::Settings) -> Settings {
+    let mut after = Settings {
+        place: plain_place(settings.place),
+        mask: settings.mask,
+        ..*before
+    };
+    match settings.own {
+        Own::Gate(gate) => {
+            after.gate = GateSettings {
+                outputs: gate.outputs,
+                held: Held {
+                    outputs: gate.held.outputs,
+                    pwm: gate.held.pwm,
+                },
+                pwm: gate.pwm,
+                timer: gate.timer_mode,
+            }
+        }
+        Own::Drive(drive) => {
+            after.drive = DriveSettings {
+                waiting: plain_motion(drive.waiting),
+                in_force: plain_motion(drive.in_force),
+                gains: plain_gains(drive.gains),
+                stop: drive.stop,
+            }
+        }
+    }
+    after
+}
+
+pub fn plain_kind(kind: kind::Kind) -> Kind {
+    match kind {
+        kind::Kind::Gate => Kind::Gate,
+        kind::Kind::Drive => Kind::Drive,
     }
 }
 
-pub fn plain_settings(settings: &settings::Settings) -> Settings {
-    let Own::Gate(gate) = settings.own else {
-        panic!("the settings of a gate");
-    };
-    Settings {
-        place: Place {
-            address: settings.place.address,
-            group: settings.place.group,
-            leader: settings.place.leader,
-        },
-        mask: settings.mask,
-        outputs: gate.outputs,
-        pwm: gate.pwm,
-        held: Held {
-            outputs: gate.held.outputs,
-            pwm: gate.held.pwm,
-        },
-        timer: gate.timer_mode,
+fn plain_place(place: command::Place) -> Place {
+    Place {
+        address: place.address,
+        group: place.group,
+        leader: place.leader,
+    }
+}
+
+fn plain_motion(motion: drive::Motion) -> Motion {
+    Motion {
+        position: motion.position as u32,
+        velocity: motion.velocity,
+        acceleration: motion.acceleration,
+        control: motion.control,
+        pwm: motion.pwm,
+    }
+}
+
+fn plain_gains(gains: drive::Gains) -> Gains {
+    Gains {
+        kp: gains.kp,
+        kd: gains.kd,
+        ki: gains.ki,
+        il: gains.il,
+        el: gains.el,
+        ol: gains.ol,
+        sr: gains.sr,
+        db: gains.db,
     }
 }
 
 fn oracle_node(node: &Node) -> node::Node {
-    let settings = &node.settings;
+    let Node {
+        settings, bench, ..
+    } = node;
+    let place = &settings.place;
     node::Node {
         settings: settings::Settings {
             place: command::Place {
-                address: settings.place.address,
-                group: settings.place.group,
-                leader: settings.place.leader,
+                address: place.address,
+                group: place.group,
+                leader: place.leader,
             },
             mask: settings.mask,
-            own: Own::Gate(GateSettings {
-                outputs: settings.outputs,
-                pwm: settings.pwm,
-                held: command::Held {
-                    outputs: settings.held.outputs,
-                    pwm: settings.held.pwm,
-                },
-                timer_mode: settings.timer,
-            }),
+            own: match node.kind {
+                Kind::Gate => Own::Gate(oracle_gate(&settings.gate)),
+                Kind::Drive => Own::Drive(oracle_drive(&settings.drive)),
+            },
         },
         addressed: node.addressed,
-        values: node::Values::Gate {
-            bench: node::BenchValues {
-                inputs: node.bench.inputs,
-                counter: node.bench.counter,
-                analog: node.bench.analog,
-                device_id: node.bench.id,
-                version: node.bench.version,
+        values: match node.kind {
+            Kind::Gate => node::Values::Gate {
+                bench: node::BenchValues {
+                    inputs: bench.inputs,
+                    counter: bench.counter,
+                    analog: bench.analog,
+                    device_id: bench.id,
+                    version: bench.version,
+                },
+                captured: node::Captured {
+                    inputs: node.captured.inputs,
+                    counter: node.captured.counter,
+                },
             },
-            captured: node::Captured {
-                inputs: node.captured.inputs,
-                counter: node.captured.counter,
-            },
+            Kind::Drive => node::Values::Drive(node::DriveValues {
+                position: node.position as i32,
+                ad_value: bench.ad,
+                velocity: bench.velocity as i16,
+                auxiliary: bench.auxiliary,
+                home: bench.home as i32,
+                device_id: bench.id,
+                version: bench.version,
+                position_error: bench.error as i16,
+            }),
         },
+    }
+}
+
+fn oracle_gate(gate: &GateSettings) -> settings::GateSettings {
+    settings::GateSettings {
+        outputs: gate.outputs,
+        pwm: gate.pwm,
+        held: command::Held {
+            outputs: gate.held.outputs,
+            pwm: gate.held.pwm,
+        },
+        timer_mode: gate.timer,
+    }
+}
+
+fn oracle_drive(drive: &DriveSettings) -> settings::DriveSettings {
+    settings::DriveSettings {
+        gains: drive::Gains {
+            kp: drive.gains.kp,
+            kd: drive.gains.kd,
+            ki: drive.gains.ki,
+            il: drive.gains.il,
+            ol: drive.gains.ol,
+            el: drive.gains.el,
+            sr: drive.gains.sr,
+            db: drive.gains.db,
+        },
+        stop: drive.stop,
+        waiting: oracle_motion(&drive.waiting),
+        in_force: oracle_motion(&drive.in_force),
+    }
+}
+
+fn oracle_motion(motion: &Motion) -> drive::Motion {
+    drive::Motion {
+        control: motion.control,
+        position: motion.position as i32,
+        velocity: motion.velocity,
+        acceleration: motion.acceleration,
+        pwm: motion.pwm,
     }
 }

@@ -2,7 +2,7 @@
 //! through recordings alike, with the same refusals and the same end, and leave
 //! the same session and the same record of every node.
 
-use oracle::kind::Kind;
+use oracle::drive::Value;
 use oracle::make_recordings;
 use oracle::prng::Prng;
 use oracle::record;
@@ -11,27 +11,26 @@ use oracle::rules::Rules;
 use oracle::session::{Exchange, Session};
 use oracle::settings::Setting;
 
-use crate::check::{plain_settings, Outcome};
-use crate::plain_recording::{Ending, Entry, Known, Replayed};
-use crate::sides::{recording_seeds, RECORDED, RECORDINGS, REPLAYS};
+use crate::check::{plain_kind, plain_settings, Outcome};
+use crate::plain::Kind;
+use crate::plain_recording::{DriveKnown, Ending, Entry, GateKnown, Known, MotionKnown, Replayed};
+use crate::sides::{recording_seeds, RECORDED, RECORDING_SIZES, REPLAYS};
 use crate::work_recording::recording;
 
 /// The most packets of a seeded recording.
 const PACKETS: usize = 150;
 
-/// Seeded recordings of gates, right or spoilt, and all that is timed, which ends
-/// with the recording.
+/// Seeded recordings, right or spoilt, and all that is timed, which ends with the
+/// recording.
 pub fn all(count: u64) -> Outcome {
     for seed in 0..count {
         let mut prng = Prng::new(seed);
         let packets = 1 + prng.below(PACKETS);
         let recording = make_recordings::recording(&mut prng, packets);
-        if !recording.kinds.contains(&Kind::Drive) {
-            alike(&recording, &wanted(&recording))?;
-        }
+        alike(&recording, &wanted(&recording))?;
     }
     for nodes in RECORDED {
-        for size in RECORDINGS {
+        for size in RECORDING_SIZES {
             for seed in recording_seeds(size) {
                 let recording = recording(nodes, size, seed);
                 let wanted = wanted(&recording);
@@ -69,23 +68,59 @@ fn at_end(ending: Ending, session: &Session) -> Replayed {
 }
 
 fn plain_entry(entry: &record::Entry) -> Entry {
-    Entry {
-        settings: plain_settings(&entry.settings),
+    let kind = plain_kind(entry.kind());
+    let power_up = Entry::power_up(kind);
+    let motion = |of: fn(Value) -> Setting| MotionKnown {
+        control: entry.knows(of(Value::Control)),
+        position: entry.knows(of(Value::Position)),
+        velocity: entry.knows(of(Value::Velocity)),
+        acceleration: entry.knows(of(Value::Acceleration)),
+        pwm: entry.knows(of(Value::Pwm)),
+    };
+    shown(&Entry {
+        settings: plain_settings(&power_up.settings, &entry.settings),
         known: Known {
             place: entry.knows(Setting::Place),
             mask: entry.knows(Setting::Mask),
-            outputs: entry.knows(Setting::Outputs),
-            pwm: entry.knows(Setting::Pwm),
-            held: entry.knows(Setting::Held),
-            timer: entry.knows(Setting::TimerMode),
+            gate: GateKnown {
+                outputs: entry.knows(Setting::Outputs),
+                pwm: entry.knows(Setting::Pwm),
+                held: entry.knows(Setting::Held),
+                timer: entry.knows(Setting::TimerMode),
+            },
+            drive: DriveKnown {
+                gains: entry.knows(Setting::Gains),
+                stop: entry.knows(Setting::Stop),
+                waiting: motion(Setting::Waiting),
+                in_force: motion(Setting::InForce),
+            },
         },
+        kind,
+    })
+}
+
+/// What an entry shows: the other kind's part says nothing.
+fn shown(entry: &Entry) -> Entry {
+    let power_up = Entry::power_up(entry.kind);
+    let mut shown = *entry;
+    match entry.kind {
+        Kind::Gate => {
+            shown.settings.drive = power_up.settings.drive;
+            shown.known.drive = power_up.known.drive;
+        }
+        Kind::Drive => {
+            shown.settings.gate = power_up.settings.gate;
+            shown.known.gate = power_up.known.gate;
+        }
     }
+    shown
 }
 
 /// Every side, on one recording.
 fn alike(recording: &Recording, wanted: &Replayed) -> Outcome {
     for (name, replay) in REPLAYS {
-        let replayed = replay(recording);
+        let mut replayed = replay(recording);
+        replayed.entries = replayed.entries.map(|entry| shown(&entry));
         if replayed != *wanted {
             return Err(format!(
                 "{name} differs on {recording:?}: {replayed:?}, not {wanted:?}"

@@ -8,13 +8,13 @@ use oracle::sheet;
 
 use crate::check::Outcome;
 use crate::plain_sheet::Refused;
-use crate::sides::{seeds, Convert, EXPORTS, IMPORTS, SHEETS};
+use crate::sides::{seeds, Convert, EXPORTS, IMPORTS, SHEET_SIZES};
 use crate::{work, SEED};
 
 /// Seeded sheets and lists of packets, whole or spoilt, with every kind of room;
 /// a sheet that is too long; and all that is timed.
 pub fn all(count: u64) -> Outcome {
-    let too_long = work::sheet(SHEETS[2] + 1, SEED);
+    let too_long = work::sheet(SHEET_SIZES[2] + 1, SEED);
     for (name, import) in IMPORTS {
         for seed in 0..count {
             let mut prng = Prng::new(seed);
@@ -41,7 +41,7 @@ pub fn all(count: u64) -> Outcome {
 
 /// The sizes and seeds that are timed.
 fn timed() -> impl Iterator<Item = (usize, u64)> {
-    SHEETS
+    SHEET_SIZES
         .into_iter()
         .flat_map(|size| seeds(size).map(move |seed| (size, seed)))
 }

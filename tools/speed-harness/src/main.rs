@@ -1,6 +1,7 @@
 //! Times the proved code beside Rust: `tools/speed` builds and runs this.
 //!
-//!     harness                        checks, times and counts; prints the tables
+//!     harness PART..                 checks, times and counts; prints the tables.
+//!                                    A part is bench, sheets or recordings
 //!     harness count KIND SIZE SIDE   one pass of one side, for callgrind
 
 mod check;
@@ -17,7 +18,7 @@ mod work_recording;
 
 use std::process::{Command, ExitCode};
 
-use sides::{Kind, Side};
+use sides::{Kind, Side, BENCH, RECORDINGS, SHEETS};
 
 /// The seed of all that is timed.
 pub const SEED: u64 = 773;
@@ -45,9 +46,8 @@ fn main() -> ExitCode {
     let arguments: Vec<String> = std::env::args().skip(1).collect();
     let words: Vec<&str> = arguments.iter().map(String::as_str).collect();
     let done = match words[..] {
-        [] => compare(),
         ["count", kind, size, name] => run_one(kind, size, name),
-        _ => Err("harness, or harness count KIND SIZE SIDE".to_string()),
+        _ => compare(&words),
     };
     match done {
         Ok(()) => ExitCode::SUCCESS,
@@ -59,20 +59,33 @@ fn main() -> ExitCode {
 }
 
 /// Checks, times, counts and prints.
-fn compare() -> check::Outcome {
-    check::all(CHECKED, CHECKED_TEXTS)?;
-    check_sheet::all(CHECKED_SHEETS)?;
-    check_recording::all(CHECKED_RECORDINGS)?;
-    println!(
-        "All sides answer alike, byte for byte, on {CHECKED} seeded packets, \
-         {CHECKED_TEXTS} seeded rehearsals, {CHECKED_SHEETS} seeded sheets and lists of packets, \
-         {CHECKED_RECORDINGS} seeded recordings and all that is timed."
-    );
-    for kind in Kind::ALL {
+fn compare(parts: &[&str]) -> check::Outcome {
+    for part in parts {
+        let what = match *part {
+            BENCH => {
+                check::all(CHECKED, CHECKED_TEXTS)?;
+                format!("{CHECKED} seeded packets and {CHECKED_TEXTS} seeded rehearsals")
+            }
+            SHEETS => {
+                check_sheet::all(CHECKED_SHEETS)?;
+                format!("{CHECKED_SHEETS} seeded sheets and lists of packets")
+            }
+            RECORDINGS => {
+                check_recording::all(CHECKED_RECORDINGS)?;
+                format!("{CHECKED_RECORDINGS} seeded recordings")
+            }
+            _ => return Err(format!("there is no part '{part}'")),
+        };
+        println!("All sides answer alike, byte for byte, on {what} and all that is timed.");
+    }
+    for kind in Kind::ALL
+        .into_iter()
+        .filter(|kind| parts.contains(&kind.part()))
+    {
         let head = if kind.has_bytes() { BYTE_HEAD } else { HEAD };
         println!("\n{}\n\n{head}", kind.heading());
         for size in kind.sizes() {
-            print_rows(kind, size);
+            print_rows(kind, *size);
         }
     }
     println!(

@@ -4,7 +4,7 @@
 //! address, and has the answer written where the first argument points. An
 //! enum is the number of its case in one byte, then what the case carries.
 
-use crate::plain::{Answer, Node};
+use crate::plain::{Answer, Kind, Node};
 use crate::plain_recording::{Capture, Ending, Entry, Replayed, ENTRIES};
 use crate::plain_sheet::Refused;
 
@@ -32,7 +32,7 @@ struct Said {
 struct Walked {
     said: [u8; 2],
     session: Session,
-    _spare: [u16; 256],
+    _spare: [u32; 256],
 }
 
 #[repr(C)]
@@ -44,11 +44,12 @@ struct Session {
     entries: [Entry; ENTRIES],
 }
 
-/// Idle, or what waits, which is not looked at.
+/// Idle, or what waits, which is not looked at: an address and a command.
 #[repr(C)]
 struct Exchange {
     case: u8,
-    _waiting: [u16; 4],
+    _to: [u8; 2],
+    _command: [u32; 5],
 }
 
 extern "C" {
@@ -64,6 +65,7 @@ extern "C" {
     fn ours_replay(
         walked: *mut Walked,
         nodes: u8,
+        kinds: *const [Kind; ENTRIES],
         command: *const Slice<u8>,
         command_times: *const Slice<u32>,
         reply: *const Slice<u8>,
@@ -108,9 +110,10 @@ impl Walked {
             walk: 0,
             exchange: Exchange {
                 case: 0,
-                _waiting: [0; 4],
+                _to: [0; 2],
+                _command: [0; 5],
             },
-            entries: [Entry::POWER_UP; ENTRIES],
+            entries: [Entry::power_up(Kind::Gate); ENTRIES],
         },
         _spare: [0; 256],
     };
@@ -182,7 +185,7 @@ pub fn export(packets: &[u8], out: &mut [u8]) -> Result<usize, Refused> {
 }
 
 /// `recording::replay`.
-pub fn replay(nodes: u8, commands: Capture, replies: Capture) -> Replayed {
+pub fn replay(nodes: u8, kinds: &[Kind; ENTRIES], commands: Capture, replies: Capture) -> Replayed {
     let mut walked = Walked::NOTHING;
     let (command, command_times) = (Slice::of(commands.bytes), Slice::of(commands.times));
     let (reply, reply_times) = (Slice::of(replies.bytes), Slice::of(replies.times));
@@ -191,6 +194,7 @@ pub fn replay(nodes: u8, commands: Capture, replies: Capture) -> Replayed {
         ours_replay(
             &mut walked,
             nodes,
+            kinds,
             &command,
             &command_times,
             &reply,

@@ -2,7 +2,7 @@
 //! shorter packet by packet, and one host that is changed in place. Nothing is
 //! allocated. `check_recording` holds it to the independent program.
 
-use crate::plain::{frame, sum, Bench, Command, Node, Place, Settings, MOST_REPLY};
+use crate::plain::{frame, sum, Command, Kind, Motion, Place, Settings, MOST_REPLY};
 
 /// The entries that the host's record always has.
 pub const ENTRIES: usize = 31;
@@ -26,19 +26,46 @@ pub struct Capture<'a> {
 pub struct Known {
     pub place: bool,
     pub mask: bool,
+    pub gate: GateKnown,
+    pub drive: DriveKnown,
+}
+
+#[derive(Clone, Copy, Debug, PartialEq)]
+#[repr(C)]
+pub struct GateKnown {
     pub outputs: bool,
     pub pwm: bool,
     pub held: bool,
     pub timer: bool,
 }
 
+#[derive(Clone, Copy, Debug, PartialEq)]
+#[repr(C)]
+pub struct DriveKnown {
+    pub gains: bool,
+    pub stop: bool,
+    pub waiting: MotionKnown,
+    pub in_force: MotionKnown,
+}
+
+#[derive(Clone, Copy, Debug, PartialEq)]
+#[repr(C)]
+pub struct MotionKnown {
+    pub control: bool,
+    pub position: bool,
+    pub velocity: bool,
+    pub acceleration: bool,
+    pub pwm: bool,
+}
+
 /// What is recorded of a node, laid out as the proved code lays it out, so that
-/// both sides move the same bytes.
+/// both sides move the same bytes. What the other kind has says nothing.
 #[derive(Clone, Copy, Debug, PartialEq)]
 #[repr(C)]
 pub struct Entry {
     pub settings: Settings,
     pub known: Known,
+    pub kind: Kind,
 }
 
 #[derive(Clone, Copy, Debug, PartialEq)]
@@ -62,15 +89,21 @@ pub struct Replayed {
 }
 
 /// The whole walk. 6 for the node count, then 15, then 16, before any packet.
-pub fn replay(nodes: u8, mut commands: Capture, mut replies: Capture) -> Replayed {
+pub fn replay(
+    nodes: u8,
+    kinds: &[Kind; ENTRIES],
+    mut commands: Capture,
+    mut replies: Capture,
+) -> Replayed {
+    let mut host = Host::FRESH;
     if let Err(number) = check(nodes, commands, replies) {
-        return Host::FRESH.at_end(Ending::Refused(number));
+        return host.at_end(Ending::Refused(number));
     }
-    let mut host = Host {
-        open: true,
-        nodes,
-        ..Host::FRESH
-    };
+    host.open = true;
+    host.nodes = nodes;
+    for (entry, kind) in host.chain().iter_mut().zip(kinds) {
+        entry.kind = *kind;
+    }
     loop {
         let command_comes = match (commands.times, replies.times) {
             ([command, ..], [reply, ..]) => command <= reply,
@@ -117,35 +150,110 @@ impl<'a> Capture<'a> {
 }
 
 impl Known {
-    const ALL: Known = Known {
-        place: true,
-        mask: true,
-        outputs: true,
-        pwm: true,
-        held: true,
-        timer: true,
-    };
+    /// All of them, or none.
+    pub const fn all(sure: bool) -> Known {
+        let motion = MotionKnown {
+            control: sure,
+            position: sure,
+            velocity: sure,
+            acceleration: sure,
+            pwm: sure,
+        };
+        Known {
+            place: sure,
+            mask: sure,
+            gate: GateKnown {
+                outputs: sure,
+                pwm: sure,
+                held: sure,
+                timer: sure,
+            },
+            drive: DriveKnown {
+                gains: sure,
+                stop: sure,
+                waiting: motion,
+                in_force: motion,
+            },
+        }
+    }
+}
 
-    const NOTHING: Known = Known {
-        place: false,
-        mask: false,
-        outputs: false,
-        pwm: false,
-        held: false,
-        timer: false,
-    };
+impl MotionKnown {
+    /// What a load brings is known, or in doubt.
+    fn load(&mut self, control: u8, sure: bool) {
+        self.control = sure;
+        if control & 0x01 != 0 {
+            self.position = sure;
+        }
+        if control & 0x02 != 0 {
+            self.velocity = sure;
+        }
+        if control & 0x04 != 0 {
+            self.acceleration = sure;
+        }
+        if control & 0x08 != 0 {
+            self.pwm = sure;
+        }
+    }
+}
+
+/// Start Motion: each value that waits, if it is known.
+fn start(known: &MotionKnown, waiting: &Motion, in_force: &mut Motion) {
+    if known.control {
+        in_force.control = waiting.control;
+    }
+    if known.position {
+        in_force.position = waiting.position;
+    }
+    if known.velocity {
+        in_force.velocity = waiting.velocity;
+    }
+    if known.acceleration {
+        in_force.acceleration = waiting.acceleration;
+    }
+    if known.pwm {
+        in_force.pwm = waiting.pwm;
+    }
+}
+
+/// The one kind that has a command; None where both have.
+fn owner(command: &Command) -> Option<Kind> {
+    match command {
+        Command::SetAddress(_)
+        | Command::DefineStatus(_)
+        | Command::ReadStatus(_)
+        | Command::Nop
+        | Command::HardReset => None,
+        Command::SetPwm(_)
+        | Command::SynchOutput
+        | Command::SetOutputs(_)
+        | Command::SetSynchOutput(_)
+        | Command::SetTimerMode(_)
+        | Command::SynchInput => Some(Kind::Gate),
+        Command::ResetPosition
+        | Command::LoadTrajectory(_)
+        | Command::StartMotion
+        | Command::SetGain(_)
+        | Command::StopMotor(_) => Some(Kind::Drive),
+    }
 }
 
 impl Entry {
-    pub const POWER_UP: Entry = Entry {
-        settings: Node::power_up(Bench::ZERO).settings,
-        known: Known::ALL,
-    };
+    pub const fn power_up(kind: Kind) -> Entry {
+        Entry {
+            settings: Settings::POWER_UP,
+            known: Known::all(true),
+            kind,
+        }
+    }
 
     /// What a confirmed command writes is known and new; what is copied from a
-    /// held set in doubt goes into doubt.
+    /// held set in doubt, or from a waiting value, goes into doubt.
     fn confirm(&mut self, command: &Command) {
-        let Entry { settings, known } = self;
+        let Entry {
+            settings, known, ..
+        } = self;
+        let (gate, drive) = (&mut settings.gate, &mut settings.drive);
         match *command {
             Command::SetAddress(place) => {
                 settings.place = place;
@@ -156,31 +264,54 @@ impl Entry {
                 known.mask = true;
             }
             Command::SetPwm(pwm) => {
-                settings.pwm = pwm;
-                known.pwm = true;
+                gate.pwm = pwm;
+                known.gate.pwm = true;
             }
             Command::SynchOutput => {
-                if known.held {
-                    settings.outputs = settings.held.outputs;
-                    settings.pwm = settings.held.pwm;
+                if known.gate.held {
+                    gate.outputs = gate.held.outputs;
+                    gate.pwm = gate.held.pwm;
                 }
-                known.outputs = known.held;
-                known.pwm = known.held;
+                known.gate.outputs = known.gate.held;
+                known.gate.pwm = known.gate.held;
             }
             Command::SetOutputs(outputs) => {
-                settings.outputs = outputs;
-                known.outputs = true;
+                gate.outputs = outputs;
+                known.gate.outputs = true;
             }
             Command::SetSynchOutput(held) => {
-                settings.held = held;
-                known.held = true;
+                gate.held = held;
+                known.gate.held = true;
             }
             Command::SetTimerMode(mode) => {
-                settings.timer = mode;
-                known.timer = true;
+                gate.timer = mode;
+                known.gate.timer = true;
+            }
+            Command::LoadTrajectory(load) => {
+                drive.waiting.load(&load);
+                known.drive.waiting.load(load.control, true);
+                if load.control & 0x80 != 0 {
+                    self.confirm(&Command::StartMotion);
+                }
+            }
+            Command::StartMotion => {
+                start(&known.drive.waiting, &drive.waiting, &mut drive.in_force);
+                known.drive.in_force = known.drive.waiting;
+            }
+            Command::SetGain(gains) => {
+                drive.gains = gains;
+                known.drive.gains = true;
+            }
+            Command::StopMotor(stop) => {
+                drive.stop = stop;
+                known.drive.stop = true;
             }
             // A Hard Reset waits for no reply.
-            Command::ReadStatus(_) | Command::SynchInput | Command::Nop | Command::HardReset => {}
+            Command::ReadStatus(_)
+            | Command::SynchInput
+            | Command::Nop
+            | Command::ResetPosition
+            | Command::HardReset => {}
         }
     }
 
@@ -190,16 +321,28 @@ impl Entry {
         match *command {
             Command::SetAddress(_) => known.place = false,
             Command::DefineStatus(_) => known.mask = false,
-            Command::SetPwm(_) => known.pwm = false,
+            Command::SetPwm(_) => known.gate.pwm = false,
             Command::SynchOutput => {
-                known.outputs = false;
-                known.pwm = false;
+                known.gate.outputs = false;
+                known.gate.pwm = false;
             }
-            Command::SetOutputs(_) => known.outputs = false,
-            Command::SetSynchOutput(_) => known.held = false,
-            Command::SetTimerMode(_) => known.timer = false,
-            Command::HardReset => *known = Known::NOTHING,
-            Command::ReadStatus(_) | Command::SynchInput | Command::Nop => {}
+            Command::SetOutputs(_) => known.gate.outputs = false,
+            Command::SetSynchOutput(_) => known.gate.held = false,
+            Command::SetTimerMode(_) => known.gate.timer = false,
+            Command::LoadTrajectory(load) => {
+                known.drive.waiting.load(load.control, false);
+                if load.control & 0x80 != 0 {
+                    self.doubt(&Command::StartMotion);
+                }
+            }
+            Command::StartMotion => known.drive.in_force = Known::all(false).drive.in_force,
+            Command::SetGain(_) => known.drive.gains = false,
+            Command::StopMotor(_) => known.drive.stop = false,
+            Command::HardReset => *known = Known::all(false),
+            Command::ReadStatus(_)
+            | Command::SynchInput
+            | Command::Nop
+            | Command::ResetPosition => {}
         }
     }
 }
@@ -234,7 +377,7 @@ impl Host {
         nodes: 0,
         walk: 0,
         waiting: None,
-        entries: [Entry::POWER_UP; ENTRIES],
+        entries: [Entry::power_up(Kind::Gate); ENTRIES],
     };
 
     fn at_end(&self, ending: Ending) -> Replayed {
@@ -252,8 +395,13 @@ impl Host {
     fn take_command(&mut self, bytes: &[u8]) -> Option<()> {
         self.fall_silent();
         let packet = frame(bytes).ok()?;
-        let command = packet.command?;
-        let to = self.addressee(packet.address, &command)?;
+        let mut readings = [Kind::Gate, Kind::Drive]
+            .into_iter()
+            .filter_map(|kind| packet.to(kind));
+        let (to, command) = readings.find_map(|command| {
+            let to = self.addressee(packet.address, &command)?;
+            Some((to, command))
+        })?;
         if let Command::HardReset = command {
             self.open = false;
             for entry in &mut self.entries {
@@ -284,10 +432,27 @@ impl Host {
             self.has_node(address)
                 && place.address == address
                 && (!place.leader || self.may_lead(address, place.group))
+        } else if address < 0x80 {
+            self.has_node(address)
         } else {
-            address >= 0x80 || self.has_node(address)
+            true
         };
-        is_sendable.then_some(address)
+        (is_sendable && self.reaches_its_kind(address, command)).then_some(address)
+    }
+
+    /// Whether all nodes that a command may reach have it.
+    fn reaches_its_kind(&self, address: u8, command: &Command) -> bool {
+        let Some(kind) = owner(command) else {
+            return true;
+        };
+        if address < 0x80 {
+            return self.entries[usize::from(address - 1)].kind == kind;
+        }
+        let chain = &self.entries[..usize::from(self.nodes)];
+        chain.iter().all(|entry| {
+            let is_reached = !entry.known.place || entry.settings.place.group == address;
+            !is_reached || entry.kind == kind
+        })
     }
 
     fn is_walking(&self) -> bool {
@@ -367,7 +532,7 @@ impl Host {
 fn given(node: u8) -> Place {
     Place {
         address: node,
-        ..Entry::POWER_UP.settings.place
+        ..Settings::POWER_UP.place
     }
 }
 

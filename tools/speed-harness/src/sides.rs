@@ -7,10 +7,11 @@ use oracle::bench;
 use oracle::recording::{self, Recording};
 use oracle::rules::Rules;
 
-use crate::plain::{Answer, Node, MOST_REPLY};
-use crate::plain_recording::{Capture, Replayed};
+use crate::check::plain_kind;
+use crate::plain::{Answer, Kind as NodeKind, Node, MOST_REPLY};
+use crate::plain_recording::{Capture, Replayed, ENTRIES};
 use crate::plain_sheet::Refused;
-use crate::work::{chain, packets, sheet, text, Packets};
+use crate::work::{chain, gates, half_drives, packets, sheet, text, Packets};
 use crate::work_recording::recording;
 use crate::{ours, plain, plain_recording, plain_sheet, SEED};
 
@@ -62,9 +63,15 @@ pub struct Side {
     pub pass: Box<dyn FnMut()>,
 }
 
+/// The parts that can be measured by themselves.
+pub const BENCH: &str = "bench";
+pub const SHEETS: &str = "sheets";
+pub const RECORDINGS: &str = "recordings";
+
 #[derive(Clone, Copy)]
 pub enum Kind {
     Delivery,
+    Mixed,
     Rehearsal,
     Import,
     Export,
@@ -73,8 +80,9 @@ pub enum Kind {
 }
 
 impl Kind {
-    pub const ALL: [Kind; 6] = [
+    pub const ALL: [Kind; 7] = [
         Kind::Delivery,
+        Kind::Mixed,
         Kind::Rehearsal,
         Kind::Import,
         Kind::Export,
@@ -85,6 +93,7 @@ impl Kind {
     pub fn word(self) -> &'static str {
         match self {
             Kind::Delivery => "delivery",
+            Kind::Mixed => "mixed",
             Kind::Rehearsal => "rehearsal",
             Kind::Import => "import",
             Kind::Export => "export",
@@ -93,9 +102,20 @@ impl Kind {
         }
     }
 
+    pub fn part(self) -> &'static str {
+        match self {
+            Kind::Delivery | Kind::Mixed | Kind::Rehearsal => BENCH,
+            Kind::Import | Kind::Export => SHEETS,
+            Kind::Replay8 | Kind::Replay31 => RECORDINGS,
+        }
+    }
+
     pub fn heading(self) -> &'static str {
         match self {
-            Kind::Delivery => "One delivery: chain::deliver, 100,000 packets",
+            Kind::Delivery => "One delivery to gates: chain::deliver, 100,000 packets",
+            Kind::Mixed => {
+                "One delivery where half of the nodes are drives: chain::deliver, 100,000 packets"
+            }
             Kind::Rehearsal => "The whole bench: script::rehearse, a text of 64 KiB",
             Kind::Import => "A sheet read: sheet::import",
             Kind::Export => "A sheet written: sheet::export",
@@ -106,26 +126,24 @@ impl Kind {
 
     /// Whether it is measured in bytes and not in packets to a chain.
     pub fn has_bytes(self) -> bool {
-        !matches!(self, Kind::Delivery | Kind::Rehearsal)
+        !matches!(self, Kind::Delivery | Kind::Mixed | Kind::Rehearsal)
     }
 
     /// What is timed of it: chains of so many nodes, or sheets or recordings of
     /// so many KiB.
-    pub fn sizes(self) -> [usize; 3] {
+    pub fn sizes(self) -> &'static [usize] {
         match self {
-            Kind::Delivery | Kind::Rehearsal => CHAINS,
-            Kind::Import | Kind::Export => SHEETS,
-            Kind::Replay8 | Kind::Replay31 => RECORDINGS,
+            Kind::Delivery | Kind::Rehearsal => &CHAINS,
+            Kind::Mixed => &MIXED_CHAINS,
+            Kind::Import | Kind::Export => &SHEET_SIZES,
+            Kind::Replay8 | Kind::Replay31 => &RECORDING_SIZES,
         }
     }
 
     pub fn sides(self, size: usize) -> Vec<Side> {
         match self {
-            Kind::Delivery => vec![
-                delivery(OURS, size, ours::deliver),
-                delivery(FULL_SEARCH, size, full_search),
-                delivery(ONE_LOOK, size, one_look),
-            ],
+            Kind::Delivery => deliveries(&gates(size)),
+            Kind::Mixed => deliveries(&half_drives(size)),
             Kind::Rehearsal => vec![
                 our_rehearsal(size),
                 rehearsal(ONE_LOOK, size, plain::rehearse),
@@ -141,20 +159,29 @@ impl Kind {
 
 /// The lengths of the chains that are timed, and the KiB of the sheets.
 pub const CHAINS: [usize; 3] = [1, 8, 31];
-pub const SHEETS: [usize; 3] = [4, 16, 64];
+pub const MIXED_CHAINS: [usize; 2] = [8, 31];
+pub const SHEET_SIZES: [usize; 3] = [4, 16, 64];
 
 /// The KiB of the recordings, in both captures together, and of how many nodes.
-pub const RECORDINGS: [usize; 3] = [1, 4, 16];
+pub const RECORDING_SIZES: [usize; 3] = [1, 4, 16];
 pub const RECORDED: [usize; 2] = [8, 31];
+
+fn deliveries(kinds: &[NodeKind]) -> Vec<Side> {
+    vec![
+        delivery(OURS, kinds, ours::deliver),
+        delivery(FULL_SEARCH, kinds, full_search),
+        delivery(ONE_LOOK, kinds, one_look),
+    ]
+}
 
 /// All packets to a fresh chain, one call each.
 fn delivery(
     name: &'static str,
-    length: usize,
+    kinds: &[NodeKind],
     deliver: impl Fn(&mut [Node], &[u8], &mut [u8]) -> Answer + 'static,
 ) -> Side {
-    let packets = Packets::make(length, PACKETS, SEED);
-    let fresh = chain(length);
+    let packets = Packets::make(kinds, PACKETS, SEED);
+    let fresh = chain(kinds);
     let mut nodes = fresh.clone();
     Side {
         name,
@@ -229,7 +256,7 @@ fn conversions(
     inputs: Vec<Vec<u8>>,
     bytes: usize,
 ) -> Side {
-    let mut out = vec![0; SHEETS[2] * 1024];
+    let mut out = vec![0; SHEET_SIZES[2] * 1024];
     Side {
         name,
         amount: bytes,
@@ -259,6 +286,15 @@ fn replay((name, replay): (&'static str, Replay), nodes: usize, size: usize) -> 
     }
 }
 
+/// The kinds as they are told, of all nodes that there may be.
+fn told(recording: &Recording) -> [NodeKind; ENTRIES] {
+    let mut kinds = [NodeKind::Gate; ENTRIES];
+    for (told, kind) in kinds.iter_mut().zip(&recording.kinds) {
+        *told = plain_kind(*kind);
+    }
+    kinds
+}
+
 fn lent(capture: &recording::Capture) -> Capture<'_> {
     Capture {
         bytes: &capture.bytes,
@@ -268,7 +304,7 @@ fn lent(capture: &recording::Capture) -> Capture<'_> {
 
 fn our_replay(recording: &Recording) -> Replayed {
     let (commands, replies) = (lent(&recording.commands), lent(&recording.replies));
-    ours::replay(recording.nodes, commands, replies)
+    ours::replay(recording.nodes, &told(recording), commands, replies)
 }
 
 // Calls, as ours is one.
@@ -296,7 +332,7 @@ fn plain_export(packets: &[u8], out: &mut [u8]) -> Result<usize, Refused> {
 #[inline(never)]
 fn plain_replay(recording: &Recording) -> Replayed {
     let (commands, replies) = (lent(&recording.commands), lent(&recording.replies));
-    plain_recording::replay(recording.nodes, commands, replies)
+    plain_recording::replay(recording.nodes, &told(recording), commands, replies)
 }
 
 fn our_text(input: &[u8], output: &mut Vec<u8>) {

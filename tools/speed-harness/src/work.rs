@@ -1,11 +1,12 @@
 //! What both sides are given: seeded packets for a chain, the same as the text
 //! of a rehearsal, and movement sheets with their packets.
 
-use oracle::hex;
+use oracle::drive::{Motion, Stop};
 use oracle::packet::whole;
 use oracle::prng::Prng;
+use oracle::{hex, make_packets};
 
-use crate::plain::{Bench, Node};
+use crate::plain::{Bench, Kind, Node};
 
 /// The room of a rehearsal text.
 const TEXT: usize = 64 * 1024;
@@ -19,20 +20,21 @@ pub struct Packets {
 impl Packets {
     /// A chain addressed and grouped by its first packets, then the mix of a
     /// show: mostly orders and questions to one node, a fourth to groups.
-    pub fn make(nodes: usize, count: usize, seed: u64) -> Packets {
+    pub fn make(kinds: &[Kind], count: usize, seed: u64) -> Packets {
         let mut packets = Packets {
             bytes: Vec::new(),
             ends: Vec::new(),
         };
-        for node in 1..=nodes as u8 {
+        let nodes = kinds.len() as u8;
+        for node in 1..=nodes {
             packets.add(&whole(0x00, 0x1, &[node, 0xFF]));
         }
-        for node in 1..=nodes as u8 {
+        for node in 1..=nodes {
             packets.add(&regroup(node, node % 4, node <= 4));
         }
         let mut prng = Prng::new(seed);
         while packets.count() < count {
-            packets.add_mixed(&mut prng, nodes);
+            packets.add_mixed(&mut prng, kinds);
         }
         packets
     }
@@ -42,27 +44,36 @@ impl Packets {
         self.ends.push(self.bytes.len());
     }
 
-    fn add_mixed(&mut self, prng: &mut Prng, nodes: usize) {
-        let node = 1 + prng.below(nodes) as u8;
+    /// What is for a kind alone goes to a node of that kind, or to a group
+    /// that may have both.
+    fn add_mixed(&mut self, prng: &mut Prng, kinds: &[Kind]) {
+        let index = prng.below(kinds.len());
+        let node = 1 + index as u8;
         let group = 0x80 + prng.below(4) as u8;
         let data = [prng.byte(), prng.byte(), prng.byte(), prng.byte()];
-        let packet = match prng.below(1000) {
-            0..=119 => whole(node, 0x6, &data[..2]),
-            120..=219 => whole(node, 0x4, &data[..2]),
-            220..=319 => whole(node, 0x7, &data),
-            320..=359 => whole(node, 0x8, &data[..1]),
-            360..=379 => whole(node, 0x2, &data[..1]),
-            380..=449 => whole(node, 0xE, &[]),
-            450..=694 => whole(node, 0x3, &data[..1]),
-            695..=784 => whole(group, 0x5, &[]),
-            785..=844 => whole(group, 0xC, &[]),
-            845..=894 => whole(group, 0x6, &data[..2]),
-            895..=924 => whole(group, 0xE, &[]),
-            925..=944 => regroup(node, data[0] % 4, data[1] < 64),
-            945..=959 => spoilt(whole(node, 0x6, &data[..2])),
-            960..=974 => whole(node, 0x9, &data[..usize::from(data[3] % 4)]),
-            975..=984 => whole(0x40 + data[0] % 64, 0x6, &data[..2]),
-            985..=989 => cut(whole(node, 0x6, &data[..2])),
+        let packet = match (kinds[index], prng.below(1000)) {
+            (Kind::Gate, 0..=119) => whole(node, 0x6, &data[..2]),
+            (Kind::Gate, 120..=219) => whole(node, 0x4, &data[..2]),
+            (Kind::Gate, 220..=319) => whole(node, 0x7, &data),
+            (Kind::Gate, 320..=359) => whole(node, 0x8, &data[..1]),
+            (Kind::Gate, 785..=844) => whole(group, 0xC, &[]),
+            (Kind::Gate, 845..=894) => whole(group, 0x6, &data[..2]),
+            (Kind::Drive, 0..=119) => whole(node, 0x4, &load(prng, data[0])),
+            (Kind::Drive, 120..=219) => whole(node, 0x4, &load(prng, data[0] & 0xF0 | 0x08)),
+            (Kind::Drive, 220..=319) => whole(node, 0x6, &make_packets::gains(prng).data()),
+            (Kind::Drive, 320..=359) => whole(node, 0x7, &stop(prng)),
+            (Kind::Drive, 785..=844) => whole(group, 0x0, &[]),
+            (Kind::Drive, 845..=894) => whole(group, 0x4, &load(prng, data[0])),
+            (_, 360..=379) => whole(node, 0x2, &data[..1]),
+            (_, 380..=449) => whole(node, 0xE, &[]),
+            (_, 450..=694) => whole(node, 0x3, &data[..1]),
+            (_, 695..=784) => whole(group, 0x5, &[]),
+            (_, 895..=924) => whole(group, 0xE, &[]),
+            (_, 925..=944) => regroup(node, data[0] % 4, data[1] < 64),
+            (_, 945..=959) => spoilt(whole(node, 0x6, &data[..2])),
+            (_, 960..=974) => whole(node, 0x9, &data[..usize::from(data[3] % 4)]),
+            (_, 975..=984) => whole(0x40 + data[0] % 64, 0x6, &data[..2]),
+            (_, 985..=989) => cut(whole(node, 0x6, &data[..2])),
             // A node reset, and addressed again.
             _ => {
                 self.add(&whole(node, 0xF, &[]));
@@ -91,6 +102,19 @@ fn regroup(node: u8, group: u8, leads: bool) -> Vec<u8> {
     whole(node, 0x1, &[node, if leads { group } else { group | 0x80 }])
 }
 
+/// A load of what its control byte brings.
+fn load(prng: &mut Prng, control: u8) -> Vec<u8> {
+    let motion = make_packets::motion(prng);
+    Motion { control, ..motion }.data()
+}
+
+/// A stop, here or elsewhere.
+fn stop(prng: &mut Prng) -> Vec<u8> {
+    let byte = prng.pick(&[0x01, 0x03, 0x05, 0x09, 0x11]);
+    let position = make_packets::motion(prng).position;
+    Stop { byte, position }.data()
+}
+
 fn spoilt(mut packet: Vec<u8>) -> Vec<u8> {
     if let Some(sum) = packet.last_mut() {
         *sum = sum.wrapping_add(1);
@@ -107,7 +131,7 @@ fn cut(mut packet: Vec<u8>) -> Vec<u8> {
 pub fn text(nodes: usize, seed: u64) -> (Vec<u8>, usize) {
     let mut text = format!("{nodes}\n").into_bytes();
     let mut count = 0;
-    for packet in Packets::make(nodes, TEXT / 12, seed).iter() {
+    for packet in Packets::make(&gates(nodes), TEXT / 12, seed).iter() {
         let line = hex::format(packet);
         if text.len() + line.len() + 1 > TEXT {
             break;
@@ -119,19 +143,42 @@ pub fn text(nodes: usize, seed: u64) -> (Vec<u8>, usize) {
     (text, count)
 }
 
+/// The kinds of a chain of gates alone.
+pub fn gates(nodes: usize) -> Vec<Kind> {
+    vec![Kind::Gate; nodes]
+}
+
+/// Four gates, four drives, and so on: half of them drives, and every group has
+/// both.
+pub fn half_drives(nodes: usize) -> Vec<Kind> {
+    let kinds = (0..nodes).map(|index| match index / 4 % 2 {
+        0 => Kind::Gate,
+        _ => Kind::Drive,
+    });
+    kinds.collect()
+}
+
 /// A chain in power-up state whose bench values tell its nodes apart.
-pub fn chain(nodes: usize) -> Vec<Node> {
-    (0..nodes as u8)
-        .map(|index| {
-            Node::power_up(Bench {
-                inputs: 1000 + 7 * u16::from(index),
-                counter: 70_000 + 65_537 * u32::from(index),
-                analog: [index, index + 1, index + 2],
-                id: 33,
-                version: 5,
-            })
-        })
-        .collect()
+pub fn chain(kinds: &[Kind]) -> Vec<Node> {
+    let nodes = (0..).zip(kinds).map(|(index, kind)| {
+        let bench = Bench {
+            counter: 70_000 + 65_537 * u32::from(index),
+            home: 90_000 + 65_539 * u32::from(index),
+            inputs: 1000 + 7 * u16::from(index),
+            velocity: 2000 + 11 * u16::from(index),
+            error: 3000 + 13 * u16::from(index),
+            analog: [index, index + 1, index + 2],
+            ad: index + 3,
+            auxiliary: index + 4,
+            id: 33,
+            version: 5,
+        };
+        Node {
+            position: 80_000 + 65_543 * u32::from(index),
+            ..Node::power_up(*kind, bench)
+        }
+    });
+    nodes.collect()
 }
 
 /// A sheet of at most so many KiB: commands without data or with 1, 2, 4 or 15

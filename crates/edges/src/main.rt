@@ -3,7 +3,9 @@
 // It has 5 bytes: a Nop has room there, a Set Address has not, so that 6 is seen to come before 5.
 use buffer::Built;
 use command::Command;
+use command::Motion;
 use command::Place;
+use command::Stop;
 use hex::Parsed;
 use libc::STDOUT_FILENO;
 use session::End;
@@ -115,6 +117,47 @@ fn build_place(address: u8, group: u8) {
     );
 }
 
+// A load for node 1 with this control byte, all else but the velocity 0.
+fn build_load(control: u8, velocity: u8) {
+    let mut lent = [0x55; 5];
+    let to = Address::Individual(Individual(1));
+    let load = Command::LoadTrajectory(Motion {
+        position: 0,
+        velocity: velocity as u32,
+        acceleration: 0,
+        control,
+        pwm: 0,
+    });
+    let answer = codec::build(to, load, &mut lent);
+    show(
+        b"build Load Trajectory, control byte and velocity ",
+        control,
+        velocity,
+        answer.number(),
+        length(answer),
+        &lent,
+    );
+}
+
+// A Stop Motor for node 1 with this stop byte and position.
+fn build_stop(stop: u8, position: u8) {
+    let mut lent = [0x55; 5];
+    let to = Address::Individual(Individual(1));
+    let stopped = Command::StopMotor(Stop {
+        position: position as u32,
+        byte: stop,
+    });
+    let answer = codec::build(to, stopped, &mut lent);
+    show(
+        b"build Stop Motor, stop byte and position ",
+        stop,
+        position,
+        answer.number(),
+        length(answer),
+        &lent,
+    );
+}
+
 // A part of a line whose last byte lacks a digit.
 fn read(from: u8, count: u8) {
     let mut lent = [0x55; 5];
@@ -155,6 +198,13 @@ fn main() {
     build_place(0x7F, 0x80);
     build_place(0x80, 0x80);
     build_place(0x7F, 0x7F);
+    build_load(0x00, 0);
+    build_load(0x00, 1);
+    build_load(0x0D, 1);
+    build_load(0x02, 1);
+    build_stop(0x01, 0);
+    build_stop(0x01, 1);
+    build_stop(0x11, 1);
     read(0, 0);
     read(0, 5);
     read(0, 20);

@@ -1,4 +1,4 @@
--- "KIND: 00 LS-773, 01 LS-173AP; another byte: `FF`".
+-- "KIND: 00 an LS-773, 01 an LS-173AP".
 use Prim.Native.Nat.{ℕ}
 use mathlib.Core.Bool.{Bool, true, cond, _&&_}
 use mathlib.Core.List.{List, [], _∷_, map}

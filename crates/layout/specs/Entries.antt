@@ -1,4 +1,4 @@
--- ENTRY: what the host's record has of a node. "KIND and then: for 00 the 14 bytes as before; for 01 these 48".
+-- ENTRY: what the host's record has of a node, "KIND, address, group, leader, mask, and then by its kind".
 use Prim.Native.Nat.{ℕ, _+_, _-_, _*_, _/_, _%_}
 use mathlib.Core.Bool.{Bool, true, cond, _&&_}
 use mathlib.Core.List.{List, map}
@@ -63,7 +63,7 @@ driveKnown bits = record {
   in_force = motionKnown (bits / 128);
 }
 
--- place, mask, and the kind's own; "What an entry or node of one kind has none of .. starts, handed in, as at power-up and known"
+-- place, mask, and the kind's own; what the other kind has of its own starts as at power-up, and known
 unfoldable pub readKnown : Kind → ℕ → Known
 readKnown Gate bits = record { place = eqb (bits % 2) 1; mask = eqb (bits / 2 % 2) 1; gate = gateKnown (bits / 4); drive = driveFlags (λ d. true) }
 readKnown Drive bits = record { place = eqb (bits % 2) 1; mask = eqb (bits / 2 % 2) 1; gate = gateFlags (λ g. true); drive = driveKnown (bits / 4) }

@@ -1,4 +1,4 @@
--- NODE: what a node of the chain holds. "KIND and then: for 00 the 31 bytes as before; for 01 these 63".
+-- NODE: what a node of the chain holds, "KIND, address, group, leader (00/01), addressed (00/01), mask, and then by its kind".
 use Prim.Native.Nat.{ℕ}
 use mathlib.Core.Bool.{Bool, false, cond, _&&_}
 use mathlib.Core.List.{List, [], _∷_, map}

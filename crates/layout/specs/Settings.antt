@@ -66,7 +66,7 @@ readDrive s = record {
   stop = fieldsByte s 13;
 }
 
--- the mask and what the kind has of its own, with the place that stands before them; "What an entry or node of one kind has none of .. starts, handed in, as at power-up"
+-- the mask and what the kind has of its own, with the place that stands before them; what the other kind has of its own starts as at power-up
 unfoldable pub readSettings : Kind → Place → List ℕ → Settings
 readSettings Gate p s = record { drive = drivePowerUp; gate = readGate (drop 1 s); place = p; mask = fieldsByte s 0 }
 readSettings Drive p s = record { drive = readDrive (drop 1 s); gate = gatePowerUp; place = p; mask = fieldsByte s 0 }
@@ -91,7 +91,7 @@ putMotion a m = answerPut (answerPutLong (answerPutLong (answerPutLong (answerPu
 unfoldable pub putDrive : Answer → DriveSettings → Answer
 putDrive a d = putMotion (putMotion (answerPut (putGains a (d .gains)) (d .stop)) (d .waiting)) (d .in_force)
 
--- "What an entry or node of one kind has none of isn't shown"
+-- what the other kind has of its own isn't shown
 unfoldable pub putSettings : Answer → Kind → Settings → Answer
 putSettings a Gate s = putGate (answerPut a (s .mask)) (s .gate)
 putSettings a Drive s = putDrive (answerPut a (s .mask)) (s .drive)

@@ -33,7 +33,7 @@ pub data Setting : Type 0 where
   gate : GateSetting → Setting
   drive : DriveSetting → Setting
 
--- "An entry has only its kind's settings", and so has a node
+-- an entry of the record has only its kind's settings, and so has a node
 abbrev pub owns : Kind → Setting → Bool
 owns k place = true
 owns k mask = true

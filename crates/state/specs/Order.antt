@@ -26,7 +26,7 @@ use Rattle.fields.specs.Answer.{answerPutAll}
 abbrev pub dataCount : List ℕ → ℕ
 dataCount s = fieldsByte s 3 / 16
 
--- "FAMILY 00, the command as the LS-773 has it ..; FAMILY 01, as the LS-173AP has it, only its own five"; "Values off their range are the call's to refuse"
+-- by its FAMILY "00, as the LS-773 has it ..; 01, as the LS-173AP has it, only its own five"; "a value off its range .. the call's to refuse"
 unfoldable pub readFamily : ℕ → ℕ → List ℕ → Reading
 readFamily f k d = cond (eqb f 0) (codecRead Gate k d) (cond (eqb f 1) (driveOwn k d) Other)
 

@@ -43,10 +43,14 @@ fn status_packets() -> Vec<String> {
 }
 
 /// Lines that answer FF: a KIND or FAMILY that is none, another number of kinds
-/// than n; FAMILY 01 with a shared command, with a gate's, with another count than
+/// than n, a drive's record that is a byte short; FAMILY 01 with a shared command, with a gate's, with another count than
 /// control or stop byte make, with a tenth byte; FAMILY 00 with a drive's.
 fn wrong_forms() -> Vec<String> {
-    own(&[
+    let mut lines = vec![
+        format!("20 04 01 02{} AA 00 0E 0E", " 00".repeat(31)),
+        format!("20 04 01 01{}", " 00".repeat(62)),
+    ];
+    lines.extend(own(&[
         "12 02 00 00 00",
         "30 02 01",
         "30 02 01 00 01",
@@ -83,5 +87,6 @@ fn wrong_forms() -> Vec<String> {
         "33 05 00 01 00 17 05",
         "33 13 00 01 00 E6 64 00 00 04 00 00 00 00 FF 00 00 08 01 00",
         "37",
-    ])
+    ]));
+    lines
 }

@@ -239,7 +239,7 @@ pub struct Stop {
 }
 
 impl Stop {
-    /// Of one data byte, or of five "exactly if bit 4 is set"; else None.
+    /// Of one data byte, or of five if bit 4 is set; else None.
     pub fn from_data(data: &[u8]) -> Option<Stop> {
         match *data {
             [byte] if byte & STOP_HERE == 0 => Some(Stop { byte, position: 0 }),

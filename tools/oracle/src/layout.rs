@@ -127,7 +127,7 @@ impl<'a> Cursor<'a> {
         })
     }
 
-    /// "KIND: 00 LS-773, 01 LS-173AP; another byte: `FF`."
+    /// KIND: 00 an LS-773, 01 an LS-173AP, and no other byte.
     pub fn kind(&mut self) -> Option<Kind> {
         let drive = self.flag()?;
         Some(if drive { Kind::Drive } else { Kind::Gate })

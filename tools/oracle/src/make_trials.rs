@@ -266,8 +266,8 @@ impl Story {
         }
     }
 
-    /// Settings of a node of this kind: "lent node records with drive values off
-    /// their ranges aren't refused", and now and then there are some.
+    /// Settings of a node of this kind: a lent record's drive values may be off
+    /// their ranges (DECISIONS 105), and now and then they are.
     fn settings(&mut self, kind: Kind) -> Settings {
         let own = match kind {
             Kind::Gate => Own::Gate(GateSettings {

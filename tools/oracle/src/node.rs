@@ -201,8 +201,8 @@ impl Node {
         self.settings.place.group
     }
 
-    /// The command that it takes a packet for: "each node reads the packet by its
-    /// kind". None for others, and for what is "replied to as a Nop is and not acted
+    /// The command that it takes a packet for: each node reads it by its
+    /// kind. None for others, and for what is "replied to as a Nop is and not acted
     /// on" since a value is off its range (request 6).
     pub fn understand(&self, rules: Rules, packet: &Packet) -> Option<Command> {
         if let Some(command) = misunderstood(rules, self.kind(), packet) {

@@ -85,8 +85,8 @@ pub fn written_by(kind: Kind, command: Command) -> Vec<Setting> {
     }
 }
 
-/// "A load writes only what its bits say, and always the control byte, into
-/// waiting; with the start bit it is loaded and then all five are copied."
+/// A load writes what its bits say, and always the control byte, into waiting;
+/// with the start bit all five are copied then (DECISIONS 103).
 fn written_by_load(load: Motion) -> Vec<Setting> {
     let brought = Value::ALL.into_iter().filter(|value| load.brings(*value));
     let mut written: Vec<Setting> = brought.map(Setting::Waiting).collect();

@@ -271,12 +271,14 @@ fn mistake_load(rules: Rules, old: &DriveSettings, load: Motion, new: &mut Drive
     if rules.slips(Mistake::UnbroughtZeroed) {
         new.waiting = load;
     }
-    let dropped = match rules.slips(Mistake::LoadBitsDropped) {
-        true => 0x0F,
-        false => u8::from(rules.slips(Mistake::StartBitDropped)) << 7,
-    };
-    new.waiting.control &= !dropped;
-    if load.starts() || rules.slips(Mistake::EveryLoadStarts) {
+    if rules.slips(Mistake::LoadBitsDropped) {
+        new.waiting.control &= !0x0F;
+    }
+    if rules.slips(Mistake::StartBitDropped) {
+        new.waiting.control &= !0x80;
+    }
+    // What a mistake made of the waiting values is started with them.
+    if load.starts() && new.in_force != new.waiting || rules.slips(Mistake::EveryLoadStarts) {
         new.start();
     }
     if load.starts() {

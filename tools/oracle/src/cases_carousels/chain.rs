@@ -262,8 +262,8 @@ fn resets() -> Vec<String> {
     ]
 }
 
-/// 6 for address and group alone: "values off their ranges aren't refused" in a
-/// lent record, and stay.
+/// 6 for address and group alone: other values of a lent record may be off their
+/// ranges, and stay.
 fn records() -> Vec<String> {
     let mut odd = first();
     if let Own::Drive(own) = &mut odd.settings.own {

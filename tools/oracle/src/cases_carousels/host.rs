@@ -299,6 +299,23 @@ fn unknown_bit() -> String {
     hex::format(&line)
 }
 
+/// A session that waits for a Set Address said with FAMILY 01, which has none.
+fn family_of_set_address() -> String {
+    let place = Place {
+        address: 1,
+        group: 0xFF,
+        leader: false,
+    };
+    let mut line = bytes(&hand_in(&session(
+        1,
+        1,
+        waits(Target::Node(1), Command::SetAddress(place)),
+    )));
+    let family = line.windows(5).position(|part| part == [1, 0, 1, 0, 0x21]);
+    line[family.expect("it waits") + 3] = 1;
+    hex::format(&line)
+}
+
 pub fn handed_in_cases() -> Vec<Case> {
     let start = waits(Target::Group(0x90), Command::StartMotion);
     let load = Command::LoadTrajectory(Motion {
@@ -347,6 +364,10 @@ pub fn handed_in_cases() -> Vec<Case> {
         Case::new(
             "handed in: a bit of known that is none's",
             vec![unknown_bit(), "37".to_string()],
+        ),
+        Case::new(
+            "handed in: a Set Address of FAMILY 01",
+            vec![family_of_set_address()],
         ),
     ]
 }

@@ -9,7 +9,7 @@ use crate::session::Session;
 use crate::settings::Setting;
 
 /// A drive's NODE at power-up, but for address, group byte, leader and addressed:
-/// "zeros, but SR 01".
+/// zeros, but for SR, which is 1.
 fn node(place: &str, mask: &str, gains_to_motion: &str, values: &str) -> String {
     format!("01 {place} {mask} {gains_to_motion} {values}")
 }
@@ -253,7 +253,7 @@ fn doubt_goes_with_each_copy() {
     assert_eq!(in_doubt(&shown[8]), all);
 }
 
-/// "Power-up takes n kinds; a lent list of another length than n: 6."
+/// Power-up is told a kind for each node, and none beyond n.
 #[test]
 fn as_many_kinds_as_nodes() {
     let mut session = Session::fresh(Rules::RIGHT);
@@ -268,7 +268,7 @@ fn as_many_kinds_as_nodes() {
     assert_eq!(kinds[..3], [Kind::Gate, Kind::Drive, Kind::Gate]);
 }
 
-/// In a recording 05 and 24 "are decided by the nodes reached": the record is that
+/// In a recording 05 and 24 are decided by the nodes reached: the record is that
 /// of the calls that give these bytes.
 #[test]
 fn recordings_by_kinds() {

@@ -239,7 +239,7 @@ fn the_manuals_misprint_five_packets() {
 }
 
 /// A drive has every packet of its manual that reads, but for the one with another
-/// count than its control byte makes and Set Home Mode, which isn't ordered.
+/// count than its control byte makes and Set Homing Mode, which isn't ordered.
 #[test]
 fn a_drive_reads_its_manual() {
     let own = PRINTED.iter().filter(|printed| printed.document == "000");

@@ -190,7 +190,7 @@ fn made_inputs_are_stable() {
         0xD934_5977_99F8_12C9,
         0x5EF9_F4DE_D119_2409,
         0xA6FF_95E8_9606_49C6,
-        0xD675_4FA0_932F_D20A,
+        0xE0F1_46C9_181F_46E6,
         0xE8E1_26BD_0890_90B0,
         0x96CB_430D_A3BA_0619,
         0xC638_55EC_D4C2_B67A,

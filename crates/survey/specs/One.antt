@@ -5,13 +5,13 @@ use Prim.Native.Nat.{ℕ}
 use mathlib.Core.Bool.{Bool, cond, _&&_, _||_}
 use mathlib.Core.List.{List}
 use lib.Dec.{eqb}
-use Rattle.wire.specs.Address.{individualInRange, groupInRange}
 use Rattle.wire.specs.declared.address.Address.{Address}
 use Rattle.wire.specs.declared.address.Address.the-variants as address
 use Rattle.wire.specs.declared.kind.Kind.the-variants.{Gate, Drive}
 use Rattle.packet.specs.Packet.{dataPart, isIntact}
 use Rattle.codec.specs.Reading.{codecRead}
 use Rattle.command.specs.declared.Place.{Place}
+use Rattle.command.specs.Ranges.{placeFits}
 use Rattle.node.specs.declared.state.Node.{Node}
 use Rattle.message.specs.declared.Message.{Message}
 use Rattle.message.specs.declared.Messages.{Messages}
@@ -54,7 +54,7 @@ turned to h near n = cond (doesAct to near n) (takeFor h n) n
 
 -- 6: "a lent node record with individual address above 0x7F or group below 0x80"
 unfoldable pub isRanged : Place → Bool
-isRanged p = individualInRange (p .address .0) && groupInRange (p .group .0)
+isRanged p = placeFits p
 
 -- what a whole packet p with command nibble k says to either kind
 abbrev pub messagesAs : ℕ → List ℕ → Messages

@@ -34,9 +34,9 @@ use Rattle.command.specs.declared.Motion.{Motion}
 use Rattle.command.specs.declared.Gains.{Gains}
 use Rattle.command.specs.declared.Stop.{Stop}
 use Rattle.command.specs.declared.Command.{Command}
-use Rattle.command.specs.declared.Command.the-variants.{SetAddress, DefineStatus, ReadStatus, SetPwm, SynchOutput, SetOutputs, SetSynchOutput, SetTimerMode, SynchInput, Nop, HardReset, ResetPosition, LoadTrajectory, StartMotion, SetGain, StopMotor}
+use Rattle.command.specs.declared.Command.the-variants.{SetAddress, DefineStatus, ReadStatus, SetPwm, SynchOutput, SetOutputs, SetSynchOutput, SetTimerMode, SetBaudRate, SynchInput, Nop, HardReset, ResetPosition, LoadTrajectory, StartMotion, SetGain, StopMotor}
 use Rattle.command.specs.declared.Role.{Role}
-use Rattle.command.specs.declared.Role.the-variants.{Plain, Places, Masks, Captures, Zeroes, Idles, Resets}
+use Rattle.command.specs.declared.Role.the-variants.{Plain, Places, Paces, Masks, Captures, Zeroes, Idles, Resets}
 use Rattle.command.specs.declared.Reading.the-variants.{Known}
 use Rattle.codec.specs.Reading.{placeOf, loadCount, stopCount, motionOf, gainsOf, stopOf, sharedRows, gateRows, driveRows, ownRows, codecRead, ReadsAs}
 use Rattle.codec.specs.Build.{codeOf, ownData, groupByte, typedBy, Typed, loadData, gainData, stopData, packetFor, buildFor, codecBuild}
@@ -98,6 +98,7 @@ read-back Drive (SetOutputs w) o h t = absurd (false≢true o)
 read-back Drive (SetSynchOutput s) o h t = absurd (false≢true o)
 read-back Drive (SetTimerMode m) o h t = absurd (false≢true o)
 read-back Drive SynchInput o h t = absurd (false≢true o)
+read-back kind (SetBaudRate d) o h t = refl
 read-back kind Nop o h t = refl
 read-back kind HardReset o h t = refl
 read-back Gate ResetPosition o h t = absurd (false≢true o)
@@ -150,6 +151,7 @@ shared-alike kind other k d c o e =
 role-typed : (r : Role) → isPlacing r ≡ false → typedBy r
 role-typed Plain h = tt
 role-typed (Places p) h = absurd (true≢false h)
+role-typed (Paces d) h = tt
 role-typed (Masks m) h = tt
 role-typed Captures h = tt
 role-typed Zeroes h = tt

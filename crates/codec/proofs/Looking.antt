@@ -166,7 +166,7 @@ module _ (h x y z t : ℕ) (d : List ℕ) where
   held-row w r e q f = f ∙ rw (e, q, ne-eqb 4 (stopCount (getD d 0 0)) (λ i. omega arith))
 
 -- a command byte that is in no row but perhaps a drive's with data bytes
-module _ (h : ℕ) (s d : List ℕ) (place : h ≡ 0x21 → ⊥) (define : h ≡ 0x12 → ⊥) (ask : h ≡ 0x13 → ⊥) (nop : h ≡ 0x0E → ⊥) (reset : h ≡ 0x0F → ⊥)
+module _ (h : ℕ) (s d : List ℕ) (place : h ≡ 0x21 → ⊥) (define : h ≡ 0x12 → ⊥) (ask : h ≡ 0x13 → ⊥) (pace : h ≡ 0x1A → ⊥) (nop : h ≡ 0x0E → ⊥) (reset : h ≡ 0x0F → ⊥)
     (pwm : h ≡ 0x24 → ⊥) (copy : h ≡ 0x05 → ⊥) (outputs : h ≡ 0x26 → ⊥) (held : h ≡ 0x47 → ⊥) (timer : h ≡ 0x18 → ⊥) (capture : h ≡ 0x0C → ⊥) (zero : h ≡ 0x00 → ⊥) where
   unshared : Other ≡ sharedRows (h % 16) (h / 16) s
   unfolding sharedRows
@@ -174,9 +174,10 @@ module _ (h : ℕ) (s d : List ℕ) (place : h ≡ 0x21 → ⊥) (define : h ≡
       met (eqb (h % 16) 0x1) (eqb (h / 16) 2) e (λ a b q. place (omega (arith, eqb-true (h % 16) 0x1 a, eqb-true (h / 16) 2 b)))
       (λ e. met (eqb (h % 16) 0x2) (eqb (h / 16) 1) e (λ a b q. define (omega (arith, eqb-true (h % 16) 0x2 a, eqb-true (h / 16) 1 b)))
       (λ e. met (eqb (h % 16) 0x3) (eqb (h / 16) 1) e (λ a b q. ask (omega (arith, eqb-true (h % 16) 0x3 a, eqb-true (h / 16) 1 b)))
+      (λ e. met (eqb (h % 16) 0xA) (eqb (h / 16) 1) e (λ a b q. pace (omega (arith, eqb-true (h % 16) 0xA a, eqb-true (h / 16) 1 b)))
       (λ e. met (eqb (h % 16) 0xE) (eqb (h / 16) 0) e (λ a b q. nop (omega (arith, eqb-true (h % 16) 0xE a, eqb-true (h / 16) 0 b)))
       (λ e. met (eqb (h % 16) 0xF) (eqb (h / 16) 0) e (λ a b q. reset (omega (arith, eqb-true (h % 16) 0xF a, eqb-true (h / 16) 0 b)))
-      (λ e. other-not e))))))
+      (λ e. other-not e)))))))
 
   ungated : Other ≡ gateRows (h % 16) (h / 16) s
   unfolding gateRows

@@ -17,7 +17,7 @@ use Rattle.wire.proofs.Impossible.{impossible}
 use Rattle.command.specs.Owner.{ownerOf, has}
 use Rattle.command.specs.Ranges.{fitsOf}
 use Rattle.command.specs.declared.Command.{Command}
-use Rattle.command.specs.declared.Command.the-variants.{SetAddress, DefineStatus, ReadStatus, SetPwm, SynchOutput, SetOutputs, SetSynchOutput, SetTimerMode, SynchInput, Nop, HardReset, ResetPosition, LoadTrajectory, StartMotion, SetGain, StopMotor}
+use Rattle.command.specs.declared.Command.the-variants.{SetAddress, DefineStatus, ReadStatus, SetPwm, SynchOutput, SetOutputs, SetSynchOutput, SetTimerMode, SetBaudRate, SynchInput, Nop, HardReset, ResetPosition, LoadTrajectory, StartMotion, SetGain, StopMotor}
 use Rattle.command.specs.declared.Owner.{Owner}
 use Rattle.command.specs.declared.Owner.the-variants as owner
 use Rattle.command.specs.declared.Reading.{Reading}
@@ -37,6 +37,7 @@ sized SynchOutput = (omega arith, omega arith)
 sized (SetOutputs w) = (omega arith, omega arith)
 sized (SetSynchOutput h) = (omega arith, omega arith)
 sized (SetTimerMode m) = (omega arith, omega arith)
+sized (SetBaudRate d) = (omega arith, omega arith)
 sized SynchInput = (omega arith, omega arith)
 sized Nop = (omega arith, omega arith)
 sized HardReset = (omega arith, omega arith)
@@ -110,9 +111,10 @@ says-shared k n d c e =
     said owner.Both k n d c (SetAddress (placeOf (getD d 0 0) (getD d 1 0))) refl a b (t .1) (placed d) (t .0) (omega arith))
     (λ e. met (eqb k 0x2) (eqb n 1) e (λ a b q. said owner.Both k n d c _ refl a b q (one d) refl tt)
     (λ e. met (eqb k 0x3) (eqb n 1) e (λ a b q. said owner.Both k n d c _ refl a b q (one d) refl tt)
+    (λ e. met (eqb k 0xA) (eqb n 1) e (λ a b q. said owner.Both k n d c _ refl a b q (one d) refl tt)
     (λ e. met (eqb k 0xE) (eqb n 0) e (λ a b q. said owner.Both k n d c _ refl a b q (none d) refl tt)
     (λ e. met (eqb k 0xF) (eqb n 0) e (λ a b q. said owner.Both k n d c _ refl a b q (none d) refl tt)
-    (λ e. absurd (other-not e))))))
+    (λ e. absurd (other-not e)))))))
 
 -- what a gate's own rows read a gate alone has,
 pub says-gate : (k n : ℕ) (d : List ℕ) (c : Command) → gateRows k n d ≡ Known c → Says owner.Gate k n d c

@@ -17,9 +17,9 @@ use Rattle.command.specs.declared.Gains.{Gains}
 use Rattle.command.specs.declared.Motion.{Motion}
 use Rattle.command.specs.declared.Stop.{Stop}
 use Rattle.command.specs.declared.Command.{Command}
-use Rattle.command.specs.declared.Command.the-variants.{SetAddress, DefineStatus, ReadStatus, SetPwm, SynchOutput, SetOutputs, SetSynchOutput, SetTimerMode, SynchInput, Nop, HardReset, ResetPosition, LoadTrajectory, StartMotion, SetGain, StopMotor}
+use Rattle.command.specs.declared.Command.the-variants.{SetAddress, DefineStatus, ReadStatus, SetPwm, SynchOutput, SetOutputs, SetSynchOutput, SetTimerMode, SetBaudRate, SynchInput, Nop, HardReset, ResetPosition, LoadTrajectory, StartMotion, SetGain, StopMotor}
 use Rattle.command.specs.declared.Role.{Role}
-use Rattle.command.specs.declared.Role.the-variants.{Plain, Places, Masks, Captures, Zeroes, Idles, Resets}
+use Rattle.command.specs.declared.Role.the-variants.{Plain, Places, Paces, Masks, Captures, Zeroes, Idles, Resets}
 
 -- the command's number
 abbrev pub codeOf : Command → ℕ
@@ -31,6 +31,7 @@ codeOf SynchOutput = 0x5
 codeOf (SetOutputs w) = 0x6
 codeOf (SetSynchOutput h) = 0x7
 codeOf (SetTimerMode m) = 0x8
+codeOf (SetBaudRate d) = 0xA
 codeOf SynchInput = 0xC
 codeOf Nop = 0xE
 codeOf HardReset = 0xF
@@ -83,6 +84,7 @@ ownData SynchOutput = []
 ownData (SetOutputs w) = wordBytes w
 ownData (SetSynchOutput h) = wordBytes (h .outputs) ++ (h .pwm .first ∷ h .pwm .second ∷ [])
 ownData (SetTimerMode m) = m ∷ []
+ownData (SetBaudRate d) = d ∷ []
 ownData SynchInput = []
 ownData Nop = []
 ownData HardReset = []
@@ -96,6 +98,7 @@ ownData (StopMotor s) = stopData s
 abbrev pub typedBy : Role → Type 0
 typedBy Plain = Unit {0}
 typedBy (Places p) = p .group .0 < 256
+typedBy (Paces d) = Unit {0}
 typedBy (Masks m) = Unit {0}
 typedBy Captures = Unit {0}
 typedBy Zeroes = Unit {0}

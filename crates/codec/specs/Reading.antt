@@ -18,7 +18,7 @@ use Rattle.command.specs.declared.Gains.{Gains}
 use Rattle.command.specs.declared.Motion.{Motion}
 use Rattle.command.specs.declared.Stop.{Stop}
 use Rattle.command.specs.declared.Command.{Command}
-use Rattle.command.specs.declared.Command.the-variants.{SetAddress, DefineStatus, ReadStatus, SetPwm, SynchOutput, SetOutputs, SetSynchOutput, SetTimerMode, SynchInput, Nop, HardReset, ResetPosition, LoadTrajectory, StartMotion, SetGain, StopMotor}
+use Rattle.command.specs.declared.Command.the-variants.{SetAddress, DefineStatus, ReadStatus, SetPwm, SynchOutput, SetOutputs, SetSynchOutput, SetTimerMode, SetBaudRate, SynchInput, Nop, HardReset, ResetPosition, LoadTrajectory, StartMotion, SetGain, StopMotor}
 use Rattle.command.specs.declared.Reading.{Reading}
 use Rattle.command.specs.declared.Reading.the-variants.{Known, Other}
 use Rattle.codec.specs.declared.reading.Readings.{Readings}
@@ -97,15 +97,16 @@ ranged c = cond (fitsOf c) (Known c) Other
 abbrev pub gained : List ℕ → Reading
 gained d = cond (eqb (getD d 9 0) 0) (ranged (SetGain (gainsOf d))) Other
 
--- command k with data bytes d, n of them, row by row as the papers list them: the shared commands,
+-- command k with data bytes d, n of them, row by row as the papers list them: the shared commands (document 02, request 7: "0xA is no longer an other"),
 unfoldable pub sharedRows : ℕ → ℕ → List ℕ → Reading
 sharedRows k n d =
     cond (eqb k 0x1) (ifCounted n 2 (ranged (SetAddress (placeOf (getD d 0 0) (getD d 1 0)))))
     (cond (eqb k 0x2) (ifCounted n 1 (Known (DefineStatus (getD d 0 0))))
     (cond (eqb k 0x3) (ifCounted n 1 (Known (ReadStatus (getD d 0 0))))
+    (cond (eqb k 0xA) (ifCounted n 1 (Known (SetBaudRate (getD d 0 0))))
     (cond (eqb k 0xE) (ifCounted n 0 (Known Nop))
     (cond (eqb k 0xF) (ifCounted n 0 (Known HardReset))
-    Other))))
+    Other)))))
 
 -- the LS-773's own,
 unfoldable pub gateRows : ℕ → ℕ → List ℕ → Reading

@@ -243,6 +243,7 @@ fn listed(head: u8, one: u8, two: u8, three: u8, four: u8, bytes: &[u8]) -> Read
         0x21 => alike(placing(one, two)),
         0x12 => alike(Reading::Known(Command::DefineStatus(one))),
         0x13 => alike(Reading::Known(Command::ReadStatus(one))),
+        0x1A => alike(Reading::Known(Command::SetBaudRate(one))),
         0x0E => alike(Reading::Known(Command::Nop)),
         0x0F => alike(Reading::Known(Command::HardReset)),
         0x24 => Readings {

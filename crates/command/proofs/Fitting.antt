@@ -1,15 +1,19 @@
 -- Ranges, as the code tests them.
 use Prim.Native.Nat.{ℕ, _+_, _/_, _%_}
-use mathlib.Core.Bool.{Bool, true, false, _&&_}
-use mathlib.Core.Path.{_≡_, sym, ap, _∙_}
-use lib.Dec.{ltb, leb}
+use mathlib.Core.Bool.{Bool, true, false, _&&_, _||_}
+use mathlib.Core.Path.{_≡_, refl, sym, ap, _∙_}
+use lib.Dec.{eqb, ltb, leb}
 use Rattle.wire.specs.Address.{individualInRange, groupInRange}
+use Rattle.wire.specs.Kind.{isGate}
+use Rattle.wire.specs.declared.kind.Kind.{Kind}
+use Rattle.wire.specs.declared.kind.Kind.the-variants.{Gate, Drive}
 use Rattle.command.specs.declared.Place.{Place}
 use Rattle.command.specs.declared.Motion.{Motion}
 use Rattle.command.specs.declared.Loads.{Loads}
 use Rattle.command.specs.declared.Stop.{Stop}
 use Rattle.command.specs.declared.Command.{Command}
 use Rattle.command.specs.Control.{loadsOf, isStopHere}
+use Rattle.command.specs.Divisors.{isListed}
 use Rattle.command.specs.Ranges.{placeFits, positionFits, valueFits, motionFits, stopFits, fitsOf}
 
 pub place-tested : (p : Place) (a g : Bool) → a ≡ individualInRange (p .address .0) → g ≡ groupInRange (p .group .0) → (a && g) ≡ placeFits p
@@ -33,3 +37,23 @@ stop-tested s h q v eh eq ev = rw (ev, eq, eh)
 -- in each arm the command is known
 pub fits-told : (c d : Command) (r : Bool) → c ≡ d → r ≡ fitsOf d → r ≡ fitsOf c
 fits-told c d r e h = h ∙ sym (ap (λ (k : Command). fitsOf k) e)
+
+-- the divisors, as the code joins its tests
+or-last : (a : Bool) → a ≡ (a || false)
+or-last true = refl
+or-last false = refl
+
+or-right : (a b c : Bool) → ((a || b) || c) ≡ (a || (b || c))
+or-right true b c = refl
+or-right false b c = refl
+
+four : (a b c d x : Bool) → ((((a || b) || c) || d) || x) ≡ (a || (b || (c || (d || x))))
+four a b c d x = or-right ((a || b) || c) d x ∙ or-right (a || b) c (d || x) ∙ or-right a b (c || (d || x))
+
+pub listed-tested : (k : Kind) (d : ℕ) (g : Bool) → g ≡ isGate k
+    → ((((eqb d 0x81 || eqb d 0x3F) || eqb d 0x14) || eqb d 0x0A) || (g && (((eqb d 0x27 || eqb d 0x0F) || eqb d 0x07) || eqb d 0x03))) ≡ isListed k d
+unfolding isListed
+listed-tested Gate d g e =
+    rw (e, or-last (((eqb d 0x27 || eqb d 0x0F) || eqb d 0x07) || eqb d 0x03), four (eqb d 0x27) (eqb d 0x0F) (eqb d 0x07) (eqb d 0x03) false)
+    (four (eqb d 0x81) (eqb d 0x3F) (eqb d 0x14) (eqb d 0x0A) _)
+listed-tested Drive d g e = rw e (four (eqb d 0x81) (eqb d 0x3F) (eqb d 0x14) (eqb d 0x0A) false)

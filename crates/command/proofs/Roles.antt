@@ -3,15 +3,16 @@ use mathlib.Core.Bool.{true, false≢true}
 use mathlib.Core.Path.{_≡_, refl}
 use Rattle.command.specs.declared.Place.{Place}
 use Rattle.command.specs.declared.Command.{Command}
-use Rattle.command.specs.declared.Command.the-variants.{SetAddress, DefineStatus, ReadStatus, SetPwm, SynchOutput, SetOutputs, SetSynchOutput, SetTimerMode, SynchInput, Nop, HardReset, ResetPosition, LoadTrajectory, StartMotion, SetGain, StopMotor}
+use Rattle.command.specs.declared.Command.the-variants.{SetAddress, DefineStatus, ReadStatus, SetPwm, SynchOutput, SetOutputs, SetSynchOutput, SetTimerMode, SetBaudRate, SynchInput, Nop, HardReset, ResetPosition, LoadTrajectory, StartMotion, SetGain, StopMotor}
 use Rattle.command.specs.declared.Role.{Role}
-use Rattle.command.specs.declared.Role.the-variants.{Plain, Places, Masks, Captures, Zeroes, Idles, Resets}
+use Rattle.command.specs.declared.Role.the-variants.{Plain, Places, Paces, Masks, Captures, Zeroes, Idles, Resets}
 use Rattle.command.specs.Role.{roleOf, isPlacing, isReset}
 
 -- every role but Plain is that of one command
 abbrev Belongs : Role → Command → Type 0
 Belongs Plain c = Unit {0}
 Belongs (Places p) c = c ≡ SetAddress p
+Belongs (Paces d) c = c ≡ SetBaudRate d
 Belongs (Masks m) c = c ≡ ReadStatus m
 Belongs Captures c = c ≡ SynchInput
 Belongs Zeroes c = c ≡ ResetPosition
@@ -27,6 +28,7 @@ belongs SynchOutput = tt
 belongs (SetOutputs w) = tt
 belongs (SetSynchOutput h) = tt
 belongs (SetTimerMode m) = tt
+belongs (SetBaudRate d) = refl
 belongs SynchInput = refl
 belongs Nop = refl
 belongs HardReset = refl
@@ -39,6 +41,7 @@ belongs (StopMotor s) = tt
 resets-belongs : (r : Role) (c : Command) → Belongs r c → isReset r ≡ true → c ≡ HardReset
 resets-belongs Plain c b h = absurd (false≢true h)
 resets-belongs (Places p) c b h = absurd (false≢true h)
+resets-belongs (Paces d) c b h = absurd (false≢true h)
 resets-belongs (Masks m) c b h = absurd (false≢true h)
 resets-belongs Captures c b h = absurd (false≢true h)
 resets-belongs Zeroes c b h = absurd (false≢true h)
@@ -57,6 +60,7 @@ pub record PlacedBy (c : Command) : Type 0 where
 places-belongs : (r : Role) (c : Command) → Belongs r c → isPlacing r ≡ true → PlacedBy c
 places-belongs Plain c b h = absurd (false≢true h)
 places-belongs (Places p) c b h = record { to = p; by = b }
+places-belongs (Paces d) c b h = absurd (false≢true h)
 places-belongs (Masks m) c b h = absurd (false≢true h)
 places-belongs Captures c b h = absurd (false≢true h)
 places-belongs Zeroes c b h = absurd (false≢true h)

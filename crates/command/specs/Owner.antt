@@ -3,7 +3,7 @@ use mathlib.Core.Bool.{Bool, true, not}
 use Rattle.wire.specs.Kind.{isGate}
 use Rattle.wire.specs.declared.kind.Kind.{Kind}
 use Rattle.command.specs.declared.Command.{Command}
-use Rattle.command.specs.declared.Command.the-variants.{SetAddress, DefineStatus, ReadStatus, SetPwm, SynchOutput, SetOutputs, SetSynchOutput, SetTimerMode, SynchInput, Nop, HardReset, ResetPosition, LoadTrajectory, StartMotion, SetGain, StopMotor}
+use Rattle.command.specs.declared.Command.the-variants.{SetAddress, DefineStatus, ReadStatus, SetPwm, SynchOutput, SetOutputs, SetSynchOutput, SetTimerMode, SetBaudRate, SynchInput, Nop, HardReset, ResetPosition, LoadTrajectory, StartMotion, SetGain, StopMotor}
 use Rattle.command.specs.declared.Owner.{Owner}
 use Rattle.command.specs.declared.Owner.the-variants.{Both, Gate, Drive}
 
@@ -18,6 +18,7 @@ ownerOf SynchOutput = Gate
 ownerOf (SetOutputs w) = Gate
 ownerOf (SetSynchOutput h) = Gate
 ownerOf (SetTimerMode m) = Gate
+ownerOf (SetBaudRate d) = Both
 ownerOf SynchInput = Gate
 ownerOf Nop = Both
 ownerOf HardReset = Both

@@ -9,7 +9,7 @@ use Rattle.command.specs.declared.Gains.{Gains}
 use Rattle.command.specs.declared.Motion.{Motion}
 use Rattle.command.specs.declared.Stop.{Stop}
 use Rattle.command.specs.declared.Command.{Command}
-use Rattle.command.specs.declared.Command.the-variants.{SetAddress, DefineStatus, ReadStatus, SetPwm, SynchOutput, SetOutputs, SetSynchOutput, SetTimerMode, SynchInput, Nop, HardReset, ResetPosition, LoadTrajectory, StartMotion, SetGain, StopMotor}
+use Rattle.command.specs.declared.Command.the-variants.{SetAddress, DefineStatus, ReadStatus, SetPwm, SynchOutput, SetOutputs, SetSynchOutput, SetTimerMode, SetBaudRate, SynchInput, Nop, HardReset, ResetPosition, LoadTrajectory, StartMotion, SetGain, StopMotor}
 use Rattle.command.specs.Control.{loadsOf, isStopHere}
 
 -- Set Address: an individual address and a group
@@ -43,7 +43,7 @@ stopFits s =
     && leb (s .byte / 2 % 2 + s .byte / 4 % 2 + s .byte / 8 % 2 + s .byte / 16 % 2) 1
     && valueFits (isStopHere (s .byte)) (positionFits (s .position)) (s .position)
 
--- all other values may be any byte or word
+-- all other values may be any byte or word; document 02, request 7: a node "keeps any divisor sent"
 abbrev pub fitsOf : Command → Bool
 fitsOf (SetAddress p) = placeFits p
 fitsOf (DefineStatus m) = true
@@ -53,6 +53,7 @@ fitsOf SynchOutput = true
 fitsOf (SetOutputs w) = true
 fitsOf (SetSynchOutput h) = true
 fitsOf (SetTimerMode m) = true
+fitsOf (SetBaudRate d) = true
 fitsOf SynchInput = true
 fitsOf Nop = true
 fitsOf HardReset = true

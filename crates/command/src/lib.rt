@@ -5,8 +5,9 @@ use wire::Group;
 use wire::Individual;
 use wire::Kind;
 ghost use mathlib.Core.Path.{_≡_};
-ghost use Rattle.command.specs.Role.{roleOf, isPlacing, isNop, isReset};
+ghost use Rattle.command.specs.Role.{roleOf, isPlacing, isPacing, isNop, isReset};
 ghost use Rattle.command.specs.Owner.{ownerOf, has};
+ghost use Rattle.command.specs.Divisors.{isListed};
 ghost use Rattle.command.specs.Control.{loadsOf, isStopHere};
 ghost use Rattle.command.specs.Ranges.{placeFits, gainsFit, valueFits, positionFits, motionFits, stopFits, fitsOf};
 
@@ -67,6 +68,7 @@ pub enum Command {
     SetOutputs(u16),
     SetSynchOutput(Held),
     SetTimerMode(u8),
+    SetBaudRate(u8),
     SynchInput,
     Nop,
     HardReset,
@@ -89,6 +91,8 @@ pub enum Role {
     Plain,
     // Gives the node this place, and addresses it.
     Places(Place),
+    // Gives the node this divisor; only a group takes it.
+    Paces(u8),
     // Brings the mask of its own reply.
     Masks(u8),
     // Captures the inputs and the counter.
@@ -122,6 +126,7 @@ impl Command {
             Command::SetOutputs(_) => Role::Plain,
             Command::SetSynchOutput(_) => Role::Plain,
             Command::SetTimerMode(_) => Role::Plain,
+            Command::SetBaudRate(divisor) => Role::Paces(divisor),
             Command::SynchInput => Role::Captures,
             Command::Nop => Role::Idles,
             Command::HardReset => Role::Resets,
@@ -146,6 +151,7 @@ impl Command {
             Command::SetOutputs(_) => Owner::Gate,
             Command::SetSynchOutput(_) => Owner::Gate,
             Command::SetTimerMode(_) => Owner::Gate,
+            Command::SetBaudRate(_) => Owner::Both,
             Command::SynchInput => Owner::Gate,
             Command::Nop => Owner::Both,
             Command::HardReset => Owner::Both,
@@ -170,6 +176,7 @@ impl Command {
             Command::SetOutputs(_) => true,
             Command::SetSynchOutput(_) => true,
             Command::SetTimerMode(_) => true,
+            Command::SetBaudRate(_) => true,
             Command::SynchInput => true,
             Command::Nop => true,
             Command::HardReset => true,
@@ -193,6 +200,15 @@ pub fn has(kind: Kind, c: Command) -> bool
     }
 }
 
+// Whether a kind's manual lists a divisor: four that both list, and four of the LS-773's alone.
+pub fn is_listed(kind: Kind, divisor: u8) -> bool
+    ensures { λ r. ⌜ r ≡ isListed kind divisor ⌝ }
+{
+    let both = (divisor == 0x81) | (divisor == 0x3F) | (divisor == 0x14) | (divisor == 0x0A);
+    let gate = (divisor == 0x27) | (divisor == 0x0F) | (divisor == 0x07) | (divisor == 0x03);
+    both | (kind.is_gate() & gate)
+}
+
 impl Role {
     // Set Address: sent by "next" and by "regroup" alone.
     pub fn is_placing(self) -> bool
@@ -200,7 +216,24 @@ impl Role {
     {
         match self {
             Role::Places(_) => true,
+            Role::Paces(_) => false,
             Role::Plain => false,
+            Role::Masks(_) => false,
+            Role::Captures => false,
+            Role::Zeroes => false,
+            Role::Idles => false,
+            Role::Resets => false,
+        }
+    }
+
+    // Set Baud Rate: sent by a call of its own alone, and acted on only where it came to the node's group.
+    pub fn is_pacing(self) -> bool
+        ensures { λ r. ⌜ r ≡ isPacing self ⌝ }
+    {
+        match self {
+            Role::Paces(_) => true,
+            Role::Plain => false,
+            Role::Places(_) => false,
             Role::Masks(_) => false,
             Role::Captures => false,
             Role::Zeroes => false,
@@ -217,6 +250,7 @@ impl Role {
             Role::Idles => true,
             Role::Plain => false,
             Role::Places(_) => false,
+            Role::Paces(_) => false,
             Role::Masks(_) => false,
             Role::Captures => false,
             Role::Zeroes => false,
@@ -232,6 +266,7 @@ impl Role {
             Role::Resets => true,
             Role::Plain => false,
             Role::Places(_) => false,
+            Role::Paces(_) => false,
             Role::Masks(_) => false,
             Role::Captures => false,
             Role::Zeroes => false,

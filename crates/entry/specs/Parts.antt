@@ -3,7 +3,7 @@ use mathlib.Core.Bool.{Bool, false, cond, _&&_}
 use Rattle.command.specs.declared.Motion.{Motion}
 use Rattle.command.specs.declared.Command.{Command}
 use Rattle.command.specs.declared.Role.{Role}
-use Rattle.command.specs.declared.Role.the-variants.{Plain, Places, Masks, Captures, Zeroes, Idles, Resets}
+use Rattle.command.specs.declared.Role.the-variants.{Plain, Places, Paces, Masks, Captures, Zeroes, Idles, Resets}
 use Rattle.command.specs.Control.{loadsOf}
 use Rattle.node.specs.declared.gate.GateSettings.{GateSettings}
 use Rattle.node.specs.declared.drive.DriveSettings.{DriveSettings}

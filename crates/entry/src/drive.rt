@@ -128,6 +128,7 @@ impl DriveKnown {
             Command::SetOutputs(_) => k,
             Command::SetSynchOutput(_) => k,
             Command::SetTimerMode(_) => k,
+            Command::SetBaudRate(_) => k,
             Command::SynchInput => k,
             Command::Nop => k,
             Command::ResetPosition => k,

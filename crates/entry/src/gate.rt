@@ -54,6 +54,7 @@ impl GateKnown {
                 k
             }
             Command::SetTimerMode(_) => {
+            Command::SetBaudRate(_) => {
                 k.timer = sure;
                 k
             }

@@ -69,6 +69,7 @@ fn mark_mask(known: bool, c: Command, sure: bool) -> bool
         Command::SetOutputs(_) => known,
         Command::SetSynchOutput(_) => known,
         Command::SetTimerMode(_) => known,
+        Command::SetBaudRate(_) => known,
         Command::SynchInput => known,
         Command::Nop => known,
         Command::ResetPosition => known,

@@ -1,21 +1,29 @@
 -- Document 01, "The node": what a packet says to a node that it is meant for, and whether it is answered.
 use mathlib.Core.Bool.{Bool, true, cond, not}
+use Rattle.wire.specs.declared.address.Address.{Address}
+use Rattle.wire.specs.declared.address.Address.the-variants as address
 use Rattle.wire.specs.declared.kind.Kind.{Kind}
 use Rattle.wire.specs.declared.kind.Kind.the-variants as kind
-use Rattle.command.specs.Role.{roleOf, isReset}
+use Rattle.command.specs.declared.Command.{Command}
+use Rattle.command.specs.Role.{roleOf, isPacing, isReset}
 use Rattle.command.specs.declared.Reading.{Reading}
 use Rattle.command.specs.declared.Reading.the-variants as reading
 use Rattle.message.specs.declared.Message.{Message}
 use Rattle.message.specs.declared.Message.the-variants.{Intact, Other, Spoilt}
 use Rattle.message.specs.declared.Messages.{Messages}
 
--- by its reading and its sum
-abbrev pub messageBy : Reading → Message
-messageBy (reading.Known c) = Intact c
-messageBy reading.Other = Other
+-- document 02, request 7: of Set Baud Rate "a node acts on it only when it came to its group"
+abbrev pub isTaken : Address → Command → Bool
+isTaken (address.Individual i) c = not (isPacing (roleOf c))
+isTaken (address.Group g) c = true
 
-abbrev pub messageOf : Reading → Bool → Message
-messageOf r intact = cond intact (messageBy r) Spoilt
+-- by its reading, the address that it came to, and its sum
+abbrev pub messageBy : Reading → Address → Message
+messageBy (reading.Known c) to = cond (isTaken to c) (Intact c) Other
+messageBy reading.Other to = Other
+
+abbrev pub messageOf : Reading → Address → Bool → Message
+messageOf r to intact = cond intact (messageBy r to) Spoilt
 
 -- "Hard Reset, with count 0, .. sends no reply"; "Wrong sum: .. also for Hard Reset"
 abbrev pub isAnswered : Message → Bool
@@ -24,8 +32,8 @@ isAnswered Other = true
 isAnswered Spoilt = true
 
 -- document 02, request 6: to either kind of node, by what it reads; a sum is right or wrong for both
-abbrev pub messagesOf : Reading → Reading → Bool → Messages
-messagesOf gate drive intact = record { gate = messageOf gate intact; drive = messageOf drive intact }
+abbrev pub messagesOf : Reading → Reading → Address → Bool → Messages
+messagesOf gate drive to intact = record { gate = messageOf gate to intact; drive = messageOf drive to intact }
 
 -- to a node of this kind
 abbrev pub messageTo : Kind → Messages → Message

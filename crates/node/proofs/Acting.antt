@@ -10,9 +10,9 @@ use Rattle.command.specs.declared.Place.{Place}
 use Rattle.command.specs.declared.Motion.{Motion}
 use Rattle.command.specs.declared.Loads.{Loads}
 use Rattle.command.specs.declared.Command.{Command}
-use Rattle.command.specs.declared.Command.the-variants.{SetAddress, DefineStatus, ReadStatus, SetPwm, SynchOutput, SetOutputs, SetSynchOutput, SetTimerMode, SynchInput, Nop, HardReset, ResetPosition, LoadTrajectory, StartMotion, SetGain, StopMotor}
+use Rattle.command.specs.declared.Command.the-variants.{SetAddress, DefineStatus, ReadStatus, SetPwm, SynchOutput, SetOutputs, SetSynchOutput, SetTimerMode, SetBaudRate, SynchInput, Nop, HardReset, ResetPosition, LoadTrajectory, StartMotion, SetGain, StopMotor}
 use Rattle.command.specs.declared.Role.{Role}
-use Rattle.command.specs.declared.Role.the-variants.{Plain, Places, Masks, Captures, Zeroes, Idles, Resets}
+use Rattle.command.specs.declared.Role.the-variants.{Plain, Places, Paces, Masks, Captures, Zeroes, Idles, Resets}
 use Rattle.command.specs.Role.{roleOf, isPlacing}
 use Rattle.command.proofs.Roles.{only-places}
 use Rattle.command.specs.Control.{loadsOf}
@@ -25,11 +25,11 @@ use Rattle.node.specs.declared.state.Bench.{Bench}
 use Rattle.node.specs.declared.state.Captured.{Captured}
 use Rattle.node.specs.declared.state.Node.{Node}
 use Rattle.node.specs.declared.state.Shown.{Shown}
-use Rattle.node.specs.Setting.{MotionPart, Setting, place, mask, gate, drive, DriveSetting, waiting, inForce, Value, getMotion, makeMotion, makeDrive, makeGate, get}
-use Rattle.node.specs.Effect.{Effect, keeps, stores, copies, settingsPowerUp, placePowerUp, gatePowerUp, drivePowerUp, brings, starting, effect, applied, settingsAfter, ownAfter}
+use Rattle.node.specs.Setting.{MotionPart, Setting, place, mask, divisor, gate, drive, DriveSetting, waiting, inForce, Value, getMotion, makeMotion, makeDrive, makeGate, get}
+use Rattle.node.specs.Effect.{Effect, keeps, stores, copies, settingsPowerUp, divisorUp, placePowerUp, gatePowerUp, drivePowerUp, brings, starting, effect, applied, settingsAfter, ownAfter}
 use Rattle.node.specs.Node.{powerUp, nothing, doesHeed, addressedAfter, capturedAfter, positionAfter, actAs, takeAs, takeOf, maskAfter, shownOf}
-use Rattle.node.specs.Parts.{messageRole, withDrive, gateAfter, driveAfter, gateTake, driveTake, heededRole, loadOf, loadedOf, placeBy, maskBy, maskTake}
-use Rattle.node.proofs.Laws.{placeEffect, place-effect}
+use Rattle.node.specs.Parts.{messageRole, withDrive, gateAfter, driveAfter, gateTake, driveTake, heededRole, loadOf, loadedOf, placeBy, divisorBy, maskBy, maskTake}
+use Rattle.node.proofs.Laws.{placeEffect, place-effect, divisorEffect, divisor-effect}
 
 -- ---- a load
 
@@ -79,6 +79,7 @@ gate-part SynchOutput x = refl
 gate-part (SetOutputs w) x = refl
 gate-part (SetSynchOutput h) x = refl
 gate-part (SetTimerMode m) x = refl
+gate-part (SetBaudRate d) x = refl
 gate-part SynchInput x = refl
 gate-part Nop x = refl
 gate-part HardReset x = refl
@@ -97,6 +98,7 @@ drive-part SynchOutput x = refl
 drive-part (SetOutputs w) x = refl
 drive-part (SetSynchOutput h) x = refl
 drive-part (SetTimerMode m) x = refl
+drive-part (SetBaudRate d) x = refl
 drive-part SynchInput x = refl
 drive-part Nop x = refl
 drive-part HardReset x = refl
@@ -115,6 +117,7 @@ mask-part SynchOutput x = refl
 mask-part (SetOutputs w) x = refl
 mask-part (SetSynchOutput h) x = refl
 mask-part (SetTimerMode m) x = refl
+mask-part (SetBaudRate d) x = refl
 mask-part SynchInput x = refl
 mask-part Nop x = refl
 mask-part HardReset x = refl
@@ -127,6 +130,7 @@ mask-part (StopMotor s) x = refl
 place-role : (r : Role) (x : Settings) → placeBy r (x .place) ≡ applied (placeEffect r) x
 place-role Plain x = refl
 place-role (Places p) x = refl
+place-role (Paces d) x = refl
 place-role (Masks m) x = refl
 place-role Captures x = refl
 place-role Zeroes x = refl
@@ -135,6 +139,19 @@ place-role Resets x = refl
 
 place-part : (c : Command) (x : Settings) → placeBy (roleOf c) (x .place) ≡ applied (effect c place) x
 place-part c x = place-role (roleOf c) x ∙ ap (λ (e : Effect place). applied e x) (sym (place-effect c))
+
+divisor-role : (r : Role) (x : Settings) → divisorBy r (x .divisor) ≡ applied (divisorEffect r) x
+divisor-role Plain x = refl
+divisor-role (Places p) x = refl
+divisor-role (Paces d) x = refl
+divisor-role (Masks m) x = refl
+divisor-role Captures x = refl
+divisor-role Zeroes x = refl
+divisor-role Idles x = refl
+divisor-role Resets x = refl
+
+divisor-part : (c : Command) (x : Settings) → divisorBy (roleOf c) (x .divisor) ≡ applied (effect c divisor) x
+divisor-part c x = divisor-role (roleOf c) x ∙ ap (λ (e : Effect divisor). applied e x) (sym (divisor-effect c))
 
 -- in each arm the command is known
 pub told-gate : (c d : Command) (x r : GateSettings) → c ≡ d → r ≡ gateAfter d x → r ≡ gateAfter c x
@@ -148,25 +165,29 @@ told-load c m x r e h = h ∙ loads m (withDrive x) ∙ sym (ap (λ (k : Command
 
 -- ---- all parts
 
-module _ (c : Command) (x : Settings) (role : Role) (p : Place) (k : ℕ) (er : role ≡ roleOf c) (ep : p ≡ placeBy role (x .place)) (ek : k ≡ maskBy c (x .mask)) where
+module _ (c : Command) (x : Settings) (role : Role) (p : Place) (k v : ℕ) (er : role ≡ roleOf c) (ep : p ≡ placeBy role (x .place)) (ek : k ≡ maskBy c (x .mask))
+    (ev : v ≡ divisorBy role (x .divisor)) where
   placed : p ≡ applied (effect c place) x
   placed = ep ∙ ap (λ (r : Role). placeBy r (x .place)) er ∙ place-part c x
 
   masked : k ≡ applied (effect c mask) x
   masked = ek ∙ mask-part c x
 
+  paced : v ≡ applied (effect c divisor) x
+  paced = ev ∙ ap (λ (r : Role). divisorBy r (x .divisor)) er ∙ divisor-part c x
+
   pub all-after : (g : GateSettings) (d : DriveSettings) → d ≡ driveAfter c (x .drive) → g ≡ gateAfter c (x .gate)
-      → record { drive = d; gate = g; place = p; mask = k } ≡ settingsAfter c x
-  all-after g d ed eg = λ i. record { drive = (ed ∙ drive-part c x) i; gate = (eg ∙ gate-part c x) i; place = placed i; mask = masked i }
+      → record { drive = d; gate = g; place = p; mask = k; divisor = v } ≡ settingsAfter c x
+  all-after g d ed eg = λ i. record { drive = (ed ∙ drive-part c x) i; gate = (eg ∙ gate-part c x) i; place = placed i; mask = masked i; divisor = paced i }
 
-  gate-own : (g : GateSettings) → g ≡ gateAfter c (x .gate) → record { drive = x .drive; gate = g; place = p; mask = k } ≡ ownAfter Gate c x
-  gate-own g eg = λ i. record { drive = x .drive; gate = (eg ∙ gate-part c x) i; place = placed i; mask = masked i }
+  gate-own : (g : GateSettings) → g ≡ gateAfter c (x .gate) → record { drive = x .drive; gate = g; place = p; mask = k; divisor = v } ≡ ownAfter Gate c x
+  gate-own g eg = λ i. record { drive = x .drive; gate = (eg ∙ gate-part c x) i; place = placed i; mask = masked i; divisor = paced i }
 
-  drive-own : (d : DriveSettings) → d ≡ driveAfter c (x .drive) → record { drive = d; gate = x .gate; place = p; mask = k } ≡ ownAfter Drive c x
-  drive-own d ed = λ i. record { drive = (ed ∙ drive-part c x) i; gate = x .gate; place = placed i; mask = masked i }
+  drive-own : (d : DriveSettings) → d ≡ driveAfter c (x .drive) → record { drive = d; gate = x .gate; place = p; mask = k; divisor = v } ≡ ownAfter Drive c x
+  drive-own d ed = λ i. record { drive = (ed ∙ drive-part c x) i; gate = x .gate; place = placed i; mask = masked i; divisor = paced i }
 
 pub settings-up : (d : DriveSettings) (g : GateSettings) (p : Place) → d ≡ drivePowerUp → g ≡ gatePowerUp → p ≡ placePowerUp
-    → record { drive = d; gate = g; place = p; mask = 0 } ≡ settingsPowerUp
+    → record { drive = d; gate = g; place = p; mask = 0; divisor = divisorUp } ≡ settingsPowerUp
 settings-up d g p ed eg ep = rw (ed, eg, ep)
 
 -- ---- the node
@@ -178,6 +199,7 @@ node-up k b s c e f = rw (e, f)
 heeds-all : (r : Role) → doesHeed Gate r ≡ true
 heeds-all Plain = refl
 heeds-all (Places p) = refl
+heeds-all (Paces d) = refl
 heeds-all (Masks m) = refl
 heeds-all Captures = refl
 heeds-all Zeroes = refl
@@ -186,6 +208,9 @@ heeds-all Resets = refl
 
 pub heeds-place : (k : Kind) (role : Role) (p : Place) (b : Bool) → role ≡ Places p → b ≡ isGate k → (b || leb 1 (p .address .0)) ≡ doesHeed k role
 heeds-place k role p b e h = rw (e, h)
+
+pub told-role : (h : Message) (c : Command) (r : Role) → h ≡ Intact c → r ≡ roleOf c → r ≡ messageRole h
+told-role h c r e p = p ∙ sym (ap (λ (y : Message). messageRole y) e)
 
 -- a packet that was matched as k
 pub told-gate-take : (h k : Message) (x r : GateSettings) → h ≡ k → r ≡ gateTake k x → r ≡ gateTake h x
@@ -215,6 +240,7 @@ gate-made : (h : Message) (n : Node)
         gate = gateTake h (n .settings .gate);
         place = placeBy (messageRole h) (n .settings .place);
         mask = maskTake h (n .settings .mask);
+        divisor = divisorBy (messageRole h) (n .settings .divisor);
       };
       bench = n .bench;
       captured = capturedAfter (messageRole h) (n .bench) (n .captured);
@@ -232,15 +258,16 @@ gate-made (Intact c) n =
       position = n .position;
       addressed = addressedAfter (roleOf c) (n .addressed);
       kind = n .kind;
-    }) (gate-own c (n .settings) (roleOf c) _ _ refl refl refl (gateAfter c (n .settings .gate)) refl))
+    }) (gate-own c (n .settings) (roleOf c) _ _ _ refl refl refl refl (gateAfter c (n .settings .gate)) refl))
 gate-made Other n = refl
 gate-made Spoilt n = refl
 
-pub gate-taken : (h : Message) (n : Node) (role : Role) (g : GateSettings) (p : Place) (m : ℕ) (k : Captured) (a : Bool) → role ≡ messageRole h
-    → g ≡ gateTake h (n .settings .gate) → p ≡ placeBy role (n .settings .place) → m ≡ maskTake h (n .settings .mask) → k ≡ capturedAfter role (n .bench) (n .captured)
+pub gate-taken : (h : Message) (n : Node) (role : Role) (g : GateSettings) (p : Place) (m v : ℕ) (k : Captured) (a : Bool) → role ≡ messageRole h
+    → g ≡ gateTake h (n .settings .gate) → p ≡ placeBy role (n .settings .place) → m ≡ maskTake h (n .settings .mask) → v ≡ divisorBy role (n .settings .divisor)
+    → k ≡ capturedAfter role (n .bench) (n .captured)
     → a ≡ addressedAfter role (n .addressed)
     → record {
-      settings = record { drive = n .settings .drive; gate = g; place = p; mask = m };
+      settings = record { drive = n .settings .drive; gate = g; place = p; mask = m; divisor = v };
       bench = n .bench;
       captured = k;
       position = n .position;
@@ -248,12 +275,13 @@ pub gate-taken : (h : Message) (n : Node) (role : Role) (g : GateSettings) (p : 
       kind = n .kind;
     }
     ≡ takeAs Gate h n
-gate-taken h n role g p m k a er eg ep em ek ea = rw (eg, ep, em, ek, ea, er) (gate-made h n)
+gate-taken h n role g p m v k a er eg ep em ev ek ea = rw (eg, ep, em, ev, ek, ea, er) (gate-made h n)
 
 -- only a Set Address goes unheeded
 unheeded-places : (k : Kind) (r : Role) → doesHeed k r ≡ false → isPlacing r ≡ true
 unheeded-places k Plain h = absurd (true≢false h)
 unheeded-places k (Places p) h = refl
+unheeded-places k (Paces d) h = absurd (true≢false h)
 unheeded-places k (Masks m) h = absurd (true≢false h)
 unheeded-places k Captures h = absurd (true≢false h)
 unheeded-places k Zeroes h = absurd (true≢false h)
@@ -263,7 +291,7 @@ unheeded-places k Resets h = absurd (true≢false h)
 -- and changes nothing but the place
 left-alone : (c : Command) (q : Place) (n : Node) → c ≡ SetAddress q
     → record {
-      settings = record { drive = driveAfter c (n .settings .drive); gate = n .settings .gate; place = n .settings .place; mask = maskBy c (n .settings .mask) };
+      settings = record { drive = driveAfter c (n .settings .drive); gate = n .settings .gate; place = n .settings .place; mask = maskBy c (n .settings .mask); divisor = n .settings .divisor };
       bench = n .bench;
       captured = n .captured;
       position = n .position;
@@ -281,6 +309,7 @@ driving h r n = record {
     gate = n .settings .gate;
     place = placeBy r (n .settings .place);
     mask = maskTake h (n .settings .mask);
+    divisor = divisorBy r (n .settings .divisor);
   };
   bench = n .bench;
   captured = n .captured;
@@ -298,7 +327,7 @@ drive-by true c n e =
       position = positionAfter (roleOf c) (n .position);
       addressed = addressedAfter (roleOf c) (n .addressed);
       kind = n .kind;
-    }) (drive-own c (n .settings) (roleOf c) _ _ refl refl refl (driveAfter c (n .settings .drive)) refl)
+    }) (drive-own c (n .settings) (roleOf c) _ _ _ refl refl refl refl (driveAfter c (n .settings .drive)) refl)
 drive-by false c n e = let p = only-places c (unheeded-places Drive (roleOf c) e) in left-alone c (p .to) n (p .by)
 
 drive-made : (h : Message) (n : Node) → driving h (heededRole h) n ≡ takeAs Drive h n
@@ -306,11 +335,12 @@ drive-made (Intact c) n = drive-by (doesHeed Drive (roleOf c)) c n refl
 drive-made Other n = refl
 drive-made Spoilt n = refl
 
-pub drive-taken : (h : Message) (n : Node) (role : Role) (d : DriveSettings) (p : Place) (m k : ℕ) (a : Bool) → role ≡ heededRole h
-    → d ≡ driveTake h (n .settings .drive) → p ≡ placeBy role (n .settings .place) → m ≡ maskTake h (n .settings .mask) → k ≡ positionAfter role (n .position)
+pub drive-taken : (h : Message) (n : Node) (role : Role) (d : DriveSettings) (p : Place) (m v k : ℕ) (a : Bool) → role ≡ heededRole h
+    → d ≡ driveTake h (n .settings .drive) → p ≡ placeBy role (n .settings .place) → m ≡ maskTake h (n .settings .mask) → v ≡ divisorBy role (n .settings .divisor)
+    → k ≡ positionAfter role (n .position)
     → a ≡ addressedAfter role (n .addressed)
     → record {
-      settings = record { drive = d; gate = n .settings .gate; place = p; mask = m };
+      settings = record { drive = d; gate = n .settings .gate; place = p; mask = m; divisor = v };
       bench = n .bench;
       captured = n .captured;
       position = k;
@@ -318,7 +348,7 @@ pub drive-taken : (h : Message) (n : Node) (role : Role) (d : DriveSettings) (p 
       kind = n .kind;
     }
     ≡ takeAs Drive h n
-drive-taken h n role d p m k a er ed ep em ek ea = rw (ed, ep, em, ek, ea, er) (drive-made h n)
+drive-taken h n role d p m v k a er ed ep em ev ek ea = rw (ed, ep, em, ev, ek, ea, er) (drive-made h n)
 
 pub by-kind : (k d : Kind) (h : Message) (n r : Node) → n .kind ≡ d → r ≡ takeAs d h n → r ≡ takeOf h n
 by-kind k d h n r e p = p ∙ sym (ap (λ (x : Kind). takeAs x h n) e)

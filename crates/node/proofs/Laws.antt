@@ -4,9 +4,9 @@ use mathlib.Core.Bool.{Bool, true, false, cond, _||_, or-true, true≢false, fal
 use mathlib.Core.Path.{_≡_, refl, sym, _∙_}
 use Rattle.command.specs.declared.Place.{Place}
 use Rattle.command.specs.declared.Command.{Command}
-use Rattle.command.specs.declared.Command.the-variants.{SetAddress, DefineStatus, ReadStatus, SetPwm, SynchOutput, SetOutputs, SetSynchOutput, SetTimerMode, SynchInput, Nop, HardReset, ResetPosition, LoadTrajectory, StartMotion, SetGain, StopMotor}
+use Rattle.command.specs.declared.Command.the-variants.{SetAddress, DefineStatus, ReadStatus, SetPwm, SynchOutput, SetOutputs, SetSynchOutput, SetTimerMode, SetBaudRate, SynchInput, Nop, HardReset, ResetPosition, LoadTrajectory, StartMotion, SetGain, StopMotor}
 use Rattle.command.specs.declared.Role.{Role}
-use Rattle.command.specs.declared.Role.the-variants.{Plain, Places, Masks, Captures, Zeroes, Idles, Resets}
+use Rattle.command.specs.declared.Role.the-variants.{Plain, Places, Paces, Masks, Captures, Zeroes, Idles, Resets}
 use Rattle.command.specs.Role.{roleOf, isPlacing, isReset}
 use Rattle.command.specs.Ranges.{placeFits, fitsOf}
 use Rattle.command.specs.Owner.{has, hasBy, ownerOf}
@@ -20,8 +20,8 @@ use Rattle.node.specs.declared.state.Settings.{Settings}
 use Rattle.node.specs.declared.state.Node.{Node}
 use Rattle.message.specs.declared.Message.{Message}
 use Rattle.message.specs.declared.Message.the-variants.{Intact, Other, Spoilt}
-use Rattle.node.specs.Setting.{Setting, place, mask, gate, drive, DriveSetting, gains, stop, waiting, inForce, owns, Value, get, make-same, GateSetting}
-use Rattle.node.specs.Effect.{Effect, keeps, stores, copies, settingsPowerUp, onPlace, onMask, onGate, onDrive, effect, writes, applied, settingsAfter, get-after, ownAfter, get-own}
+use Rattle.node.specs.Setting.{Setting, place, mask, divisor, gate, drive, DriveSetting, gains, stop, waiting, inForce, owns, Value, get, make-same, GateSetting}
+use Rattle.node.specs.Effect.{Effect, keeps, stores, copies, settingsPowerUp, divisorUp, onPlace, onMask, onDivisor, onGate, onDrive, effect, writes, applied, settingsAfter, get-after, ownAfter, get-own}
 use Rattle.node.specs.Node.{nothing, doesHeed, addressedAfter, actAs, takeOf}
 
 -- "Others .. change nothing"
@@ -83,6 +83,7 @@ synch-input-writes s = refl
 abbrev pub placeEffect : Role → Effect place
 placeEffect Plain = keeps
 placeEffect (Places p) = stores p
+placeEffect (Paces d) = keeps
 placeEffect (Masks m) = keeps
 placeEffect Captures = keeps
 placeEffect Zeroes = keeps
@@ -98,6 +99,7 @@ place-effect SynchOutput = refl
 place-effect (SetOutputs w) = refl
 place-effect (SetSynchOutput h) = refl
 place-effect (SetTimerMode m) = refl
+place-effect (SetBaudRate d) = refl
 place-effect SynchInput = refl
 place-effect Nop = refl
 place-effect HardReset = refl
@@ -110,6 +112,7 @@ place-effect (StopMotor s) = refl
 writes-by : (r : Role) → writes (placeEffect r) ≡ (isPlacing r || isReset r)
 writes-by Plain = refl
 writes-by (Places p) = refl
+writes-by (Paces d) = refl
 writes-by (Masks m) = refl
 writes-by Captures = refl
 writes-by Zeroes = refl
@@ -127,12 +130,54 @@ not-reset c h = neither (isPlacing (roleOf c)) (isReset (roleOf c)) (sym (place-
 placed-already : (x : Settings) (p : Place) → x .place ≡ p → (s : Setting) → applied (effect (SetAddress p) s) x ≡ get x s
 placed-already x p e place = sym e
 placed-already x p e mask = refl
+placed-already x p e divisor = refl
 placed-already x p e (gate g) = refl
 placed-already x p e (drive d) = refl
 
 -- a node that has the place already
 pub placed-again : (x : Settings) (p : Place) → x .place ≡ p → settingsAfter (SetAddress p) x ≡ x
 placed-again x p e = make-same (λ s. applied (effect (SetAddress p) s) x) x (placed-already x p e)
+
+-- what a command does to the divisor, by its role
+abbrev pub divisorEffect : Role → Effect divisor
+divisorEffect Plain = keeps
+divisorEffect (Places p) = keeps
+divisorEffect (Paces d) = stores d
+divisorEffect (Masks m) = keeps
+divisorEffect Captures = keeps
+divisorEffect Zeroes = keeps
+divisorEffect Idles = keeps
+divisorEffect Resets = stores divisorUp
+
+pub divisor-effect : (c : Command) → effect c divisor ≡ divisorEffect (roleOf c)
+divisor-effect (SetAddress p) = refl
+divisor-effect (DefineStatus m) = refl
+divisor-effect (ReadStatus m) = refl
+divisor-effect (SetPwm w) = refl
+divisor-effect SynchOutput = refl
+divisor-effect (SetOutputs w) = refl
+divisor-effect (SetSynchOutput h) = refl
+divisor-effect (SetTimerMode m) = refl
+divisor-effect (SetBaudRate d) = refl
+divisor-effect SynchInput = refl
+divisor-effect Nop = refl
+divisor-effect HardReset = refl
+divisor-effect ResetPosition = refl
+divisor-effect (LoadTrajectory m) = refl
+divisor-effect StartMotion = refl
+divisor-effect (SetGain g) = refl
+divisor-effect (StopMotor s) = refl
+
+paced-already : (x : Settings) (d : Value divisor) → x .divisor ≡ d → (s : Setting) → applied (effect (SetBaudRate d) s) x ≡ get x s
+paced-already x d e place = refl
+paced-already x d e mask = refl
+paced-already x d e divisor = sym e
+paced-already x d e (gate g) = refl
+paced-already x d e (drive y) = refl
+
+-- a node that has the divisor already
+pub paced-again : (x : Settings) (d : Value divisor) → x .divisor ≡ d → settingsAfter (SetBaudRate d) x ≡ x
+paced-again x d e = make-same (λ s. applied (effect (SetBaudRate d) s) x) x (paced-already x d e)
 
 fits-by : (c : Command) (x : Settings) → fitsOf c ≡ true → placeFits (x .place) ≡ true → placeFits (settingsAfter c x .place) ≡ true
 fits-by (SetAddress p) x f h = f
@@ -143,6 +188,7 @@ fits-by SynchOutput x f h = h
 fits-by (SetOutputs w) x f h = h
 fits-by (SetSynchOutput g) x f h = h
 fits-by (SetTimerMode m) x f h = h
+fits-by (SetBaudRate d) x f h = h
 fits-by SynchInput x f h = h
 fits-by Nop x f h = h
 fits-by HardReset x f h = refl
@@ -168,6 +214,7 @@ reset-unaddresses n = refl
 role-stays : (r : Role) (b : Bool) → writes (placeEffect r) ≡ false → addressedAfter r b ≡ b
 role-stays Plain b h = refl
 role-stays (Places p) b h = absurd (true≢false h)
+role-stays (Paces d) b h = refl
 role-stays (Masks m) b h = refl
 role-stays Captures b h = refl
 role-stays Zeroes b h = refl
@@ -182,6 +229,7 @@ addressed-after c b h = role-stays (roleOf c) b (rw (place-effect c) at h)
 role-heeds : (k : Kind) (r : Role) → writes (placeEffect r) ≡ false → doesHeed k r ≡ true
 role-heeds k Plain h = refl
 role-heeds k (Places p) h = absurd (true≢false h)
+role-heeds k (Paces d) h = refl
 role-heeds k (Masks m) h = refl
 role-heeds k Captures h = refl
 role-heeds k Zeroes h = refl
@@ -205,38 +253,52 @@ acted-addressed c n h = rw h
 abbrev reaches : Owner → Setting → Bool
 reaches owner.Both place = true
 reaches owner.Both mask = true
+reaches owner.Both divisor = true
 reaches owner.Both (gate g) = false
 reaches owner.Both (drive d) = false
 reaches owner.Gate place = false
 reaches owner.Gate mask = false
+reaches owner.Gate divisor = false
 reaches owner.Gate (gate g) = true
 reaches owner.Gate (drive d) = false
 reaches owner.Drive place = false
 reaches owner.Drive mask = false
+reaches owner.Drive divisor = false
 reaches owner.Drive (gate g) = false
 reaches owner.Drive (drive d) = true
 
 on-place : (e : Effect place) (s : Setting) → reaches owner.Both s ≡ false → writes (onPlace e s) ≡ false
 on-place e place h = absurd (true≢false h)
 on-place e mask h = absurd (true≢false h)
+on-place e divisor h = absurd (true≢false h)
 on-place e (gate g) h = refl
 on-place e (drive d) h = refl
 
 on-mask : (e : Effect mask) (s : Setting) → reaches owner.Both s ≡ false → writes (onMask e s) ≡ false
 on-mask e place h = absurd (true≢false h)
 on-mask e mask h = absurd (true≢false h)
+on-mask e divisor h = absurd (true≢false h)
 on-mask e (gate g) h = refl
 on-mask e (drive d) h = refl
+
+on-divisor : (e : Effect divisor) (s : Setting) → reaches owner.Both s ≡ false → writes (onDivisor e s) ≡ false
+on-divisor e place h = absurd (true≢false h)
+on-divisor e mask h = absurd (true≢false h)
+on-divisor e divisor h = absurd (true≢false h)
+on-divisor e (gate g) h = refl
+on-divisor e (drive d) h = refl
 
 on-gate : (r : (g : GateSetting) → Effect (gate g)) (s : Setting) → reaches owner.Gate s ≡ false → writes (onGate r s) ≡ false
 on-gate r place h = refl
 on-gate r mask h = refl
+on-gate r divisor h = refl
 on-gate r (gate g) h = absurd (true≢false h)
 on-gate r (drive d) h = refl
 
 on-drive : (r : (d : DriveSetting) → Effect (drive d)) (s : Setting) → reaches owner.Drive s ≡ false → writes (onDrive r s) ≡ false
 on-drive r place h = refl
 on-drive r mask h = refl
+on-drive r divisor h = refl
 on-drive r (gate g) h = refl
 on-drive r (drive d) h = absurd (true≢false h)
 
@@ -249,6 +311,7 @@ within SynchOutput s n h = on-gate _ s h
 within (SetOutputs w) s n h = on-gate _ s h
 within (SetSynchOutput x) s n h = on-gate _ s h
 within (SetTimerMode m) s n h = on-gate _ s h
+within (SetBaudRate d) s n h = on-divisor _ s h
 within SynchInput s n h = refl
 within Nop s n h = refl
 within HardReset s n h = absurd (true≢false n)
@@ -261,14 +324,17 @@ within (StopMotor x) s n h = on-drive _ s h
 not-own : (k : Kind) (o : Owner) (s : Setting) → hasBy k o ≡ true → owns k s ≡ false → reaches o s ≡ false
 not-own k owner.Both place h f = absurd (true≢false f)
 not-own k owner.Both mask h f = absurd (true≢false f)
+not-own k owner.Both divisor h f = absurd (true≢false f)
 not-own k owner.Both (gate g) h f = refl
 not-own k owner.Both (drive d) h f = refl
 not-own k owner.Gate place h f = refl
 not-own k owner.Gate mask h f = refl
+not-own k owner.Gate divisor h f = refl
 not-own k owner.Gate (gate g) h f = absurd (true≢false (sym h ∙ f))
 not-own k owner.Gate (drive d) h f = refl
 not-own k owner.Drive place h f = refl
 not-own k owner.Drive mask h f = refl
+not-own k owner.Drive divisor h f = refl
 not-own k owner.Drive (gate g) h f = refl
 not-own k owner.Drive (drive d) h f = absurd (true≢false (sym h ∙ f))
 

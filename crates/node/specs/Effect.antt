@@ -7,12 +7,12 @@ use Rattle.command.specs.declared.Place.{Place}
 use Rattle.command.specs.declared.Gains.{Gains}
 use Rattle.command.specs.declared.Motion.{Motion}
 use Rattle.command.specs.declared.Command.{Command}
-use Rattle.command.specs.declared.Command.the-variants.{SetAddress, DefineStatus, ReadStatus, SetPwm, SynchOutput, SetOutputs, SetSynchOutput, SetTimerMode, SynchInput, Nop, HardReset, ResetPosition, LoadTrajectory, StartMotion, SetGain, StopMotor}
+use Rattle.command.specs.declared.Command.the-variants.{SetAddress, DefineStatus, ReadStatus, SetPwm, SynchOutput, SetOutputs, SetSynchOutput, SetTimerMode, SetBaudRate, SynchInput, Nop, HardReset, ResetPosition, LoadTrajectory, StartMotion, SetGain, StopMotor}
 use Rattle.command.specs.Control.{loadsOf}
 use Rattle.node.specs.declared.gate.GateSettings.{GateSettings}
 use Rattle.node.specs.declared.drive.DriveSettings.{DriveSettings}
 use Rattle.node.specs.declared.state.Settings.{Settings}
-use Rattle.node.specs.Setting.{GateSetting, outputs, pwm, held, timer, MotionPart, control, position, velocity, acceleration, power, DriveSetting, gains, stop, waiting, inForce, Setting, place, mask, gate, drive, owns, Value, getMotion, makeMotion, get, make, get-make}
+use Rattle.node.specs.Setting.{GateSetting, outputs, pwm, held, timer, MotionPart, control, position, velocity, acceleration, power, DriveSetting, gains, stop, waiting, inForce, Setting, place, mask, divisor, gate, drive, owns, Value, getMotion, makeMotion, get, make, get-make}
 
 -- what becomes of setting s: it stays, it is stored anew, or it is copied from another
 pub data Effect (s : Setting) : Type 0 where
@@ -44,39 +44,55 @@ gainsPowerUp = record { kp = 0; kd = 0; ki = 0; il = 0; el = 0; ol = 0; sr = 1; 
 abbrev pub drivePowerUp : DriveSettings
 drivePowerUp = record { waiting = atRest; in_force = atRest; gains = gainsPowerUp; stop = 0 }
 
+-- "a setting that power-up makes 0x3F"
+abbrev pub divisorUp : ℕ
+divisorUp = 0x3F
+
 abbrev pub settingsPowerUp : Settings
 settingsPowerUp = record {
   drive = drivePowerUp;
   gate = gatePowerUp;
   place = placePowerUp;
   mask = 0;
+  divisor = divisorUp;
 }
 
--- a row of the table, by the group of settings that it writes in: none; the place; the mask; a gate's own; a drive's own
+-- a row of the table, by the group of settings that it writes in: none; the place; the mask; the divisor; a gate's own; a drive's own
 abbrev pub none : (s : Setting) → Effect s
 none s = keeps
 
 abbrev pub onPlace : Effect place → (s : Setting) → Effect s
 onPlace e place = e
 onPlace e mask = keeps
+onPlace e divisor = keeps
 onPlace e (gate g) = keeps
 onPlace e (drive d) = keeps
 
 abbrev pub onMask : Effect mask → (s : Setting) → Effect s
 onMask e place = keeps
 onMask e mask = e
+onMask e divisor = keeps
 onMask e (gate g) = keeps
 onMask e (drive d) = keeps
+
+abbrev pub onDivisor : Effect divisor → (s : Setting) → Effect s
+onDivisor e place = keeps
+onDivisor e mask = keeps
+onDivisor e divisor = e
+onDivisor e (gate g) = keeps
+onDivisor e (drive d) = keeps
 
 abbrev pub onGate : ((g : GateSetting) → Effect (gate g)) → (s : Setting) → Effect s
 onGate r place = keeps
 onGate r mask = keeps
+onGate r divisor = keeps
 onGate r (gate g) = r g
 onGate r (drive d) = keeps
 
 abbrev pub onDrive : ((d : DriveSetting) → Effect (drive d)) → (s : Setting) → Effect s
 onDrive r place = keeps
 onDrive r mask = keeps
+onDrive r divisor = keeps
 onDrive r (gate g) = keeps
 onDrive r (drive d) = r d
 
@@ -151,6 +167,7 @@ effect SynchOutput = onOutputsAndPwm (copies (gate held) (λ h. h .outputs)) (co
 effect (SetOutputs w) = onOutputs (stores w)
 effect (SetSynchOutput h) = onHeld (stores h)
 effect (SetTimerMode m) = onTimer (stores m)
+effect (SetBaudRate d) = onDivisor (stores d)
 effect SynchInput = none
 effect Nop = none
 effect HardReset = λ s. stores (get settingsPowerUp s)

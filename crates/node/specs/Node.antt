@@ -7,7 +7,7 @@ use Rattle.wire.specs.declared.kind.Kind.{Kind}
 use Rattle.wire.specs.declared.kind.Kind.the-variants.{Gate, Drive}
 use Rattle.command.specs.declared.Command.{Command}
 use Rattle.command.specs.declared.Role.{Role}
-use Rattle.command.specs.declared.Role.the-variants.{Plain, Places, Masks, Captures, Zeroes, Idles, Resets}
+use Rattle.command.specs.declared.Role.the-variants.{Plain, Places, Paces, Masks, Captures, Zeroes, Idles, Resets}
 use Rattle.command.specs.Role.{roleOf}
 use Rattle.message.specs.declared.Message.{Message}
 use Rattle.message.specs.declared.Message.the-variants.{Intact, Other, Spoilt}
@@ -29,6 +29,7 @@ powerUp k b = record { settings = settingsPowerUp; bench = b; captured = nothing
 abbrev pub doesHeed : Kind → Role → Bool
 doesHeed k Plain = true
 doesHeed k (Places p) = isGate k || leb 1 (p .address .0)
+doesHeed k (Paces d) = true
 doesHeed k (Masks m) = true
 doesHeed k Captures = true
 doesHeed k Zeroes = true
@@ -39,6 +40,7 @@ doesHeed k Resets = true
 abbrev pub addressedAfter : Role → Bool → Bool
 addressedAfter Plain b = b
 addressedAfter (Places p) b = true
+addressedAfter (Paces d) b = b
 addressedAfter (Masks m) b = b
 addressedAfter Captures b = b
 addressedAfter Zeroes b = b
@@ -49,6 +51,7 @@ addressedAfter Resets b = false
 abbrev pub capturedAfter : Role → Bench → Captured → Captured
 capturedAfter Plain b k = k
 capturedAfter (Places p) b k = k
+capturedAfter (Paces d) b k = k
 capturedAfter (Masks m) b k = k
 capturedAfter Captures b k = record { counter = b .counter; inputs = b .inputs }
 capturedAfter Zeroes b k = k
@@ -59,6 +62,7 @@ capturedAfter Resets b k = nothing
 abbrev pub positionAfter : Role → ℕ → ℕ
 positionAfter Plain p = p
 positionAfter (Places q) p = p
+positionAfter (Paces d) p = p
 positionAfter (Masks m) p = p
 positionAfter Captures p = p
 positionAfter Zeroes p = 0

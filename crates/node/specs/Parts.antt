@@ -5,9 +5,9 @@ use Rattle.wire.specs.declared.kind.Kind.the-variants.{Drive}
 use Rattle.command.specs.declared.Place.{Place}
 use Rattle.command.specs.declared.Motion.{Motion}
 use Rattle.command.specs.declared.Command.{Command}
-use Rattle.command.specs.declared.Command.the-variants.{SetAddress, DefineStatus, ReadStatus, SetPwm, SynchOutput, SetOutputs, SetSynchOutput, SetTimerMode, SynchInput, Nop, HardReset, ResetPosition, LoadTrajectory, StartMotion, SetGain, StopMotor}
+use Rattle.command.specs.declared.Command.the-variants.{SetAddress, DefineStatus, ReadStatus, SetPwm, SynchOutput, SetOutputs, SetSynchOutput, SetTimerMode, SetBaudRate, SynchInput, Nop, HardReset, ResetPosition, LoadTrajectory, StartMotion, SetGain, StopMotor}
 use Rattle.command.specs.declared.Role.{Role}
-use Rattle.command.specs.declared.Role.the-variants.{Plain, Places, Masks, Captures, Zeroes, Idles, Resets}
+use Rattle.command.specs.declared.Role.the-variants.{Plain, Places, Paces, Masks, Captures, Zeroes, Idles, Resets}
 use Rattle.command.specs.Role.{roleOf}
 use Rattle.command.specs.Control.{loadsOf}
 use Rattle.message.specs.declared.Message.{Message}
@@ -16,7 +16,7 @@ use Rattle.node.specs.declared.gate.GateSettings.{GateSettings}
 use Rattle.node.specs.declared.drive.DriveSettings.{DriveSettings}
 use Rattle.node.specs.declared.state.Settings.{Settings}
 use Rattle.node.specs.Setting.{MotionPart, getMotion, makeMotion}
-use Rattle.node.specs.Effect.{settingsPowerUp, brings, settingsAfter}
+use Rattle.node.specs.Effect.{settingsPowerUp, divisorUp, brings, settingsAfter}
 use Rattle.node.specs.Node.{doesHeed}
 
 -- what is no command of ours is as a Nop
@@ -27,10 +27,10 @@ messageRole Spoilt = Idles
 
 -- settings with this part of a gate's, or of a drive's
 abbrev pub withGate : GateSettings → Settings
-withGate g = record { drive = settingsPowerUp .drive; gate = g; place = settingsPowerUp .place; mask = 0 }
+withGate g = record { drive = settingsPowerUp .drive; gate = g; place = settingsPowerUp .place; mask = 0; divisor = divisorUp }
 
 abbrev pub withDrive : DriveSettings → Settings
-withDrive d = record { drive = d; gate = settingsPowerUp .gate; place = settingsPowerUp .place; mask = 0 }
+withDrive d = record { drive = d; gate = settingsPowerUp .gate; place = settingsPowerUp .place; mask = 0; divisor = divisorUp }
 
 -- a gate's after a command, and a drive's
 abbrev pub gateAfter : Command → GateSettings → GateSettings
@@ -71,11 +71,23 @@ loadedOf m s = record {
 abbrev pub placeBy : Role → Place → Place
 placeBy Plain p = p
 placeBy (Places q) p = q
+placeBy (Paces d) p = p
 placeBy (Masks m) p = p
 placeBy Captures p = p
 placeBy Zeroes p = p
 placeBy Idles p = p
 placeBy Resets p = settingsPowerUp .place
+
+-- the divisor
+abbrev pub divisorBy : Role → ℕ → ℕ
+divisorBy Plain d = d
+divisorBy (Places p) d = d
+divisorBy (Paces e) d = e
+divisorBy (Masks m) d = d
+divisorBy Captures d = d
+divisorBy Zeroes d = d
+divisorBy Idles d = d
+divisorBy Resets d = divisorUp
 
 -- the mask after a command
 abbrev pub maskBy : Command → ℕ → ℕ
@@ -87,6 +99,7 @@ maskBy SynchOutput m = m
 maskBy (SetOutputs w) m = m
 maskBy (SetSynchOutput h) m = m
 maskBy (SetTimerMode t) m = m
+maskBy (SetBaudRate d) m = m
 maskBy SynchInput m = m
 maskBy Nop m = m
 maskBy HardReset m = 0

@@ -1,5 +1,6 @@
 -- Document 01, "The node": "Six settings: place .., status mask, outputs .., PWM pair, held set .., timer mode"; document 02, request 6: a drive's are place, status mask,
--- "gains, stop byte and, each a setting by itself in waiting and in force, control byte, position, velocity, acceleration and PWM value". One index for all of them, in groups.
+-- "gains, stop byte and, each a setting by itself in waiting and in force, control byte, position, velocity, acceleration and PWM value"; request 7: "every node holds a
+-- divisor, a setting". One index for all of them, in groups.
 use Prim.Native.Nat.{ℕ}
 use mathlib.Core.Bool.{Bool, true, false, not}
 use mathlib.Core.Path.{_≡_, refl}
@@ -29,7 +30,7 @@ pub data DriveSetting : Type 0 where
 
 -- every node's, and its kind's own
 pub data Setting : Type 0 where
-  place mask : Setting
+  place mask divisor : Setting
   gate : GateSetting → Setting
   drive : DriveSetting → Setting
 
@@ -37,6 +38,7 @@ pub data Setting : Type 0 where
 abbrev pub owns : Kind → Setting → Bool
 owns k place = true
 owns k mask = true
+owns k divisor = true
 owns k (gate g) = isGate k
 owns k (drive d) = not (isGate k)
 
@@ -56,6 +58,7 @@ DriveValue (inForce m) = ℕ
 abbrev pub Value : Setting → Type 0
 Value place = Place
 Value mask = ℕ
+Value divisor = ℕ
 Value (gate g) = GateValue g
 Value (drive d) = DriveValue d
 
@@ -82,6 +85,7 @@ getDrive x (inForce m) = getMotion (x .in_force) m
 abbrev pub get : Settings → (s : Setting) → Value s
 get x place = x .place
 get x mask = x .mask
+get x divisor = x .divisor
 get x (gate g) = getGate (x .gate) g
 get x (drive d) = getDrive (x .drive) d
 
@@ -96,7 +100,7 @@ abbrev pub makeDrive : ((d : DriveSetting) → DriveValue d) → DriveSettings
 makeDrive f = record { waiting = makeMotion (λ m. f (waiting m)); in_force = makeMotion (λ m. f (inForce m)); gains = f gains; stop = f stop }
 
 abbrev pub make : ((s : Setting) → Value s) → Settings
-make f = record { drive = makeDrive (λ d. f (drive d)); gate = makeGate (λ g. f (gate g)); place = f place; mask = f mask }
+make f = record { drive = makeDrive (λ d. f (drive d)); gate = makeGate (λ g. f (gate g)); place = f place; mask = f mask; divisor = f divisor }
 
 -- all zero: what is read past the end of an array
 abbrev pub nowhere : Place
@@ -111,6 +115,7 @@ zeroed = record {
   gate = record { outputs = 0; held = record { outputs = 0; pwm = record { first = 0; second = 0 } }; pwm = record { first = 0; second = 0 }; timer = 0 };
   place = nowhere;
   mask = 0;
+  divisor = 0;
 }
 
 gate-make : (f : (g : GateSetting) → GateValue g) (g : GateSetting) → getGate (makeGate f) g ≡ f g
@@ -135,6 +140,7 @@ drive-make f (inForce m) = motion-make (λ p. f (inForce p)) m
 pub get-make : (f : (s : Setting) → Value s) (s : Setting) → get (make f) s ≡ f s
 get-make f place = refl
 get-make f mask = refl
+get-make f divisor = refl
 get-make f (gate g) = gate-make (λ h. f (gate h)) g
 get-make f (drive d) = drive-make (λ e. f (drive e)) d
 
@@ -151,4 +157,4 @@ drive-same f x h =
 
 pub make-same : (f : (s : Setting) → Value s) (x : Settings) → ((s : Setting) → f s ≡ get x s) → make f ≡ x
 make-same f x h =
-    rw (h place, h mask, gate-same (λ g. f (gate g)) (x .gate) (λ g. h (gate g)), drive-same (λ d. f (drive d)) (x .drive) (λ d. h (drive d)))
+    rw (h place, h mask, h divisor, gate-same (λ g. f (gate g)) (x .gate) (λ g. h (gate g)), drive-same (λ d. f (drive d)) (x .drive) (λ d. h (drive d)))

@@ -117,6 +117,7 @@ impl DriveSettings {
             Command::SetOutputs(_) => s,
             Command::SetSynchOutput(_) => s,
             Command::SetTimerMode(_) => s,
+            Command::SetBaudRate(_) => s,
             Command::SynchInput => s,
             Command::Nop => s,
             Command::ResetPosition => s,

@@ -74,6 +74,7 @@ impl GateSettings {
             Command::SetAddress(_) => s,
             Command::DefineStatus(_) => s,
             Command::ReadStatus(_) => s,
+            Command::SetBaudRate(_) => s,
             Command::SynchInput => s,
             Command::Nop => s,
             Command::ResetPosition => s,

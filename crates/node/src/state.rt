@@ -11,14 +11,15 @@ use wire::Kind;
 ghost use mathlib.Core.Path.{_≡_};
 ghost use Rattle.node.specs.Effect.{placePowerUp, settingsPowerUp, settingsAfter};
 ghost use Rattle.node.specs.Node.{nothing, powerUp, doesHeed, addressedAfter, capturedAfter, positionAfter, takeGate, takeDrive, takeOf, shownOf, maskAfter};
-ghost use Rattle.node.specs.Parts.{messageRole, heededRole, placeBy, maskBy, maskTake};
+ghost use Rattle.node.specs.Parts.{messageRole, heededRole, placeBy, divisorBy, maskBy, maskTake};
 
-// The settings: every node's place and mask, and what its kind has of its own. A node has no use for the other kind's, and leaves them as they are.
+// The settings: every node's place, mask and divisor, and what its kind has of its own. A node has no use for the other kind's, and leaves them as they are.
 pub struct Settings {
     pub drive: DriveSettings,
     pub gate: GateSettings,
     pub place: Place,
     pub mask: u8,
+    pub divisor: u8,
 }
 
 // What the bench sets and no command changes: a gate's inputs, counter and analog values; a drive's home position, velocity, position error, A/D value
@@ -69,6 +70,7 @@ fn does_heed(kind: Kind, role: Role) -> bool
     match role {
         Role::Places(place) => kind.is_gate() | (1 <= place.address.0),
         Role::Plain => true,
+        Role::Paces(_) => true,
         Role::Masks(_) => true,
         Role::Captures => true,
         Role::Zeroes => true,
@@ -85,6 +87,7 @@ fn addressed_after(role: Role, addressed: bool) -> bool
         Role::Places(_) => true,
         Role::Resets => false,
         Role::Plain => addressed,
+        Role::Paces(_) => addressed,
         Role::Masks(_) => addressed,
         Role::Captures => addressed,
         Role::Zeroes => addressed,
@@ -114,6 +117,7 @@ fn captured_after(role: Role, bench: Bench, captured: Captured) -> Captured
         Role::Resets => nothing(),
         Role::Plain => captured,
         Role::Places(_) => captured,
+        Role::Paces(_) => captured,
         Role::Masks(_) => captured,
         Role::Zeroes => captured,
         Role::Idles => captured,
@@ -129,6 +133,7 @@ fn position_after(role: Role, position: u32) -> u32
         Role::Resets => 0,
         Role::Plain => position,
         Role::Places(_) => position,
+        Role::Paces(_) => position,
         Role::Masks(_) => position,
         Role::Captures => position,
         Role::Idles => position,
@@ -142,6 +147,8 @@ impl Node {
     pub const GROUP: u8 = 0xFF;
 
     pub const LEADER: bool = false;
+
+    pub const DIVISOR: u8 = 0x3F;
 
     pub const ADDRESSED: bool = false;
 
@@ -179,6 +186,7 @@ impl Node {
                 gate: gate.take(message),
                 place: place_by(role, place),
                 mask: mask_take(message, settings.mask),
+                divisor: divisor_by(role, settings.divisor),
             },
             bench,
             captured: captured_after(role, bench, captured),
@@ -206,6 +214,7 @@ impl Node {
                 gate,
                 place: place_by(role, place),
                 mask: mask_take(message, settings.mask),
+                divisor: divisor_by(role, settings.divisor),
             },
             bench,
             captured,
@@ -263,6 +272,7 @@ fn mask_by(c: Command, mask: u8) -> u8
         Command::SetOutputs(_) => mask,
         Command::SetSynchOutput(_) => mask,
         Command::SetTimerMode(_) => mask,
+        Command::SetBaudRate(_) => mask,
         Command::SynchInput => mask,
         Command::Nop => mask,
         Command::ResetPosition => mask,
@@ -303,10 +313,27 @@ fn place_by(role: Role, place: Place) -> Place
         Role::Places(new) => new,
         Role::Resets => place_power_up(),
         Role::Plain => place,
+        Role::Paces(_) => place,
         Role::Masks(_) => place,
         Role::Captures => place,
         Role::Zeroes => place,
         Role::Idles => place,
+    }
+}
+
+// The divisor after a command.
+fn divisor_by(role: Role, divisor: u8) -> u8
+    ensures { λ r. ⌜ r ≡ divisorBy role divisor ⌝ }
+{
+    match role {
+        Role::Paces(new) => new,
+        Role::Resets => Node::DIVISOR,
+        Role::Plain => divisor,
+        Role::Places(_) => divisor,
+        Role::Masks(_) => divisor,
+        Role::Captures => divisor,
+        Role::Zeroes => divisor,
+        Role::Idles => divisor,
     }
 }
 
@@ -353,6 +380,7 @@ impl Settings {
             gate: GateSettings::power_up(),
             place: place_power_up(),
             mask: 0,
+            divisor: Node::DIVISOR,
         }
     }
 
@@ -360,14 +388,16 @@ impl Settings {
     pub fn after(self, c: Command) -> Settings
         ensures { λ r. ⌜ r ≡ settingsAfter c self ⌝ }
     {
+        let role = c.role();
         let drive = self.drive;
         let gate = self.gate;
         let place = self.place;
         Settings {
             drive: drive.after(c),
             gate: gate.after(c),
-            place: place_by(c.role(), place),
+            place: place_by(role, place),
             mask: mask_by(c, self.mask),
+            divisor: divisor_by(role, self.divisor),
         }
     }
 }

@@ -50,6 +50,7 @@ fn is_idle(role: Role) -> bool
         Role::Idles => true,
         Role::Plain => false,
         Role::Places(_) => false,
+        Role::Paces(_) => false,
         Role::Captures => false,
         Role::Zeroes => false,
         Role::Resets => false,

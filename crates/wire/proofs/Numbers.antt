@@ -31,6 +31,8 @@ in-range refusal.Line = refl
 in-range refusal.Uneven = refl
 in-range refusal.Backward = refl
 in-range refusal.Lacked = refl
+in-range refusal.Divisor = refl
+in-range refusal.Answerable = refl
 
 -- each of its tests holds
 module _ (n : ℕ) (h : refuses n ≡ true) where

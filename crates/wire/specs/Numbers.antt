@@ -25,6 +25,8 @@ numberOf refusal.Line = 14
 numberOf refusal.Uneven = 15
 numberOf refusal.Backward = 16
 numberOf refusal.Lacked = 17
+numberOf refusal.Divisor = 18
+numberOf refusal.Answerable = 19
 
 -- "several nodes replied (not a refusal)"
 abbrev pub collision : ℕ

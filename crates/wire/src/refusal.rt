@@ -37,6 +37,10 @@ pub enum Refusal {
     Backward,
     // The kind of a node that the command may reach lacks it.
     Lacked,
+    // A divisor that the manual of a kind on the chain doesn't list.
+    Divisor,
+    // Set Baud Rate that a node might answer: a known member leads the group, or a place is in doubt.
+    Answerable,
 }
 
 // A call that is done.
@@ -73,6 +77,8 @@ impl Refusal {
             Refusal::Uneven => 15,
             Refusal::Backward => 16,
             Refusal::Lacked => 17,
+            Refusal::Divisor => 18,
+            Refusal::Answerable => 19,
         }
     }
 }

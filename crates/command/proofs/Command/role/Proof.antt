@@ -30,6 +30,8 @@ role-spec =
     (λ c. search needs)
     (λ c. search needs)
     (λ c. search needs)
+    (λ c. search needs)
+    (λ c. search told)
     (λ c. search told)
     (λ c. search told)
     (λ c. search told)

@@ -16,6 +16,8 @@ captured-after-spec =
     (λ c. search needs)
     (λ c. search needs)
     (λ c. search needs)
+    (λ c. search needs)
+    (λ c. search told-captured)
     (λ c. search told-captured)
     (λ c. search told-captured)
     (λ c. search told-captured)

@@ -25,6 +25,8 @@ after-spec =
     (λ c. search needs)
     (λ c. search needs)
     (λ c. search needs)
+    (λ c. search needs)
+    (λ c. search told-gate)
     (λ c. search told-gate)
     (λ c. search told-gate)
     (λ c. search told-gate)

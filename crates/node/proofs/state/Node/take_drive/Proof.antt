@@ -14,4 +14,5 @@ take-drive-spec =
     (λ c κs. search needs)
     (λ c κs. search needs)
     (λ c κs. search needs)
+    (λ c κs. search needs)
     (λ c. search drive-taken))

@@ -1,3 +1,4 @@
 pub mod Roles
+pub mod Lists
 mod Fitting
 pub mod Unique

@@ -32,7 +32,8 @@ pub drive-blended : (k : DriveKnown) (new old : DriveSettings) (w f : Motion) (g
     → record { waiting = w; in_force = f; gains = g; stop = s } ≡ driveBlend k new old
 drive-blended k new old w f g s ew ef eg es = rw (ew, ef, eg, es)
 
-pub all-blended : (k : Known) (new old : Settings) (d : DriveSettings) (g : GateSettings) (p : Place) (m : ℕ) → d ≡ driveBlend (k .drive) (new .drive) (old .drive)
+pub all-blended : (k : Known) (new old : Settings) (d : DriveSettings) (g : GateSettings) (p : Place) (m v : ℕ) → d ≡ driveBlend (k .drive) (new .drive) (old .drive)
     → g ≡ gateBlend (k .gate) (new .gate) (old .gate) → p ≡ cond (k .place) (new .place) (old .place) → m ≡ cond (k .mask) (new .mask) (old .mask)
-    → record { drive = d; gate = g; place = p; mask = m } ≡ blendOf k new old
-all-blended k new old d g p m ed eg ep em = rw (ed, eg, ep, em)
+    → v ≡ cond (k .divisor) (new .divisor) (old .divisor)
+    → record { drive = d; gate = g; place = p; mask = m; divisor = v } ≡ blendOf k new old
+all-blended k new old d g p m v ed eg ep em ev = rw (ed, eg, ep, em, ev)

@@ -5,7 +5,7 @@ use Rattle.wire.specs.declared.kind.Kind.{Kind}
 use Rattle.command.specs.declared.Command.{Command}
 use Rattle.status.specs.declared.Answer.{Answer}
 use Rattle.status.specs.declared.Answer.the-variants.{Clear, Marked, Silent}
-use Rattle.node.specs.Setting.{GateSetting, outputs, pwm, held, timer, MotionPart, control, position, velocity, acceleration, power, DriveSetting, gains, stop, waiting, inForce, Setting, place, mask, gate, drive, get-make, make-same}
+use Rattle.node.specs.Setting.{GateSetting, outputs, pwm, held, timer, MotionPart, control, position, velocity, acceleration, power, DriveSetting, gains, stop, waiting, inForce, Setting, place, mask, divisor, gate, drive, get-make, make-same}
 use Rattle.node.specs.Effect.{Effect, keeps, stores, copies, effect, writes}
 use Rattle.entry.specs.declared.gate.GateKnown.{GateKnown}
 use Rattle.entry.specs.declared.drive.MotionKnown.{MotionKnown}
@@ -38,6 +38,7 @@ flag-drive f (inForce m) = flag-motion (λ p. f (inForce p)) m
 flag-flags : (f : Setting → Bool) (s : Setting) → flag (flags f) s ≡ f s
 flag-flags f place = refl
 flag-flags f mask = refl
+flag-flags f divisor = refl
 flag-flags f (gate g) = flag-gate (λ h. f (gate h)) g
 flag-flags f (drive d) = flag-drive (λ e. f (drive e)) d
 
@@ -54,7 +55,7 @@ drive-same f k h =
 
 flags-same : (f : Setting → Bool) (k : Known) → ((s : Setting) → f s ≡ flag k s) → flags f ≡ k
 flags-same f k h =
-    rw (h place, h mask, gate-same (λ g. f (gate g)) (k .gate) (λ g. h (gate g)), drive-same (λ d. f (drive d)) (k .drive) (λ d. h (drive d)))
+    rw (h place, h mask, h divisor, gate-same (λ g. f (gate g)) (k .gate) (λ g. h (gate g)), drive-same (λ d. f (drive d)) (k .drive) (λ d. h (drive d)))
 
 -- at power-up every setting is known
 pub knows-up : (k : Kind) (s : Setting) → knows (entryPowerUp k) s ≡ true

@@ -5,21 +5,21 @@ use Rattle.wire.specs.declared.kind.Kind.{Kind}
 use Rattle.command.specs.declared.Motion.{Motion}
 use Rattle.command.specs.declared.Loads.{Loads}
 use Rattle.command.specs.declared.Command.{Command}
-use Rattle.command.specs.declared.Command.the-variants.{SetAddress, DefineStatus, ReadStatus, SetPwm, SynchOutput, SetOutputs, SetSynchOutput, SetTimerMode, SynchInput, Nop, HardReset, ResetPosition, LoadTrajectory, StartMotion, SetGain, StopMotor}
+use Rattle.command.specs.declared.Command.the-variants.{SetAddress, DefineStatus, ReadStatus, SetPwm, SynchOutput, SetOutputs, SetSynchOutput, SetTimerMode, SetBaudRate, SynchInput, Nop, HardReset, ResetPosition, LoadTrajectory, StartMotion, SetGain, StopMotor}
 use Rattle.command.specs.declared.Role.{Role}
-use Rattle.command.specs.declared.Role.the-variants.{Plain, Places, Masks, Captures, Zeroes, Idles, Resets}
+use Rattle.command.specs.declared.Role.the-variants.{Plain, Places, Paces, Masks, Captures, Zeroes, Idles, Resets}
 use Rattle.command.specs.Role.{roleOf}
 use Rattle.command.specs.Control.{loadsOf}
 use Rattle.node.specs.declared.state.Settings.{Settings}
-use Rattle.node.specs.Setting.{MotionPart, Setting, place, mask, gate, drive, waiting, inForce, Value, getMotion}
+use Rattle.node.specs.Setting.{MotionPart, Setting, place, mask, divisor, gate, drive, waiting, inForce, Value, getMotion}
 use Rattle.node.specs.Effect.{Effect, keeps, stores, copies, settingsPowerUp, brings, starting, effect}
-use Rattle.node.proofs.Laws.{placeEffect, place-effect}
+use Rattle.node.proofs.Laws.{placeEffect, place-effect, divisorEffect, divisor-effect}
 use Rattle.entry.specs.declared.gate.GateKnown.{GateKnown}
 use Rattle.entry.specs.declared.drive.MotionKnown.{MotionKnown}
 use Rattle.entry.specs.declared.drive.DriveKnown.{DriveKnown}
 use Rattle.entry.specs.declared.Known.{Known}
 use Rattle.entry.specs.Entry.{motionFlag, flag, gateFlags, motionFlags, driveFlags, entryPowerUp, newFlag, markOf}
-use Rattle.entry.specs.Parts.{gateAll, driveAll, knownDrive, markPlace, markMask, gateMark, driveMark, loadFlags, startFlags, driveLoad}
+use Rattle.entry.specs.Parts.{gateAll, driveAll, knownDrive, markPlace, markDivisor, markMask, gateMark, driveMark, loadFlags, startFlags, driveLoad}
 
 -- ---- a load
 
@@ -73,6 +73,7 @@ gate-part SynchOutput sure k = refl
 gate-part (SetOutputs w) sure k = refl
 gate-part (SetSynchOutput h) sure k = refl
 gate-part (SetTimerMode m) sure k = refl
+gate-part (SetBaudRate d) sure k = refl
 gate-part SynchInput sure k = refl
 gate-part Nop sure k = refl
 gate-part HardReset sure k = refl
@@ -91,6 +92,7 @@ drive-part SynchOutput sure k = refl
 drive-part (SetOutputs w) sure k = refl
 drive-part (SetSynchOutput h) sure k = refl
 drive-part (SetTimerMode m) sure k = refl
+drive-part (SetBaudRate d) sure k = refl
 drive-part SynchInput sure k = refl
 drive-part Nop sure k = refl
 drive-part HardReset sure k = refl
@@ -109,6 +111,7 @@ mask-part SynchOutput sure k = refl
 mask-part (SetOutputs w) sure k = refl
 mask-part (SetSynchOutput h) sure k = refl
 mask-part (SetTimerMode m) sure k = refl
+mask-part (SetBaudRate d) sure k = refl
 mask-part SynchInput sure k = refl
 mask-part Nop sure k = refl
 mask-part HardReset sure k = refl
@@ -121,6 +124,7 @@ mask-part (StopMotor s) sure k = refl
 place-role : (r : Role) (sure : Bool) (k : Known) → markPlace r sure (k .place) ≡ newFlag sure (placeEffect r) k
 place-role Plain sure k = refl
 place-role (Places p) sure k = refl
+place-role (Paces d) sure k = refl
 place-role (Masks m) sure k = refl
 place-role Captures sure k = refl
 place-role Zeroes sure k = refl
@@ -130,9 +134,25 @@ place-role Resets sure k = refl
 place-part : (c : Command) (sure : Bool) (k : Known) → markPlace (roleOf c) sure (k .place) ≡ newFlag sure (effect c place) k
 place-part c sure k = place-role (roleOf c) sure k ∙ ap (λ (e : Effect place). newFlag sure e k) (sym (place-effect c))
 
+divisor-role : (r : Role) (sure : Bool) (k : Known) → markDivisor r sure (k .divisor) ≡ newFlag sure (divisorEffect r) k
+divisor-role Plain sure k = refl
+divisor-role (Places p) sure k = refl
+divisor-role (Paces d) sure k = refl
+divisor-role (Masks m) sure k = refl
+divisor-role Captures sure k = refl
+divisor-role Zeroes sure k = refl
+divisor-role Idles sure k = refl
+divisor-role Resets sure k = refl
+
+divisor-part : (c : Command) (sure : Bool) (k : Known) → markDivisor (roleOf c) sure (k .divisor) ≡ newFlag sure (effect c divisor) k
+divisor-part c sure k = divisor-role (roleOf c) sure k ∙ ap (λ (e : Effect divisor). newFlag sure e k) (sym (divisor-effect c))
+
 -- in each arm the command is known
 pub told-gate : (c d : Command) (sure : Bool) (k r : GateKnown) → c ≡ d → r ≡ gateMark d sure k → r ≡ gateMark c sure k
 told-gate c d sure k r e h = h ∙ sym (ap (λ (x : Command). gateMark x sure k) e)
+
+pub told-mask : (c d : Command) (sure k r : Bool) → c ≡ d → r ≡ markMask d sure k → r ≡ markMask c sure k
+told-mask c d sure k r e h = h ∙ sym (ap (λ (x : Command). markMask x sure k) e)
 
 pub told-drive : (c d : Command) (sure : Bool) (k r : DriveKnown) → c ≡ d → r ≡ driveMark d sure k → r ≡ driveMark c sure k
 told-drive c d sure k r e h = h ∙ sym (ap (λ (x : Command). driveMark x sure k) e)
@@ -147,15 +167,16 @@ told-start c sure k f e ef = rw (ef, e)
 -- ---- all parts
 
 pub powered-up : (kind : Kind) (s : Settings) (g : GateKnown) (d : DriveKnown) → s ≡ settingsPowerUp → g ≡ gateAll true → d ≡ driveAll true
-    → record { settings = s; known = record { place = true; mask = true; gate = g; drive = d }; kind = kind } ≡ entryPowerUp kind
+    → record { settings = s; known = record { place = true; mask = true; divisor = true; gate = g; drive = d }; kind = kind } ≡ entryPowerUp kind
 powered-up kind s g d es eg ed = rw (es, eg, ed)
 
-pub all-marked : (c : Command) (sure : Bool) (k : Known) (role : Role) (p m : Bool) (g : GateKnown) (d : DriveKnown) → role ≡ roleOf c
-    → p ≡ markPlace role sure (k .place) → m ≡ markMask c sure (k .mask) → g ≡ gateMark c sure (k .gate) → d ≡ driveMark c sure (k .drive)
-    → record { place = p; mask = m; gate = g; drive = d } ≡ markOf c sure k
-all-marked c sure k role p m g d er ep em eg ed = λ i. record {
+pub all-marked : (c : Command) (sure : Bool) (k : Known) (role : Role) (p m v : Bool) (g : GateKnown) (d : DriveKnown) → role ≡ roleOf c
+    → p ≡ markPlace role sure (k .place) → m ≡ markMask c sure (k .mask) → v ≡ markDivisor role sure (k .divisor) → g ≡ gateMark c sure (k .gate) → d ≡ driveMark c sure (k .drive)
+    → record { place = p; mask = m; divisor = v; gate = g; drive = d } ≡ markOf c sure k
+all-marked c sure k role p m v g d er ep em ev eg ed = λ i. record {
   place = (ep ∙ ap (λ (r : Role). markPlace r sure (k .place)) er ∙ place-part c sure k) i;
   mask = (em ∙ mask-part c sure k) i;
+  divisor = (ev ∙ ap (λ (r : Role). markDivisor r sure (k .divisor)) er ∙ divisor-part c sure k) i;
   gate = (eg ∙ gate-part c sure k) i;
   drive = (ed ∙ drive-part c sure k) i;
 }

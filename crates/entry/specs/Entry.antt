@@ -5,7 +5,7 @@ use Rattle.wire.specs.declared.kind.Kind.{Kind}
 use Rattle.command.specs.declared.Command.{Command}
 use Rattle.status.specs.declared.Answer.{Answer}
 use Rattle.status.specs.declared.Answer.the-variants.{Clear, Marked, Silent}
-use Rattle.node.specs.Setting.{GateSetting, outputs, pwm, held, timer, MotionPart, control, position, velocity, acceleration, power, DriveSetting, gains, stop, waiting, inForce, Setting, place, mask, gate, drive, Value, get, make}
+use Rattle.node.specs.Setting.{GateSetting, outputs, pwm, held, timer, MotionPart, control, position, velocity, acceleration, power, DriveSetting, gains, stop, waiting, inForce, Setting, place, mask, divisor, gate, drive, Value, get, make}
 use Rattle.node.specs.Effect.{Effect, keeps, stores, copies, effect, writes, settingsPowerUp}
 use Rattle.entry.specs.declared.gate.GateKnown.{GateKnown}
 use Rattle.entry.specs.declared.drive.MotionKnown.{MotionKnown}
@@ -38,6 +38,7 @@ driveFlag k (inForce m) = motionFlag (k .in_force) m
 abbrev pub flag : Known → Setting → Bool
 flag k place = k .place
 flag k mask = k .mask
+flag k divisor = k .divisor
 flag k (gate g) = gateFlag (k .gate) g
 flag k (drive d) = driveFlag (k .drive) d
 
@@ -52,7 +53,7 @@ abbrev pub driveFlags : (DriveSetting → Bool) → DriveKnown
 driveFlags f = record { gains = f gains; stop = f stop; waiting = motionFlags (λ m. f (waiting m)); in_force = motionFlags (λ m. f (inForce m)) }
 
 abbrev pub flags : (Setting → Bool) → Known
-flags f = record { place = f place; mask = f mask; gate = gateFlags (λ g. f (gate g)); drive = driveFlags (λ d. f (drive d)) }
+flags f = record { place = f place; mask = f mask; divisor = f divisor; gate = gateFlags (λ g. f (gate g)); drive = driveFlags (λ d. f (drive d)) }
 
 -- what the host calls known, and the value that it shows
 abbrev pub knows : Entry → Setting → Bool

@@ -25,23 +25,35 @@ driveAll b = driveFlags (λ d. b)
 
 -- flags with this one of the mask, or this part of a gate's, or of a drive's
 abbrev pub knownMask : Bool → Known
-knownMask b = record { place = false; mask = b; gate = gateAll false; drive = driveAll false }
+knownMask b = record { place = false; mask = b; divisor = false; gate = gateAll false; drive = driveAll false }
 
 abbrev pub knownGate : GateKnown → Known
-knownGate g = record { place = false; mask = false; gate = g; drive = driveAll false }
+knownGate g = record { place = false; mask = false; divisor = false; gate = g; drive = driveAll false }
 
 abbrev pub knownDrive : DriveKnown → Known
-knownDrive d = record { place = false; mask = false; gate = gateAll false; drive = d }
+knownDrive d = record { place = false; mask = false; divisor = false; gate = gateAll false; drive = d }
 
 -- the flag of the place after a command, by its role
 abbrev pub markPlace : Role → Bool → Bool → Bool
 markPlace Plain sure k = k
 markPlace (Places p) sure k = sure
+markPlace (Paces d) sure k = k
 markPlace (Masks m) sure k = k
 markPlace Captures sure k = k
 markPlace Zeroes sure k = k
 markPlace Idles sure k = k
 markPlace Resets sure k = sure
+
+-- of the divisor
+abbrev pub markDivisor : Role → Bool → Bool → Bool
+markDivisor Plain sure k = k
+markDivisor (Places p) sure k = k
+markDivisor (Paces d) sure k = sure
+markDivisor (Masks m) sure k = k
+markDivisor Captures sure k = k
+markDivisor Zeroes sure k = k
+markDivisor Idles sure k = k
+markDivisor Resets sure k = sure
 
 -- of the mask; a gate's own; a drive's own
 abbrev pub markMask : Command → Bool → Bool → Bool

@@ -54,7 +54,6 @@ impl GateKnown {
                 k
             }
             Command::SetTimerMode(_) => {
-            Command::SetBaudRate(_) => {
                 k.timer = sure;
                 k
             }
@@ -62,6 +61,7 @@ impl GateKnown {
             Command::SetAddress(_) => k,
             Command::DefineStatus(_) => k,
             Command::ReadStatus(_) => k,
+            Command::SetBaudRate(_) => k,
             Command::SynchInput => k,
             Command::Nop => k,
             Command::ResetPosition => k,

@@ -15,12 +15,13 @@ use status::Answer;
 use wire::Kind;
 ghost use mathlib.Core.Path.{_≡_};
 ghost use Rattle.entry.specs.Entry.{entryPowerUp, markOf, confirmOf, doubtOf, noteOf};
-ghost use Rattle.entry.specs.Parts.{markPlace, markMask, blendOf};
+ghost use Rattle.entry.specs.Parts.{markPlace, markDivisor, markMask, blendOf};
 
 // Which of the settings are known, in the parts that settings have; the others are in doubt.
 pub struct Known {
     pub place: bool,
     pub mask: bool,
+    pub divisor: bool,
     pub gate: GateKnown,
     pub drive: DriveKnown,
 }
@@ -48,6 +49,23 @@ fn mark_place(known: bool, role: Role, sure: bool) -> bool
         Role::Places(_) => sure,
         Role::Resets => sure,
         Role::Plain => known,
+        Role::Paces(_) => known,
+        Role::Masks(_) => known,
+        Role::Captures => known,
+        Role::Zeroes => known,
+        Role::Idles => known,
+    }
+}
+
+// The flag of the divisor.
+fn mark_divisor(known: bool, role: Role, sure: bool) -> bool
+    ensures { λ r. ⌜ r ≡ markDivisor role sure known ⌝ }
+{
+    match role {
+        Role::Paces(_) => sure,
+        Role::Resets => sure,
+        Role::Plain => known,
+        Role::Places(_) => known,
         Role::Masks(_) => known,
         Role::Captures => known,
         Role::Zeroes => known,
@@ -84,11 +102,13 @@ fn mark_mask(known: bool, c: Command, sure: bool) -> bool
 fn mark(known: Known, c: Command, sure: bool) -> Known
     ensures { λ r. ⌜ r ≡ markOf c sure known ⌝ }
 {
+    let role = c.role();
     let gate = known.gate;
     let drive = known.drive;
     Known {
-        place: mark_place(known.place, c.role(), sure),
+        place: mark_place(known.place, role, sure),
         mask: mark_mask(known.mask, c, sure),
+        divisor: mark_divisor(known.divisor, role, sure),
         gate: gate.mark(c, sure),
         drive: drive.mark(c, sure),
     }
@@ -105,6 +125,7 @@ fn blend(known: Known, new: Settings, old: Settings) -> Settings
         gate: gate.blend(new.gate, old.gate),
         place: pick::pick_place(known.place, new.place, old.place),
         mask: pick::pick_byte(known.mask, new.mask, old.mask),
+        divisor: pick::pick_byte(known.divisor, new.divisor, old.divisor),
     }
 }
 
@@ -118,6 +139,7 @@ impl Entry {
             known: Known {
                 place: true,
                 mask: true,
+                divisor: true,
                 gate: GateKnown::all(true),
                 drive: DriveKnown::all(true),
             },

@@ -1,6 +1,6 @@
 -- The record node by node: the entry of node i + 1 has index i. Whoever speaks of one node needs only these.
 use Prim.Native.Nat.{ℕ, zero, suc, _+_, _<_, _≤_}
-use mathlib.Core.Bool.{Bool, true, false, not, _&&_, _||_, false≢true, true≢false}
+use mathlib.Core.Bool.{Bool, true, false, cond, not, _&&_, _||_, false≢true, true≢false}
 use mathlib.Core.List.{List, [], _∷_}
 use mathlib.Core.Path.{_≡_, refl, ap, _∙_}
 use native.Mathlib.Nat.{not-suc-le-zero, le-of-suc-le-suc}
@@ -9,7 +9,7 @@ use mathlib.Core.Logic.{_⊎_, inl, inr, ⊎-elim}
 use lib.Dec.{eqb}
 use lib.ListN.{length, getD, replicate}
 use borrow.Author.Tests.{le-ltb, eq-eqb, ne-eqb, not-true, not-false}
-use Rattle.wire.proofs.Choice.{both, neither}
+use Rattle.wire.proofs.Choice.{both, neither, chose-first}
 use Rattle.wire.specs.declared.address.Group.{Group}
 use Rattle.wire.specs.declared.address.Address.{Address}
 use Rattle.wire.specs.declared.kind.Kind.{Kind}
@@ -17,6 +17,8 @@ use Rattle.wire.specs.declared.kind.Kind.the-variants.{Gate}
 use Rattle.command.specs.declared.Command.{Command}
 use Rattle.command.specs.declared.Command.the-variants.{HardReset}
 use Rattle.command.specs.Owner.{has}
+use Rattle.command.specs.Divisors.{isListed}
+use Rattle.command.proofs.Lists.{gate-lists}
 use Rattle.status.specs.declared.Answer.{Answer}
 use Rattle.status.specs.declared.Answer.the-variants.{Clear, Marked, Silent}
 use Rattle.node.specs.Setting.{place}
@@ -25,7 +27,7 @@ use Rattle.entry.specs.declared.Reach.{Reach}
 use Rattle.entry.specs.declared.Reach.the-variants.{Misses, Hits, May}
 use Rattle.entry.specs.Entry.{knows, shows, entryPowerUp, noteOf, doubtOf, Quiet}
 use Rattle.entry.proofs.Entries.{quiet-noted, kind-noted}
-use Rattle.ledger.specs.Ledger.{allGates, telling, ledgerPowerUp, ledgerLeast, reachOf, eachFrom, settling, settleOf, forgetOf, isRival, anyFrom, isLed, mayReach, doesLack, isLacked}
+use Rattle.ledger.specs.Ledger.{allGates, telling, ledgerPowerUp, ledgerLeast, reachOf, eachFrom, settling, settleOf, forgetOf, isRival, anyFrom, isLed, mayReach, doesLack, isLacked, lacksDivisor, isUnlisted, isOffList}
 use Rattle.ledger.proofs.Turns.{length-each}
 
 -- n itself, where there are entries for it
@@ -263,3 +265,19 @@ module _ (to : Address) (c : Command) (n : ℕ) (es : List Entry) (d : Entry) (f
   had-says h i p q r =
       let z : (mayReach (reachOf to (suc i) (getD es i d)) && not (has (getD es i d .kind) c)) ≡ false = none-says (doesLack to c) n es d few h i p q in
       not-false (has (getD es i d .kind) c) (rw r at z)
+
+-- 18 says that there is a node whose manual doesn't list the divisor, and its absence that each node's does
+module _ (v n : ℕ) (es : List Entry) (d : Entry) (few : n ≤ 31) where
+  pub off-says : 1 ≤ n → isOffList v n es ≡ true → (i : ℕ) × (i < n) × (isListed (getD es i d .kind) v ≡ false)
+  unfolding isOffList isUnlisted
+  off-says one h = go (isListed Gate v) refl h
+    where
+      go : (b : Bool) → isListed Gate v ≡ b → cond b (isUnlisted v n es) true ≡ true → (i : ℕ) × (i < n) × (isListed (getD es i d .kind) v ≡ false)
+      go true e h = let t = any-says (λ k. lacksDivisor v) n es d few h in (t .0, t .1, not-true (isListed (getD es (t .0) d .kind) v) (t .2))
+      go false e h = (0, one, gate-lists (getD es 0 d .kind) v e)
+
+  pub on-says : isOffList v n es ≡ false → (isListed Gate v ≡ true) × ((i : ℕ) → i < n → i < length es → isListed (getD es i d .kind) v ≡ true)
+  unfolding isOffList isUnlisted
+  on-says h =
+      let t = chose-first (isListed Gate v) h true≢false in
+      (t .0, λ i p q. not-false (isListed (getD es i d .kind) v) (none-says (λ k. lacksDivisor v) n es d few (t .1) i p q))

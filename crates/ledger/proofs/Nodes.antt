@@ -1,6 +1,7 @@
 -- One node: whether a command reaches it, and whether it stands in a leader's way, as the code's tests give it.
 use Prim.Native.Nat.{ℕ}
 use mathlib.Core.Bool.{Bool, true, false, not}
+use mathlib.Core.List.{List}
 use mathlib.Core.Path.{_≡_, sym, ap, _∙_}
 use lib.Dec.{eqb}
 use borrow.Author.Tests.{eq-eqb, ne-eqb}
@@ -11,10 +12,12 @@ use Rattle.wire.specs.declared.address.Address.the-variants as address
 use Rattle.command.specs.declared.Place.{Place}
 use Rattle.command.specs.declared.Command.{Command}
 use Rattle.command.specs.Owner.{has}
+use Rattle.command.specs.Divisors.{isListed}
+use Rattle.wire.specs.declared.kind.Kind.the-variants.{Gate}
 use Rattle.entry.specs.declared.Entry.{Entry}
 use Rattle.entry.specs.declared.Reach.{Reach}
 use Rattle.entry.specs.declared.Reach.the-variants.{Misses, Hits, May}
-use Rattle.ledger.specs.Ledger.{groupReach, reachBy, reachOf, isRival, doesLack}
+use Rattle.ledger.specs.Ledger.{groupReach, reachBy, reachOf, isRival, doesLack, lacksDivisor, isUnlisted, isOffList}
 
 module _ (to : Address) (k : ℕ) (known : Bool) (p : Place) where
   pub its-node : (i : Individual) → to ≡ address.Individual i → i .0 ≡ k → Hits ≡ reachBy to k known p
@@ -61,3 +64,15 @@ module _ (to : Address) (c : Command) (k : ℕ) (e : Entry) (r : Reach) (er : r 
 
   pub lacks-maybe : (b : Bool) → r ≡ May → b ≡ has (e .kind) c → not b ≡ doesLack to c k e
   lacks-maybe b h f = rw (sym er ∙ h) (ap not f)
+
+pub lacks-told : (v : ℕ) (e : Entry) (b : Bool) → b ≡ isListed (e .kind) v → not b ≡ lacksDivisor v e
+lacks-told v e b h = ap not h
+
+module _ (v n : ℕ) (es : List Entry) (b : Bool) (eb : b ≡ isListed Gate v) where
+  pub off-by-nodes : (r : Bool) → b ≡ true → r ≡ isUnlisted v n es → r ≡ isOffList v n es
+  unfolding isOffList
+  off-by-nodes r h e = rw (sym eb ∙ h) e
+
+  pub off-by-gates : b ≡ false → true ≡ isOffList v n es
+  unfolding isOffList
+  off-by-gates h = rw (sym eb ∙ h)

@@ -20,7 +20,7 @@ use Rattle.status.specs.declared.Answer.{Answer}
 use Rattle.entry.specs.declared.Entry.{Entry}
 use Rattle.entry.specs.declared.Reach.{Reach}
 use Rattle.entry.specs.Entry.{entryPowerUp, noteOf, doubtOf}
-use Rattle.ledger.specs.Ledger.{allGates, telling, ledgerPowerUp, ledgerLeast, reachOf, eachFrom, settling, settleOf, forgetOf, isRival, anyFrom, isLed, doesLack, isLacked}
+use Rattle.ledger.specs.Ledger.{allGates, telling, ledgerPowerUp, ledgerLeast, reachOf, eachFrom, settling, settleOf, forgetOf, isRival, anyFrom, isLed, doesLack, isLacked, lacksDivisor, isUnlisted}
 
 capped : (t : Bool) (n : ℕ) → ltb 31 n ≡ t → cond t 31 n ≤ 31
 capped true n h = omega arith
@@ -114,6 +114,10 @@ pub lacked-start : (to : Address) (c : Command) (n end : ℕ) (es : List Entry) 
     → anyFrom (doesLack to c) (0 + 1) (end - 0) (drop 0 es) ≡ isLacked to c n es
 unfolding isLacked
 lacked-start to c n end es e = any-start (doesLack to c) (ledgerLeast n) end es e
+
+pub unlisted-start : (v n end : ℕ) (es : List Entry) → end ≡ ledgerLeast n → anyFrom (λ k. lacksDivisor v) (0 + 1) (end - 0) (drop 0 es) ≡ isUnlisted v n es
+unfolding isUnlisted
+unlisted-start v n end es e = any-start (λ k. lacksDivisor v) (ledgerLeast n) end es e
 
 here : (f : ℕ → Entry → Bool) (n i : ℕ) (es : List Entry) (d : Entry) → i < n → i < length es
     → anyFrom f (i + 1) (n - i) (drop i es) ≡ (f (i + 1) (getD es i d) || anyFrom f (i + 1 + 1) (n - (i + 1)) (drop (i + 1) es))

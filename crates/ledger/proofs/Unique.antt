@@ -6,6 +6,7 @@ use Rattle.ledger.proofs.settle.Reads as settle
 use Rattle.ledger.proofs.forget.Reads as forget
 use Rattle.ledger.proofs.is_led.Reads as is-led
 use Rattle.ledger.proofs.is_lacked.Reads as is-lacked
+use Rattle.ledger.proofs.is_off_list.Reads as is-off-list
 
 pub power-up-unique : OneResult power-up.Post
 power-up-unique κs a r r′ s s′ p q = p ∙ sym q
@@ -21,3 +22,6 @@ is-led-unique κs a r r′ s s′ p q = p ∙ sym q
 
 pub is-lacked-unique : OneResult is-lacked.Post
 is-lacked-unique κs a r r′ s s′ p q = p ∙ sym q
+
+pub is-off-list-unique : OneResult is-off-list.Post
+is-off-list-unique κs a r r′ s s′ p q = p ∙ sym q

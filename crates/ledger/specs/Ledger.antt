@@ -1,4 +1,4 @@
--- Document 01, "The host session", with document 02, requests 4 and 6: the record of all nodes. Node k has the entry of index k - 1; entries past n stay as they are.
+-- Document 01, "The host session", with document 02, requests 4, 6 and 7: the record of all nodes. Node k has the entry of index k - 1; entries past n stay as they are.
 use Prim.Native.Nat.{ℕ, zero, suc, _-_}
 use mathlib.Core.Bool.{Bool, true, false, cond, not, _&&_, _||_}
 use mathlib.Core.List.{List, [], _∷_, map}
@@ -14,6 +14,7 @@ use Rattle.command.specs.declared.Place.{Place}
 use Rattle.command.specs.declared.Command.{Command}
 use Rattle.command.specs.declared.Command.the-variants.{HardReset}
 use Rattle.command.specs.Owner.{has}
+use Rattle.command.specs.Divisors.{isListed}
 use Rattle.status.specs.declared.Answer.{Answer}
 use Rattle.node.specs.Setting.{place, zeroed}
 use Rattle.entry.specs.declared.Entry.{Entry}
@@ -97,3 +98,18 @@ doesLack to c k e = mayReach (reachOf to k e) && not (has (e .kind) c)
 
 unfoldable pub isLacked : Address → Command → ℕ → List Entry → Bool
 isLacked to c n es = anyFrom (doesLack to c) 1 (ledgerLeast n) es
+
+-- 18: the manual of a node's kind doesn't list the divisor
+abbrev pub lacksDivisor : ℕ → Entry → Bool
+lacksDivisor d e = not (isListed (e .kind) d)
+
+unfoldable pub isUnlisted : ℕ → ℕ → List Entry → Bool
+isUnlisted d n es = anyFrom (λ k. lacksDivisor d) 1 (ledgerLeast n) es
+
+-- "Only divisors listed in the manual of every kind on the chain"; where there are no nodes, in the LS-773's, which lists all that the other does
+unfoldable pub isOffList : ℕ → ℕ → List Entry → Bool
+isOffList d n es = cond (isListed Gate d) (isUnlisted d n es) true
+
+-- 19: "Set Baud Rate to a group that a known member leads, or while any place is in doubt": a rival of nobody, since no node is 0
+abbrev pub isAnswerable : Group → ℕ → List Entry → Bool
+isAnswerable g n es = isLed 0 g n es

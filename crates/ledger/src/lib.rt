@@ -1,5 +1,5 @@
 // The host's record of all nodes: 31 entries, of which those of nodes 1 to n are told of every exchange.
-// Promised: nodes 1 to n of the kinds told; node by node what its entry makes of the exchange; who stands in a leader's way; whose kind lacks a command.
+// Promised: nodes 1 to n of the kinds told; node by node what its entry makes of the exchange; who stands in a leader's way; whose kind lacks a command; whose manual lists a divisor.
 // Left to others: which command waits, and how far the walk is (session, reports).
 use command::Command;
 use command::Place;
@@ -11,7 +11,7 @@ use wire::Group;
 use wire::Kind;
 use wire::MOST_NODES;
 ghost use mathlib.Core.Path.{_≡_};
-ghost use Rattle.ledger.specs.Ledger.{ledgerPowerUp, ledgerLeast, groupReach, reachBy, settleOf, forgetOf, isRival, isLed, doesLack, isLacked};
+ghost use Rattle.ledger.specs.Ledger.{ledgerPowerUp, ledgerLeast, groupReach, reachBy, settleOf, forgetOf, isRival, isLed, doesLack, isLacked, lacksDivisor, isUnlisted, isOffList};
 
 // At power-up: nodes 1 to n are of the kinds told, the first of them node 1's; beyond n all are gates.
 pub fn power_up(n: u8, kinds: [Kind; MOST_NODES]) -> [Entry; MOST_NODES]
@@ -166,4 +166,39 @@ pub fn is_lacked(entries: [Entry; MOST_NODES], n: u8, to: Address, c: Command) -
         i += 1;
     }
     false
+}
+
+// Whether the manual of a node's kind doesn't list a divisor.
+fn lacks_divisor(divisor: u8, e: Entry) -> bool
+    ensures { λ r. ⌜ r ≡ lacksDivisor divisor e ⌝ }
+{
+    let kind = e.kind;
+    !command::is_listed(kind, divisor)
+}
+
+// Whether that of one of nodes 1 to n doesn't.
+fn is_unlisted(entries: [Entry; MOST_NODES], n: u8, divisor: u8) -> bool
+    ensures { λ r. ⌜ r ≡ isUnlisted divisor n entries ⌝ }
+{
+    let end = least(n);
+    let mut i: u8 = 0;
+    while i < end {
+        let at = i as usize;
+        let e = entries[at];
+        if lacks_divisor(divisor, e) {
+            return true;
+        }
+        i += 1;
+    }
+    false
+}
+
+// Whether a divisor is none that the manual of every kind on the chain lists. What the LS-773's doesn't list no manual does: it is asked in any case, and alone where there are no nodes.
+pub fn is_off_list(entries: [Entry; MOST_NODES], n: u8, divisor: u8) -> bool
+    ensures { λ r. ⌜ r ≡ isOffList divisor n entries ⌝ }
+{
+    if command::is_listed(Kind::Gate, divisor) {
+        return is_unlisted(entries, n, divisor);
+    }
+    true
 }

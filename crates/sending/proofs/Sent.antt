@@ -30,9 +30,9 @@ use Rattle.sending.specs.declared.Check.the-variants.{Passed, Refuse}
 use Rattle.sending.specs.Sending.{openExchange, stepBy, transmitOf, byCheck}
 
 -- the packet at the start of the buffer, and the exchange opened
-abbrev pub sending : Session → Address → Address → Command → List ℕ → Outcome Step (List ℕ)
-sending s called to c out = record {
-  answer = record { end = Sent (length (packetFor called c)); session = openExchange s to c };
+abbrev pub sending : Session → ℕ → Address → Address → Command → List ℕ → Outcome Step (List ℕ)
+sending s at called to c out = record {
+  answer = record { end = Sent (length (packetFor called c)); session = openExchange s at to c };
   left = packetFor called c ++ drop (length (packetFor called c)) out;
 }
 
@@ -41,58 +41,58 @@ abbrev pub roomless : Session → List ℕ → Outcome Step (List ℕ)
 roomless s out = record { answer = refuseOf s Room; left = out }
 
 -- by the room that the packet has, and by nothing else
-pub record Sends (s : Session) (called to : Address) (c : Command) (out : List ℕ) (o : Outcome Step (List ℕ)) : Type 0 where
-  pub room : length (packetFor called c) ≤ length out → o ≡ sending s called to c out
+pub record Sends (s : Session) (at : ℕ) (called to : Address) (c : Command) (out : List ℕ) (o : Outcome Step (List ℕ)) : Type 0 where
+  pub room : length (packetFor called c) ≤ length out → o ≡ sending s at called to c out
   pub none : length out < length (packetFor called c) → o ≡ roomless s out
 
-by-written : (s : Session) (called to : Address) (c : Command) (out : List ℕ)
-    → Sends s called to c out (record { answer = stepBy s (openExchange s to c) (written (packetFor called c) out .answer); left = written (packetFor called c) out .left })
+by-written : (s : Session) (at : ℕ) (called to : Address) (c : Command) (out : List ℕ)
+    → Sends s at called to c out (record { answer = stepBy s (openExchange s at to c) (written (packetFor called c) out .answer); left = written (packetFor called c) out .left })
 unfolding written
-by-written s called to c out = record {
+by-written s at called to c out = record {
   room = λ h. rw (le-ltb (length out) (length (packetFor called c)) h);
   none = λ h. rw (lt-ltb (length out) (length (packetFor called c)) h);
 }
 
 -- a command to an address of its range
-pub transmitted-sends : (s : Session) (called to : Address) (c : Command) (out : List ℕ) → inRange called ≡ true → fitsOf c ≡ true
-    → Sends s called to c out (transmitOf s called to c out)
+pub transmitted-sends : (s : Session) (at : ℕ) (called to : Address) (c : Command) (out : List ℕ) → inRange called ≡ true → fitsOf c ≡ true
+    → Sends s at called to c out (transmitOf s at called to c out)
 unfolding transmitOf
-transmitted-sends s called to c out p q = rw (built-written called c out p q) (by-written s called to c out)
+transmitted-sends s at called to c out p q = rw (built-written called c out p q) (by-written s at called to c out)
 
 -- where the check before it is clear
-pub by-passed : (k : Check) (s : Session) (called to : Address) (c : Command) (out : List ℕ) (o : Outcome Step (List ℕ)) → k ≡ Passed
-    → Sends s called to c out o → Sends s called to c out (byCheck k s out o)
-by-passed k s called to c out o p h = rw p h
+pub by-passed : (k : Check) (s : Session) (at : ℕ) (called to : Address) (c : Command) (out : List ℕ) (o : Outcome Step (List ℕ)) → k ≡ Passed
+    → Sends s at called to c out o → Sends s at called to c out (byCheck k s out o)
+by-passed k s at called to c out o p h = rw p h
 
 -- a node 1 to n has an individual address
 pub node-fits : (n k : ℕ) → n ≤ 31 → k ≤ n → individualInRange k ≡ true
 node-fits n k p q = lt-ltb k 0x80 (omega arith)
 
 -- a call with number 0: its check was clear, and its packet went out
-pub record Went (k : Check) (s : Session) (called to : Address) (c : Command) (out : List ℕ) (o : Outcome Step (List ℕ)) : Type 0 where
+pub record Went (k : Check) (s : Session) (at : ℕ) (called to : Address) (c : Command) (out : List ℕ) (o : Outcome Step (List ℕ)) : Type 0 where
   pub passed : k ≡ Passed
-  pub result : o ≡ sending s called to c out
+  pub result : o ≡ sending s at called to c out
 
-by-room : (b : Bool) (s : Session) (called to : Address) (c : Command) (out : List ℕ) (o : Outcome Step (List ℕ)) → ltb (length out) (length (packetFor called c)) ≡ b
-    → Sends s called to c out o → stepNumber (o .answer) ≡ done → o ≡ sending s called to c out
-by-room true s called to c out o e h d =
+by-room : (b : Bool) (s : Session) (at : ℕ) (called to : Address) (c : Command) (out : List ℕ) (o : Outcome Step (List ℕ)) → ltb (length out) (length (packetFor called c)) ≡ b
+    → Sends s at called to c out o → stepNumber (o .answer) ≡ done → o ≡ sending s at called to c out
+by-room true s at called to c out o e h d =
     absurd (not-done Room (sym (ap (λ (x : Outcome Step (List ℕ)). stepNumber (x .answer)) (h .none (ltb-true _ _ e))) ∙ d))
-by-room false s called to c out o e h d = h .room (ltb-false _ _ e)
+by-room false s at called to c out o e h d = h .room (ltb-false _ _ e)
 
 -- by the check before it
-pub went : (k : Check) (s : Session) (called to : Address) (c : Command) (out : List ℕ) (o : Outcome Step (List ℕ))
-    → (k ≡ Passed → Sends s called to c out (byCheck k s out o)) → stepNumber (byCheck k s out o .answer) ≡ done → Went k s called to c out (byCheck k s out o)
-went Passed s called to c out o h d =
-    record { passed = refl; result = by-room (ltb (length out) (length (packetFor called c))) s called to c out o refl (h refl) d }
-went (Refuse why) s called to c out o h d = absurd (not-done why d)
+pub went : (k : Check) (s : Session) (at : ℕ) (called to : Address) (c : Command) (out : List ℕ) (o : Outcome Step (List ℕ))
+    → (k ≡ Passed → Sends s at called to c out (byCheck k s out o)) → stepNumber (byCheck k s out o .answer) ≡ done → Went k s at called to c out (byCheck k s out o)
+went Passed s at called to c out o h d =
+    record { passed = refl; result = by-room (ltb (length out) (length (packetFor called c))) s at called to c out o refl (h refl) d }
+went (Refuse why) s at called to c out o h d = absurd (not-done why d)
 
 -- the session then: closed and all in doubt after a Hard Reset, else waiting
-pub opened-reset : (s : Session) (to : Address) (c : Command) → isReset (roleOf c) ≡ true
-    → openExchange s to c ≡ record { started = false; n = s .n; walk = s .walk; exchange = Idle; entries = forgetOf (s .entries) }
+pub opened-reset : (s : Session) (at : ℕ) (to : Address) (c : Command) → isReset (roleOf c) ≡ true
+    → openExchange s at to c ≡ record { started = false; n = s .n; walk = s .walk; exchange = Idle; entries = forgetOf (s .entries) }
 unfolding openExchange
-opened-reset s to c h = rw h
+opened-reset s at to c h = rw h
 
-pub opened-waits : (s : Session) (to : Address) (c : Command) → isReset (roleOf c) ≡ false
-    → openExchange s to c ≡ record { started = s .started; n = s .n; walk = s .walk; exchange = Waiting to c; entries = s .entries }
+pub opened-waits : (s : Session) (at : ℕ) (to : Address) (c : Command) → isReset (roleOf c) ≡ false
+    → openExchange s at to c ≡ record { started = s .started; n = s .n; walk = s .walk; exchange = Waiting at to c; entries = s .entries }
 unfolding openExchange
-opened-waits s to c h = rw h
+opened-waits s at to c h = rw h

@@ -26,10 +26,10 @@ by-built : (s t : Session) (out left : List ℕ) (b : Built) → Spares out (rec
 by-built s t out left (built.Bytes n) h z = absurd (z refl)
 by-built s t out left (built.Refused why) h z = (refl, h z)
 
-pub transmitted-stands : (s : Session) (called to : Address) (c : Command) (out : List ℕ) → Stands s out (transmitOf s called to c out)
+pub transmitted-stands : (s : Session) (at : ℕ) (called to : Address) (c : Command) (out : List ℕ) → Stands s out (transmitOf s at called to c out)
 unfolding transmitOf
-transmitted-stands s called to c out =
-    by-built s (openExchange s to c) out (codecBuild called c out .left) (codecBuild called c out .answer) (command-spares called c out)
+transmitted-stands s at called to c out =
+    by-built s (openExchange s at to c) out (codecBuild called c out .left) (codecBuild called c out .answer) (command-spares called c out)
 
 -- by the check before it
 pub check-stands : (k : Check) (s : Session) (out : List ℕ) (o : Outcome Step (List ℕ)) → Stands s out o → Stands s out (byCheck k s out o)

@@ -24,23 +24,23 @@ use Rattle.sending.specs.declared.Check.{Check}
 use Rattle.sending.specs.declared.Check.the-variants.{Refuse}
 use Rattle.sending.specs.Sending.{openExchange, transmitOf, byCheck}
 
-module _ (s : Session) (to : Address) (c : Command) (role : Role) (of : role ≡ roleOf c) (t : Bool) (by : t ≡ isReset role) where
+module _ (s : Session) (at : ℕ) (to : Address) (c : Command) (role : Role) (of : role ≡ roleOf c) (t : Bool) (by : t ≡ isReset role) where
   pub reset-closes : (es : List Entry) → t ≡ true → es ≡ forgetOf (s .entries)
-      → record { started = false; n = s .n; walk = s .walk; exchange = Idle; entries = es } ≡ openExchange s to c
+      → record { started = false; n = s .n; walk = s .walk; exchange = Idle; entries = es } ≡ openExchange s at to c
   unfolding openExchange
   reset-closes es p q = rw (← of, ← by, p, q)
 
-  pub other-waits : t ≡ false → record { started = s .started; n = s .n; walk = s .walk; exchange = Waiting to c; entries = s .entries } ≡ openExchange s to c
+  pub other-waits : t ≡ false → record { started = s .started; n = s .n; walk = s .walk; exchange = Waiting at to c; entries = s .entries } ≡ openExchange s at to c
   unfolding openExchange
   other-waits p = rw (← of, ← by, p)
 
-module _ (s : Session) (called to : Address) (c : Command) (out o : List ℕ) (b : Built) (by : Lending builtNumber b o (codecBuild called c out)) where
-  pub built-sent : (n : ℕ) (t : Session) → b ≡ built.Bytes n → t ≡ openExchange s to c
-      → Lending stepNumber (record { end = Sent n; session = t }) o (transmitOf s called to c out)
+module _ (s : Session) (at : ℕ) (called to : Address) (c : Command) (out o : List ℕ) (b : Built) (by : Lending builtNumber b o (codecBuild called c out)) where
+  pub built-sent : (n : ℕ) (t : Session) → b ≡ built.Bytes n → t ≡ openExchange s at to c
+      → Lending stepNumber (record { end = Sent n; session = t }) o (transmitOf s at called to c out)
   unfolding transmitOf
   built-sent n t p q = lent (rw (← (by .answer), ← (by .leaves), p, q))
 
-  pub built-not : (why : Refusal) (r : Step) → b ≡ built.Refused why → r ≡ refuseOf s why → Lending stepNumber r o (transmitOf s called to c out)
+  pub built-not : (why : Refusal) (r : Step) → b ≡ built.Refused why → r ≡ refuseOf s why → Lending stepNumber r o (transmitOf s at called to c out)
   unfolding transmitOf
   built-not why r p q = lent (rw (← (by .answer), ← (by .leaves), p, q))
 

@@ -26,8 +26,8 @@ node-zero n to i p q = rw (p, lt-ltb (i .0) 1 q)
 pub node-past : (n : ℕ) (to : Address) (i : Individual) (r : Bool) → to ≡ address.Individual i → 1 ≤ i .0 → r ≡ ltb n (i .0) → r ≡ offChain n to
 node-past n to i r p q h = rw (p, le-ltb (i .0) 1 q) h
 
-pub waiting-strays : (n : ℕ) (x : Exchange) (to : Address) (c : Command) (r : Bool) → x ≡ Waiting to c → r ≡ offChain n to → r ≡ isStray n x
-waiting-strays n x to c r p h = rw p h
+pub waiting-strays : (n : ℕ) (x : Exchange) (at : ℕ) (to : Address) (c : Command) (r : Bool) → x ≡ Waiting at to c → r ≡ offChain n to → r ≡ isStray n x
+waiting-strays n x at to c r p h = rw p h
 
 module _ (s : Session) where
   pub many-invalid : 31 < s .n → false ≡ isValid s

@@ -33,7 +33,7 @@ offChain n (address.Group g) = false
 -- "waiting on a node not 1 to n"
 abbrev pub isStray : ℕ → Exchange → Bool
 isStray n Idle = false
-isStray n (Waiting to c) = offChain n to
+isStray n (Waiting at to c) = offChain n to
 
 -- "One handed in with n above 31, a walk past n, or waiting on a node not 1 to n counts as closed with no exchange open"
 unfoldable pub isValid : Session → Bool

@@ -14,10 +14,14 @@ ghost use mathlib.Core.Path.{_≡_};
 ghost use Rattle.wire.specs.Promise.{Promise};
 ghost use Rattle.session.specs.Session.{endNumber, stepNumber, refuseOf, offChain, isStray, isValid, isClosed, givenPlace, isAskDue, shownNumber, lookOf};
 
-// What waits for an answer: nothing, or a command that was sent to an address. The walk's Set Address has the node that it gives its number.
+// What waits for an answer: nothing, or a command that was sent at a divisor to an address. The walk's Set Address has the node that it gives its number.
 pub enum Exchange {
     Idle,
-    Waiting { to: Address, command: Command },
+    Waiting {
+        at: u8,
+        to: Address,
+        command: Command,
+    },
 }
 
 pub struct Session {
@@ -85,7 +89,11 @@ fn is_stray(n: u8, x: Exchange) -> bool
 {
     match x {
         Exchange::Idle => false,
-        Exchange::Waiting { to, command: _ } => off_chain(n, to),
+        Exchange::Waiting {
+            at: _,
+            to,
+            command: _,
+        } => off_chain(n, to),
     }
 }
 

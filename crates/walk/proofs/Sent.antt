@@ -13,29 +13,29 @@ use Rattle.walk.specs.Walk.{nextCheck, askCheck, nextOf, askOf}
 use Rattle.sending.proofs.Sent.{Sends, transmitted-sends, by-passed, node-fits, Went, went}
 use Rattle.walk.proofs.Passing.{next-says, ask-says}
 
-pub next-sent : (s : Session) (out : List ℕ) → nextCheck s ≡ Passed
-    → Sends s (nodeAt addressUp) (nodeAt (s .walk + 1)) (SetAddress (givenPlace (s .walk + 1))) out (nextOf s out)
+pub next-sent : (s : Session) (at : ℕ) (out : List ℕ) → nextCheck s at ≡ Passed
+    → Sends s at (nodeAt addressUp) (nodeAt (s .walk + 1)) (SetAddress (givenPlace (s .walk + 1))) out (nextOf s at out)
 unfolding nextOf
-next-sent s out h =
-    let t = next-says s h in
+next-sent s at out h =
+    let t = next-says s at h in
     let w = t .walking in
     let f = t .session .valid .few in
-    by-passed (nextCheck s) s _ _ _ out _ h (transmitted-sends s _ _ _ out refl (rw (node-fits (s .n) (s .walk + 1) f (omega arith))))
+    by-passed (nextCheck s at) s at _ _ _ out _ h (transmitted-sends s at _ _ _ out refl (rw (node-fits (s .n) (s .walk + 1) f (omega arith))))
 
-pub ask-sent : (s : Session) (out : List ℕ) → askCheck s ≡ Passed → Sends s (nodeAt (s .walk + 1)) (nodeAt (s .walk + 1)) Nop out (askOf s out)
+pub ask-sent : (s : Session) (at : ℕ) (out : List ℕ) → askCheck s at ≡ Passed → Sends s at (nodeAt (s .walk + 1)) (nodeAt (s .walk + 1)) Nop out (askOf s at out)
 unfolding askOf
-ask-sent s out h =
-    let t = ask-says s h in
+ask-sent s at out h =
+    let t = ask-says s at h in
     let w = t .walking in
     let f = t .session .valid .few in
-    by-passed (askCheck s) s _ _ _ out _ h (transmitted-sends s _ _ _ out (node-fits (s .n) (s .walk + 1) f (omega arith)) refl)
+    by-passed (askCheck s at) s at _ _ _ out _ h (transmitted-sends s at _ _ _ out (node-fits (s .n) (s .walk + 1) f (omega arith)) refl)
 
-module _ (s : Session) (out : List ℕ) where
-  pub next-went : stepNumber (nextOf s out .answer) ≡ done
-      → Went (nextCheck s) s (nodeAt addressUp) (nodeAt (s .walk + 1)) (SetAddress (givenPlace (s .walk + 1))) out (nextOf s out)
+module _ (s : Session) (at : ℕ) (out : List ℕ) where
+  pub next-went : stepNumber (nextOf s at out .answer) ≡ done
+      → Went (nextCheck s at) s at (nodeAt addressUp) (nodeAt (s .walk + 1)) (SetAddress (givenPlace (s .walk + 1))) out (nextOf s at out)
   unfolding nextOf
-  next-went d = went (nextCheck s) s _ _ _ out _ (next-sent s out) d
+  next-went d = went (nextCheck s at) s at _ _ _ out _ (next-sent s at out) d
 
-  pub ask-went : stepNumber (askOf s out .answer) ≡ done → Went (askCheck s) s (nodeAt (s .walk + 1)) (nodeAt (s .walk + 1)) Nop out (askOf s out)
+  pub ask-went : stepNumber (askOf s at out .answer) ≡ done → Went (askCheck s at) s at (nodeAt (s .walk + 1)) (nodeAt (s .walk + 1)) Nop out (askOf s at out)
   unfolding askOf
-  ask-went d = went (askCheck s) s _ _ _ out _ (ask-sent s out) d
+  ask-went d = went (askCheck s at) s at _ _ _ out _ (ask-sent s at out) d

@@ -15,11 +15,11 @@ use Rattle.walk.proofs.Passing.{next-says, ask-says}
 next-node : (s : Session) → s .walk < s .n → offChain (s .n) (nodeAt (s .walk + 1)) ≡ false
 next-node s p = rw (le-ltb (s .walk + 1) 1 (omega arith), le-ltb (s .n) (s .walk + 1) (omega arith))
 
-module _ (s : Session) (out : List ℕ) (h : Valid s) where
-  pub next-valid : Valid (nextOf s out .answer .session)
+module _ (s : Session) (at : ℕ) (out : List ℕ) (h : Valid s) where
+  pub next-valid : Valid (nextOf s at out .answer .session)
   unfolding nextOf
-  next-valid = check-valid (nextCheck s) s out _ h (λ k. transmitted-valid s _ _ _ out h (next-node s (next-says s k .walking)))
+  next-valid = check-valid (nextCheck s at) s out _ h (λ k. transmitted-valid s at _ _ _ out h (next-node s (next-says s at k .walking)))
 
-  pub ask-valid : Valid (askOf s out .answer .session)
+  pub ask-valid : Valid (askOf s at out .answer .session)
   unfolding askOf
-  ask-valid = check-valid (askCheck s) s out _ h (λ k. transmitted-valid s _ _ _ out h (next-node s (ask-says s k .walking)))
+  ask-valid = check-valid (askCheck s at) s out _ h (λ k. transmitted-valid s at _ _ _ out h (next-node s (ask-says s at k .walking)))

@@ -4,7 +4,8 @@
 use command::Command;
 use node::Node;
 use sending::Check;
-use sending::free_check;
+use sending::Tests;
+use sending::test;
 use sending::transmit;
 use session::Session;
 use session::Step;
@@ -18,37 +19,50 @@ ghost use mathlib.Core.Path.{_≡_};
 ghost use Rattle.wire.specs.Promise.{Promise, Lending};
 ghost use Rattle.session.specs.Session.{stepNumber};
 ghost use Rattle.sending.specs.Sending.{checkNumber};
-ghost use Rattle.walk.specs.Walk.{nextCheck, askCheck, nextOf, askOf};
+ghost use Rattle.walk.specs.Walk.{walkTests, nextCheck, askCheck, nextOf, askOf};
+
+// What both calls look for: 18, and whether they are due.
+fn walk_tests(s: Session, at: u8, undue: bool) -> Tests
+    ensures { λ r. ⌜ r ≡ walkTests s at undue ⌝ }
+{
+    let entries = s.entries;
+    Tests {
+        unranged: false,
+        unlisted: ledger::is_off_list(entries, s.n, at),
+        stray: false,
+        lacked: false,
+        undue,
+        led: false,
+        answerable: false,
+    }
+}
 
 // 9 where the walk has ended, or "ask" is due instead.
-fn next_check(s: Session) -> Check
-    ensures { λ r. ⌜ Promise checkNumber r (nextCheck s) ⌝ }
+fn next_check(s: Session, at: u8) -> Check
+    ensures { λ r. ⌜ Promise checkNumber r (nextCheck s at) ⌝ }
 {
-    free_check(s)
-        .refuse_if(s.n <= s.walk, Refusal::NotDue)
-        .refuse_if(is_ask_due(s), Refusal::NotDue)
+    test(s, walk_tests(s, at, (s.n <= s.walk) | is_ask_due(s)))
 }
 
 // 9 where the walk has ended, or nothing is unconfirmed.
-fn ask_check(s: Session) -> Check
-    ensures { λ r. ⌜ Promise checkNumber r (askCheck s) ⌝ }
+fn ask_check(s: Session, at: u8) -> Check
+    ensures { λ r. ⌜ Promise checkNumber r (askCheck s at) ⌝ }
 {
-    free_check(s)
-        .refuse_if(s.n <= s.walk, Refusal::NotDue)
-        .refuse_if(!is_ask_due(s), Refusal::NotDue)
+    test(s, walk_tests(s, at, (s.n <= s.walk) | !is_ask_due(s)))
 }
 
-// Set Address, to the address of power-up, 0x00, with the next address of 1, 2, .. n.
-pub fn next(s: Session, out: &mut [u8]) -> Step
-    ensures { λ r. ⌜ Lending stepNumber r (now (out .exit)) (nextOf s (now (out .entry))) ⌝ }
+// Set Address, at a divisor, to the address of power-up, 0x00, with the next address of 1, 2, .. n.
+pub fn next(s: Session, at: u8, out: &mut [u8]) -> Step
+    ensures { λ r. ⌜ Lending stepNumber r (now (out .exit)) (nextOf s at (now (out .entry))) ⌝ }
 {
-    match next_check(s) {
+    match next_check(s, at) {
         Check::Refuse(why) => refuse(s, why),
         Check::Passed => {
             let k = s.walk + 1;
             let c = Command::SetAddress(given_place(k));
             transmit(
                 s,
+                at,
                 Address::Individual(Individual(Node::ADDRESS)),
                 Address::Individual(Individual(k)),
                 c,
@@ -59,14 +73,14 @@ pub fn next(s: Session, out: &mut [u8]) -> Step
 }
 
 // Where the last Set Address is unconfirmed: a Nop to the address that it gave.
-pub fn ask(s: Session, out: &mut [u8]) -> Step
-    ensures { λ r. ⌜ Lending stepNumber r (now (out .exit)) (askOf s (now (out .entry))) ⌝ }
+pub fn ask(s: Session, at: u8, out: &mut [u8]) -> Step
+    ensures { λ r. ⌜ Lending stepNumber r (now (out .exit)) (askOf s at (now (out .entry))) ⌝ }
 {
-    match ask_check(s) {
+    match ask_check(s, at) {
         Check::Refuse(why) => refuse(s, why),
         Check::Passed => {
             let to = Address::Individual(Individual(s.walk + 1));
-            transmit(s, to, to, Command::Nop, out)
+            transmit(s, at, to, to, Command::Nop, out)
         }
     }
 }

@@ -5,4 +5,4 @@ use Rattle.entry.proofs.blend.Statement.{statement}
 use Rattle.entry.proofs.blend.Tie as tie
 
 pub blend-spec : {M : Type 1} → statement M
-blend-spec = tie.close (tie.spec (λ c κs. search needs) (λ c κs. search needs) (λ c κs. search needs) (λ c κs. search needs) (λ c. search all-blended))
+blend-spec = tie.close (tie.spec (λ c κs. search needs) (λ c κs. search needs) (λ c κs. search needs) (λ c κs. search needs) (λ c κs. search needs) (λ c. search all-blended))

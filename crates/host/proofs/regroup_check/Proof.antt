@@ -1,13 +1,8 @@
--- The tests in their sequence.
+-- Its tests, in the one sequence.
 use borrow.Author.Needs.{needs}
-use Rattle.wire.specs.Promise.{promised}
-use Rattle.host.specs.Calls.{regroupCheck}
+use Rattle.host.proofs.Refusing.{regroup-tested}
 use Rattle.host.proofs.regroup_check.Statement.{statement}
 use Rattle.host.proofs.regroup_check.Tie as tie
-
-in-sequence : tie.Need-returns
-unfolding regroupCheck
-in-sequence c = promised (rw (c .refuse-if4 .ensures .answer, c .before .has-rival .ensures, c .before .before .refuse-if3 .ensures .answer, c .before .before .before .before .refuse-if2 .ensures .answer, c .before .before .before .before .before .off-chain .ensures, c .before .before .before .before .before .before .refuse-if .ensures .answer, c .before .before .before .before .before .before .before .in-range .ensures, c .before .before .before .before .before .before .before .before .free-check .ensures .answer))
 
 pub regroup-check-spec : {M : Type 1} → statement M
 regroup-check-spec =
@@ -18,7 +13,4 @@ regroup-check-spec =
     (λ c κs. search needs)
     (λ c κs. search needs)
     (λ c κs. search needs)
-    (λ c κs. search needs)
-    (λ c κs. search needs)
-    (λ c κs. search needs)
-    in-sequence)
+    (λ c. search regroup-tested))

@@ -14,7 +14,7 @@ ask-spec =
     (λ c. search needs)
     (λ c κs. search needs)
     (λ c. search needs)
-    (λ c. omega (arith, ask-walks _ _ (c .before .before .before .ask-check .ensures .answer) (c .before .enum-told .given .1)))
+    (λ c. omega (arith, ask-walks _ _ _ (c .before .before .before .ask-check .ensures .answer) (c .before .enum-told .given .1)))
     (λ c κs. search needs)
     (λ c. search ask-refused)
     (λ c. search needs)

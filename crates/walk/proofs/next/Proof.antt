@@ -14,7 +14,7 @@ next-spec =
     (λ c. search needs)
     (λ c κs. search needs)
     (λ c. search needs)
-    (λ c. omega (arith, next-walks _ _ (c .before .before .before .next-check .ensures .answer) (c .before .enum-told .given .1)))
+    (λ c. omega (arith, next-walks _ _ _ (c .before .before .before .next-check .ensures .answer) (c .before .enum-told .given .1)))
     (λ c κs. search needs)
     (λ c κs. search needs)
     (λ c. search next-refused)

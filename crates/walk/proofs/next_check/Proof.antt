@@ -1,20 +1,8 @@
--- The tests in their sequence.
+-- Its tests, in the one sequence.
 use borrow.Author.Needs.{needs}
-use Rattle.wire.specs.Promise.{promised}
-use Rattle.walk.specs.Walk.{nextCheck}
+use Rattle.walk.proofs.Walking.{next-tested}
 use Rattle.walk.proofs.next_check.Statement.{statement}
 use Rattle.walk.proofs.next_check.Tie as tie
 
-in-sequence : tie.Need-returns
-unfolding nextCheck
-in-sequence c = promised (rw (c .refuse-if2 .ensures .answer, c .before .is-ask-due .ensures, c .before .before .refuse-if .ensures .answer, c .before .before .before .before .free-check .ensures .answer))
-
 pub next-check-spec : {M : Type 1} → statement M
-next-check-spec =
-    tie.close
-    (tie.spec
-    (λ c κs. search needs)
-    (λ c κs. search needs)
-    (λ c κs. search needs)
-    (λ c κs. search needs)
-    in-sequence)
+next-check-spec = tie.close (tie.spec (λ c κs. search needs) (λ c κs. search needs) (λ c κs. search needs) (λ c. search next-tested))

@@ -25,6 +25,8 @@ mark-spec =
     (λ c. search needs)
     (λ c. search needs)
     (λ c. search needs)
+    (λ c. search needs)
+    (λ c. search told-gate)
     (λ c. search told-gate)
     (λ c. search told-gate)
     (λ c. search told-gate)

@@ -15,7 +15,7 @@ use Rattle.command.specs.declared.Place.{Place}
 use Rattle.command.specs.declared.Command.{Command}
 use Rattle.command.specs.declared.Role.{Role}
 use Rattle.command.specs.Role.{roleOf, isPlacing, isNop}
-use Rattle.command.specs.declared.Command.the-variants.{SetAddress}
+use Rattle.command.specs.declared.Command.the-variants.{SetAddress, SetBaudRate}
 use Rattle.status.specs.Status.{judgeOf}
 use Rattle.status.specs.declared.Answer.{Answer}
 use Rattle.status.specs.declared.Answer.the-variants.{Clear, Marked, Silent}
@@ -27,7 +27,7 @@ use Rattle.session.specs.declared.Session.{Session}
 use Rattle.session.specs.declared.End.the-variants.{Done}
 use Rattle.session.specs.declared.Step.{Step}
 use Rattle.session.specs.Session.{stepNumber, refuseOf, isClosed, isAskDue, givenPlace}
-use Rattle.reports.specs.Report.{isOnWalk, isGiving, isAsking, idleAt, concludeOf, finishBy, finishOf, reportOf}
+use Rattle.reports.specs.Report.{isOnWalk, isGiving, isAsking, idleAt, notedOf, isTelling, toldOf, concludeOf, finishBy, finishOf, reportOf}
 
 module _ (s : Session) (to : Address) where
   pub walks : (i : Individual) (r : Bool) → to ≡ address.Individual i → s .walk < s .n → r ≡ eqb (i .0) (s .walk + 1) → r ≡ isOnWalk s to
@@ -58,28 +58,52 @@ module _ (s : Session) (to : Address) (c : Command) (w : Bool) (by : w ≡ isOnW
   asking-not p = rw (← by, p)
 
 module _ (s : Session) (to : Address) (c : Command) (a : Answer) (r : Session) where
-  pub marked-end : a ≡ Marked → r ≡ idleAt s (s .walk) (s .entries) → r ≡ concludeOf s to c a
-  unfolding concludeOf
+  pub marked-end : a ≡ Marked → r ≡ idleAt s (s .walk) (s .entries) → r ≡ notedOf s to c a
+  unfolding notedOf
   marked-end p h = rw p h
 
-  pub silent-end : (es : List Entry) → a ≡ Silent → es ≡ settleOf Silent to c (s .n) (s .entries) → r ≡ idleAt s (s .walk) es → r ≡ concludeOf s to c a
-  unfolding concludeOf
+  pub silent-end : (es : List Entry) → a ≡ Silent → es ≡ settleOf Silent to c (s .n) (s .entries) → r ≡ idleAt s (s .walk) es → r ≡ notedOf s to c a
+  unfolding notedOf
   silent-end es p q h = rw (p, ← q) h
 
   pub given-end : (es : List Entry) (g : Bool) → a ≡ Clear → g ≡ isGiving s to c → g ≡ true
-      → es ≡ settleOf Clear to c (s .n) (s .entries) → r ≡ idleAt s (s .walk + 1) es → r ≡ concludeOf s to c a
-  unfolding concludeOf
+      → es ≡ settleOf Clear to c (s .n) (s .entries) → r ≡ idleAt s (s .walk + 1) es → r ≡ notedOf s to c a
+  unfolding notedOf
   given-end es g p q y f h = rw (p, ← q, y, ← f) h
 
   pub asked-end : (es : List Entry) (g k : Bool) (x : Place) → a ≡ Clear → g ≡ isGiving s to c → g ≡ false → k ≡ isAsking s to c → k ≡ true
-      → x ≡ givenPlace (s .walk + 1) → es ≡ settleOf Clear to (SetAddress x) (s .n) (s .entries) → r ≡ idleAt s (s .walk + 1) es → r ≡ concludeOf s to c a
-  unfolding concludeOf
+      → x ≡ givenPlace (s .walk + 1) → es ≡ settleOf Clear to (SetAddress x) (s .n) (s .entries) → r ≡ idleAt s (s .walk + 1) es → r ≡ notedOf s to c a
+  unfolding notedOf
   asked-end es g k x p q y t z e f h = rw (p, ← q, y, ← t, z, ← e, ← f) h
 
   pub other-end : (es : List Entry) (g k : Bool) → a ≡ Clear → g ≡ isGiving s to c → g ≡ false → k ≡ isAsking s to c → k ≡ false
-      → es ≡ settleOf Clear to c (s .n) (s .entries) → r ≡ idleAt s (s .walk) es → r ≡ concludeOf s to c a
-  unfolding concludeOf
+      → es ≡ settleOf Clear to c (s .n) (s .entries) → r ≡ idleAt s (s .walk) es → r ≡ notedOf s to c a
+  unfolding notedOf
   other-end es g k p q y t z f h = rw (p, ← q, y, ← t, z, ← f) h
+
+pub told-by : (s : Session) (at : ℕ) (to : Address) (es : List Entry) (r : Session) → es ≡ settleOf Clear to (SetBaudRate at) (s .n) (s .entries) → r ≡ idleAt s (s .walk) es
+    → r ≡ toldOf s at to
+told-by s at to es r e h = h ∙ ap (λ (x : List Entry). idleAt s (s .walk) x) e
+
+pub telling-by : (to : Address) (i : Individual) (c : Command) (role : Role) (b : Bool) → to ≡ address.Individual i → role ≡ roleOf c → b ≡ isNop role → b ≡ isTelling to c
+telling-by to i c role b p of h = rw (p, ← of) h
+
+module _ (s : Session) (at : ℕ) (to : Address) (c : Command) (a : Answer) (n : Session) (b : Bool) (en : n ≡ notedOf s to c a) (by : b ≡ isTelling to c) where
+  pub told-end : (r : Session) → b ≡ true → a ≡ Clear → r ≡ toldOf n at to → r ≡ concludeOf s at to c a
+  unfolding concludeOf
+  told-end r p q h = rw (← by, p, q) (h ∙ ap (λ (t : Session). toldOf t at to) (en ∙ ap (λ (x : Answer). notedOf s to c x) q))
+
+  pub marked-told : b ≡ true → a ≡ Marked → n ≡ concludeOf s at to c a
+  unfolding concludeOf
+  marked-told p q = rw (← by, p, q) (en ∙ ap (λ (x : Answer). notedOf s to c x) q)
+
+  pub silent-told : b ≡ true → a ≡ Silent → n ≡ concludeOf s at to c a
+  unfolding concludeOf
+  silent-told p q = rw (← by, p, q) (en ∙ ap (λ (x : Answer). notedOf s to c x) q)
+
+  pub untold-end : b ≡ false → n ≡ concludeOf s at to c a
+  unfolding concludeOf
+  untold-end p = rw (← by, p) en
 
 module _ (s : Session) (a : Answer) (v : Bool) (by : v ≡ isClosed s) where
   pub closed-reports : (r : Step) → v ≡ true → r ≡ refuseOf s refusal.Idle → Promise stepNumber r (finishOf s a)
@@ -90,10 +114,10 @@ module _ (s : Session) (a : Answer) (v : Bool) (by : v ≡ isClosed s) where
   unfolding finishOf
   idle-reports r p q h = promised (rw (← by, p) (h ∙ sym (ap (λ (x : Exchange). finishBy x s a) q)))
 
-  pub waiting-reports : (t : Session) (to : Address) (c : Command) → v ≡ false → s .exchange ≡ Waiting to c → t ≡ concludeOf s to c a
+  pub waiting-reports : (t : Session) (at : ℕ) (to : Address) (c : Command) → v ≡ false → s .exchange ≡ Waiting at to c → t ≡ concludeOf s at to c a
       → Promise stepNumber (record { end = Done; session = t }) (finishOf s a)
   unfolding finishOf
-  waiting-reports t to c p q h =
+  waiting-reports t at to c p q h =
       promised (rw (← by, p) (ap (λ (x : Session). record { end = Done; session = x }) h ∙ sym (ap (λ (x : Exchange). finishBy x s a) q)))
 
 pub report-by-answer : (s : Session) (bytes : List ℕ) (a : Answer) (r : Step) → a ≡ judgeOf bytes → Promise stepNumber r (finishOf s a) → Promise stepNumber r (reportOf s bytes)

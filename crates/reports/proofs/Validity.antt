@@ -8,7 +8,7 @@ use lib.ListN.{length}
 use Rattle.wire.specs.declared.address.Address.{Address}
 use Rattle.wire.specs.declared.refusal.Refusal.the-variants as refusal
 use Rattle.command.specs.declared.Command.{Command}
-use Rattle.command.specs.declared.Command.the-variants.{SetAddress}
+use Rattle.command.specs.declared.Command.the-variants.{SetAddress, SetBaudRate}
 use Rattle.status.specs.Status.{judgeOf}
 use Rattle.status.specs.declared.Answer.{Answer}
 use Rattle.status.specs.declared.Answer.the-variants.{Clear, Marked, Silent}
@@ -19,12 +19,12 @@ use Rattle.session.specs.declared.Exchange.the-variants.{Idle, Waiting}
 use Rattle.session.specs.declared.Session.{Session}
 use Rattle.session.specs.Session.{Valid, isClosed, givenPlace}
 use Rattle.session.proofs.Sessions.{valid-says, valid-from, either, Stays, by-test}
-use Rattle.reports.specs.Report.{isGiving, isAsking, idleAt, concludeOf, finishBy, finishOf, reportOf}
+use Rattle.reports.specs.Report.{isGiving, isAsking, idleAt, notedOf, isTelling, toldBy, concludeOf, finishBy, finishOf, reportOf}
 use Rattle.reports.proofs.Closing.{giving-walks, asking-walks}
 
 stays-by : (x : Exchange) (s : Session) (a : Answer) → Stays s (finishBy x s a)
 stays-by Idle s a z = refl
-stays-by (Waiting to c) s a z = absurd (z refl)
+stays-by (Waiting at to c) s a z = absurd (z refl)
 
 pub finished-stays : (s : Session) (a : Answer) → Stays s (finishOf s a)
 unfolding finishOf
@@ -42,11 +42,11 @@ either-session : (b : Bool) (x y : Session) → (b ≡ true → Valid x) → (b 
 either-session true x y p q = p refl
 either-session false x y p q = q refl
 
-pub concluded-valid : (s : Session) (to : Address) (c : Command) (a : Answer) → Valid s → Valid (concludeOf s to c a)
-unfolding concludeOf
-concluded-valid s to c Marked h = idle-valid s (s .walk) (s .entries) h (valid-says s (h .valid) .walked) refl
-concluded-valid s to c Silent h = idle-valid s (s .walk) _ h (valid-says s (h .valid) .walked) (length-settled Silent to c (s .n) (s .entries))
-concluded-valid s to c Clear h =
+noted-valid : (s : Session) (to : Address) (c : Command) (a : Answer) → Valid s → Valid (notedOf s to c a)
+unfolding notedOf
+noted-valid s to c Marked h = idle-valid s (s .walk) (s .entries) h (valid-says s (h .valid) .walked) refl
+noted-valid s to c Silent h = idle-valid s (s .walk) _ h (valid-says s (h .valid) .walked) (length-settled Silent to c (s .n) (s .entries))
+noted-valid s to c Clear h =
     either-session (isGiving s to c) _ _
     (λ e. let w = giving-walks (isGiving s to c) s to c refl e in idle-valid s (s .walk + 1) _ h (omega arith) (length-settled Clear to c (s .n) (s .entries)))
     (λ e. either-session (isAsking s to c) _ _
@@ -54,9 +54,20 @@ concluded-valid s to c Clear h =
     idle-valid s (s .walk + 1) _ h (omega arith) (length-settled Clear to (SetAddress (givenPlace (s .walk + 1))) (s .n) (s .entries)))
     (λ f. idle-valid s (s .walk) _ h (valid-says s (h .valid) .walked) (length-settled Clear to c (s .n) (s .entries))))
 
+told-valid : (s : Session) (at : ℕ) (to : Address) (a : Answer) → Valid s → Valid (toldBy a s at to)
+told-valid s at to Marked h = h
+told-valid s at to Silent h = h
+told-valid s at to Clear h = idle-valid s (s .walk) _ h (valid-says s (h .valid) .walked) (length-settled Clear to (SetBaudRate at) (s .n) (s .entries))
+
+pub concluded-valid : (s : Session) (at : ℕ) (to : Address) (c : Command) (a : Answer) → Valid s → Valid (concludeOf s at to c a)
+unfolding concludeOf
+concluded-valid s at to c a h =
+    let n = noted-valid s to c a h in
+    either-session (isTelling to c) _ _ (λ e. told-valid (notedOf s to c a) at to a n) (λ e. n)
+
 by-exchange : (x : Exchange) (s : Session) (a : Answer) → Valid s → Valid (finishBy x s a .session)
 by-exchange Idle s a h = h
-by-exchange (Waiting to c) s a h = concluded-valid s to c a h
+by-exchange (Waiting at to c) s a h = concluded-valid s at to c a h
 
 pub finished-valid : (s : Session) (a : Answer) → Valid s → Valid (finishOf s a .session)
 unfolding finishOf

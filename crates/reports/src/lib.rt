@@ -19,7 +19,7 @@ ghost use mathlib.Core.Path.{_≡_};
 ghost use Rattle.wire.specs.Promise.{Promise};
 ghost use Rattle.session.specs.Session.{stepNumber};
 ghost use Rattle.status.specs.declared.Answer.the-variants.{Silent};
-ghost use Rattle.reports.specs.Report.{isOnWalk, isGiving, isAsking, idleAt, concludeOf, finishOf, silenceOf, reportOf};
+ghost use Rattle.reports.specs.Report.{isOnWalk, isGiving, isAsking, idleAt, notedOf, isTelling, toldOf, concludeOf, finishOf, silenceOf, reportOf};
 
 // Whether an exchange is about the node to which the walk gives its next address.
 fn is_on_walk(s: Session, to: Address) -> bool
@@ -72,9 +72,9 @@ fn idle_at(s: Session, walk: u8, entries: [Entry; MOST_NODES]) -> Session
     }
 }
 
-// The session once its exchange, a command to an address, is answered.
-fn conclude(s: Session, to: Address, c: Command, answer: Answer) -> Session
-    ensures { λ r. ⌜ r ≡ concludeOf s to c answer ⌝ }
+// The session with the answer noted to its exchange, a command to an address.
+fn noted(s: Session, to: Address, c: Command, answer: Answer) -> Session
+    ensures { λ r. ⌜ r ≡ notedOf s to c answer ⌝ }
 {
     let entries = s.entries;
     match answer {
@@ -99,6 +99,40 @@ fn conclude(s: Session, to: Address, c: Command, answer: Answer) -> Session
     }
 }
 
+// A Nop to a node: its good clear reply tells that the node hears at the divisor that it was sent at.
+fn is_telling(to: Address, c: Command) -> bool
+    ensures { λ r. ⌜ r ≡ isTelling to c ⌝ }
+{
+    match to {
+        Address::Individual(_) => c.role().is_nop(),
+        Address::Group(_) => false,
+    }
+}
+
+// The session with that divisor known of the node: as a Set Baud Rate of it, confirmed.
+fn told(s: Session, at: u8, to: Address) -> Session
+    ensures { λ r. ⌜ r ≡ toldOf s at to ⌝ }
+{
+    let entries = s.entries;
+    let heard = ledger::settle(entries, s.n, to, Command::SetBaudRate(at), Answer::Clear);
+    idle_at(s, s.walk, heard)
+}
+
+// The session once its exchange, a command sent at a divisor to an address, is answered.
+fn conclude(s: Session, at: u8, to: Address, c: Command, answer: Answer) -> Session
+    ensures { λ r. ⌜ r ≡ concludeOf s at to c answer ⌝ }
+{
+    let after = noted(s, to, c, answer);
+    if is_telling(to, c) {
+        return match answer {
+            Answer::Clear => told(after, at, to),
+            Answer::Marked => after,
+            Answer::Silent => after,
+        };
+    }
+    after
+}
+
 // The end of the open exchange; 8 where there is none. A closed session has none.
 fn finish(s: Session, answer: Answer) -> Step
     ensures { λ r. ⌜ Promise stepNumber r (finishOf s answer) ⌝ }
@@ -109,9 +143,9 @@ fn finish(s: Session, answer: Answer) -> Step
     let x = s.exchange;
     match x {
         Exchange::Idle => refuse(s, Refusal::Idle),
-        Exchange::Waiting { to, command } => Step {
+        Exchange::Waiting { at, to, command } => Step {
             end: End::Done,
-            session: conclude(s, to, command, answer),
+            session: conclude(s, at, to, command, answer),
         },
     }
 }

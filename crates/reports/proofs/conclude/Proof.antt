@@ -1,8 +1,6 @@
--- One law for each exit.
+-- Noted, and then what a Nop tells.
 use borrow.Author.Needs.{needs}
-use native.Mathlib.Omega.{arith}
-use Rattle.reports.proofs.Closing.{marked-end, silent-end, given-end, asked-end, other-end}
-use Rattle.reports.proofs.Closing.{giving-walks, asking-walks}
+use Rattle.reports.proofs.Closing.{told-end, marked-told, silent-told, untold-end}
 use Rattle.reports.proofs.conclude.Statement.{statement}
 use Rattle.reports.proofs.conclude.Tie as tie
 
@@ -10,26 +8,13 @@ pub conclude-spec : {M : Type 1} → statement M
 conclude-spec =
     tie.close
     (tie.spec
-    (λ c. search needs)
-    (λ c κs. search needs)
-    (λ c. search needs)
     (λ c κs. search needs)
     (λ c κs. search needs)
     (λ c. search needs)
     (λ c κs. search needs)
-    (λ c κs. search needs)
-    (λ c. omega (arith, giving-walks _ _ _ _ (c .before .before .before .is-giving .ensures) (c .before .before .if1 .taken)))
-    (λ c κs. search needs)
-    (λ c. search given-end)
-    (λ c κs. search needs)
-    (λ c. omega (arith, asking-walks _ _ _ _ (c .before .before .is-asking .ensures) (c .before .if2 .taken)))
-    (λ c κs. search needs)
-    (λ c κs. search needs)
-    (λ c. omega (arith, asking-walks _ _ _ _ (c .before .before .before .before .before .is-asking .ensures) (c .before .before .before .before .if2 .taken)))
-    (λ c κs. search needs)
-    (λ c. search asked-end)
-    (λ c κs. search needs)
-    (λ c κs. search needs)
-    (λ c. search marked-end)
-    (λ c. search silent-end)
-    (λ c. search other-end))
+    (λ c. search needs)
+    (λ c. search needs)
+    (λ c. search told-end)
+    (λ c. search marked-told)
+    (λ c. search silent-told)
+    (λ c. search untold-end))

@@ -104,7 +104,7 @@ known-command e = cc
 one-address : {x y : Kind} {p : List ℕ} {a b : Address} {c d : Command} {n m : ℕ} → ReadsAs x p a c n → ReadsAs y p b d m → a ≡ b
 one-address r q = whole-parts (sym (r .whole) ∙ q .whole) .0
 
-one-command : {x : Kind} {p : List ℕ} {a b : Address} {c d : Command} {n m : ℕ} → ReadsAs x p a c n → ReadsAs x p b d m → c ≡ d
+pub one-command : {x : Kind} {p : List ℕ} {a b : Address} {c d : Command} {n m : ℕ} → ReadsAs x p a c n → ReadsAs x p b d m → c ≡ d
 one-command {x} {p} r q =
     known-command (sym (r .known) ∙ ap (λ (k : ℕ). codecRead x k (dataPart p)) (whole-parts (sym (r .whole) ∙ q .whole) .1) ∙ q .known)
 

@@ -50,7 +50,7 @@ again-by : (b : Bool) (s : Session) (a : Answer) (x : Exchange) → isClosed s �
 unfolding finishOf
 again-by true s a x e f = rw e
 again-by false s a Idle e f = idle-finishes s Silent f
-again-by false s a (Waiting to c) e f = idle-finishes (concludeOf s to c a) Silent (concluded-idle s to c a)
+again-by false s a (Waiting at to c) e f = idle-finishes (concludeOf s at to c a) Silent (concluded-idle s at to c a)
 
 pub finished-quiet : (s : Session) (a : Answer) → quietOf (finishOf s a .session) ≡ finishOf s a .session
 unfolding quietOf finishOf

@@ -31,18 +31,18 @@ both-full (x ∷ xs) ys f g = (f .0, both-full xs ys (f .1) g)
 sent-count : {n m : ℕ} → Sent n ≡ Sent m → n ≡ m
 sent-count e = cc
 
-packet-full : (k : Call) (s : Session) (out : List ℕ) (n : ℕ) → callPerform k s out .answer .end ≡ Sent n → 1 ≤ length (take n (callPerform k s out .left))
-packet-full k s out n e =
-    let w = call-went k s out (ap endNumber e) in
+packet-full : (k : Call) (s : Session) (at : ℕ) (out : List ℕ) (n : ℕ) → callPerform k s at out .answer .end ≡ Sent n → 1 ≤ length (take n (callPerform k s at out .left))
+packet-full k s at out n e =
+    let w = call-went k s at out (ap endNumber e) in
     let p = packetFor (w .called) (w .command) in
     let m : length p ≡ n = sent-count (sym (ap (λ (o : Outcome Step (List ℕ)). o .answer .end) (w .result)) ∙ e) in
-    let q : take n (callPerform k s out .left) ≡ p = ap (λ (o : Outcome Step (List ℕ)). take n (o .left)) (w .result) ∙ take-at p (drop (length p) out) n m in
+    let q : take n (callPerform k s at out .left) ≡ p = ap (λ (o : Outcome Step (List ℕ)). take n (o .left)) (w .result) ∙ take-at p (drop (length p) out) n m in
     rw q (omega arith)
 
-call-full : (k : Call) (s : Session) (out : List ℕ) (e : End) → callPerform k s out .answer .end ≡ e → NoneEmpty (callTrace e (callPerform k s out .left))
-call-full k s out (Sent n) e = (packet-full k s out n e, tt)
-call-full k s out Done e = tt
-call-full k s out (Refused why) e = tt
+call-full : (k : Call) (s : Session) (at : ℕ) (out : List ℕ) (e : End) → callPerform k s at out .answer .end ≡ e → NoneEmpty (callTrace e (callPerform k s at out .left))
+call-full k s at out (Sent n) e = (packet-full k s at out n e, tt)
+call-full k s at out Done e = tt
+call-full k s at out (Refused why) e = tt
 
 reply-full : (r : Option (List ℕ)) → NoneEmpty (replyTrace r)
 reply-full none = tt
@@ -53,11 +53,11 @@ trace-full : {w : World} (c : Comes w) → NoneEmpty (trace c)
 trace-full (start ns) = tt
 trace-full (power c ds ks t e) = tt
 trace-full (unpowered c n ks why e) = trace-full c
-trace-full (call {w = w} c k typed out) = both-full (trace c) _ (trace-full c) (call-full k (w .host) out (callPerform k (w .host) out .answer .end) refl)
-trace-full (deliver c what p e q r a b) = both-full (trace c) (replyTrace r) (trace-full c) (reply-full r)
-trace-full (report c what r e) = trace-full c
-trace-full (hurry c what p e r n) = trace-full c
-trace-full (delay c p e q a) = trace-full c
+trace-full (call {w = w} c k typed at out) = both-full (trace c) _ (trace-full c) (call-full k (w .host) at out (callPerform k (w .host) at out .answer .end) refl)
+trace-full (deliver c what at p e q r a b) = both-full (trace c) (replyTrace r) (trace-full c) (reply-full r)
+trace-full (report c what at r e) = trace-full c
+trace-full (hurry c what at p e r n) = trace-full c
+trace-full (delay c what at p e q a) = trace-full c
 trace-full (stray c r why e) = trace-full c
 trace-full (bench c i b p) = trace-full c
 

@@ -17,6 +17,7 @@ pub mod chain;
 pub mod command;
 pub mod coverage;
 pub mod demand3;
+pub mod divisor;
 pub mod drive;
 pub mod edges;
 pub mod export;

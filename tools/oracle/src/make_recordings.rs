@@ -4,7 +4,7 @@
 use crate::command::COMMAND_BYTES;
 use crate::demand3::{self, Heard, Story};
 use crate::kind::{gates, Kind};
-use crate::make_packets::{damage, drive_command, group, misshape, off_range_command};
+use crate::make_packets::{damage, divisor, drive_command, group, misshape, off_range_command};
 use crate::packet::{whole, OVERHEAD};
 use crate::prng::Prng;
 use crate::recording::{Capture, Line, Recording, GAP};
@@ -155,7 +155,13 @@ fn foreign(prng: &mut Prng, nodes: u8, heard: &[Heard]) -> Heard {
         true => whole(0x00, 0x1, &[1, 0xFF]),
         false => own[prng.below(own.len())].clone(),
     };
-    Heard::Command(match prng.below(14) {
+    Heard::Command(match prng.below(17) {
+        14..=16 => {
+            let to = prng.pick(&[node, 0xFF, 0xFF, 0x80, 0x90]);
+            let count = prng.pick(&[1, 1, 1, 1, 0, 2]);
+            let data: Vec<u8> = (0..count).map(|_| divisor(prng)).collect();
+            whole(to, 0xA, &data)
+        }
         0 | 12 => damage(prng, again),
         1 => some(prng, again),
         2 => whole(0x00, 0x1, &[node, 0xFF]),

@@ -73,25 +73,25 @@ fn trials_reads_64_kib() {
 
 #[test]
 fn a_shown_session_can_be_handed_in() {
-    let lines = ["30 02 00 00", "31 06", "36", "37"];
+    let lines = ["30 02 00 00", "31 06 3F", "36", "37"];
     let shown = last_answer(&lines);
     let hand_in = format!("38{}", &shown[2..]);
     assert_eq!(last_answer(&[hand_in.as_str(), "37"]), shown);
-    let unknown_bit = format!("{}7F", &hand_in[..hand_in.len() - 2]);
+    let unknown_bit = format!("{}FF", &hand_in[..hand_in.len() - 2]);
     assert_eq!(last_answer(&[unknown_bit.as_str()]), "FF");
 }
 
 #[test]
 fn no_nodes_and_open_counts_as_ready() {
-    let entries = " 00 00 FF 00 00 00 00 00 00 00 00 00 00 00 3F".repeat(31);
+    let entries = " 00 3F 00 FF 00 00 00 00 00 00 00 00 00 00 00 7F".repeat(31);
     let hand_in = format!("38 01 00 00 00{entries}");
     for (line, answer) in [
-        ("31 00", "09"),
-        ("32 00", "09"),
-        ("33 04 01 80 00 0E", "00 AA 80 0E 8E"),
-        ("33 00 00 01 00 0E", "0A"),
-        ("34 00 01 7F 01", "06"),
-        ("34 00 01 80 01", "0A"),
+        ("31 00 3F", "09"),
+        ("32 00 3F", "09"),
+        ("33 04 3F 01 80 00 0E", "00 AA 80 0E 8E"),
+        ("33 00 3F 00 01 00 0E", "0A"),
+        ("34 00 3F 01 7F 01", "06"),
+        ("34 00 3F 01 80 01", "0A"),
         ("36", "08"),
     ] {
         assert_eq!(last_answer(&[hand_in.as_str(), line]), answer, "{line}");

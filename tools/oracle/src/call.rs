@@ -31,9 +31,7 @@ impl Call {
                 group,
                 leader,
             } => host.regroup(at, node, group, leader, buffer),
-            Call::SetBaudRate { group, divisor } => {
-                host.set_baud_rate(at, group, divisor, buffer)
-            }
+            Call::SetBaudRate { group, divisor } => host.set_baud_rate(at, group, divisor, buffer),
         }
     }
 }

@@ -1,5 +1,6 @@
 //! Hand-written cases for the program `carousels`, which answers the lines that
-//! `trials` does: those of drives, alone and beside gates (request 6).
+//! `trials` does: those of drives, alone and beside gates (request 6). Sessions that
+//! are handed in are among those of `cases_divisors`.
 
 pub mod chain;
 pub mod host;
@@ -15,7 +16,6 @@ pub fn cases() -> Vec<Case> {
     cases.push(Case::new("drives: status packets", status_packets()));
     cases.extend(chain::cases());
     cases.extend(host::cases());
-    cases.extend(host::handed_in_cases());
     cases.extend(recordings::cases());
     cases.push(Case::new("drives: lines of the wrong form", wrong_forms()));
     cases

@@ -1,5 +1,6 @@
 //! Hand-written cases for the `trials` program, of gates. Those of drives are in
-//! `cases_carousels`.
+//! `cases_carousels`; sessions handed in, in which something waits, are among those of
+//! `cases_divisors`.
 
 pub mod chain;
 pub mod host;

@@ -227,14 +227,17 @@ impl World {
         let length = match sent {
             Ok(length) => length,
             Err(refusal) => {
-                self.story.push(format!("{call} at {at:02X}: {}", refusal.number()));
+                self.story
+                    .push(format!("{call} at {at:02X}: {}", refusal.number()));
                 self.counts.refused += 1;
                 return self.unchanged(&before);
             }
         };
         self.counts.sent += 1;
-        self.story
-            .push(format!("{call} at {at:02X}: {}", hex::format(&buffer[..length])));
+        self.story.push(format!(
+            "{call} at {at:02X}: {}",
+            hex::format(&buffer[..length])
+        ));
         self.heard.push(Heard::Command(buffer[..length].to_vec()));
         let mut paces = false;
         if let Exchange::Waiting {
@@ -310,7 +313,11 @@ impl World {
             };
             let at = self.divisor_of(target);
             let name = format!("Nop to {target:?}");
-            return (name, at, self.host.command(at, target, Command::Nop, buffer));
+            return (
+                name,
+                at,
+                self.host.command(at, target, Command::Nop, buffer),
+            );
         }
         if let (Some(node), true) = (self.hindering_node(), self.prng.percent(75)) {
             let group = self.group_for(self.chain[usize::from(node - 1)].kind());
@@ -328,9 +335,9 @@ impl World {
     /// A node whose place is in doubt, or that leads.
     fn hindering_node(&mut self) -> Option<u8> {
         let entries = &self.host.entries[..self.chain.len()];
-        let nodes = (1..).zip(entries).filter(|(_, entry)| {
-            !entry.knows(Setting::Place) || entry.settings.place.leader
-        });
+        let nodes = (1..)
+            .zip(entries)
+            .filter(|(_, entry)| !entry.knows(Setting::Place) || entry.settings.place.leader);
         let nodes: Vec<u8> = nodes.map(|(node, _)| node).collect();
         (!nodes.is_empty()).then(|| self.prng.pick(&nodes))
     }

@@ -10,6 +10,7 @@ pub mod case;
 pub mod cases;
 pub mod cases_bench;
 pub mod cases_carousels;
+pub mod cases_divisors;
 pub mod cases_replay;
 pub mod cases_sheets;
 pub mod cases_trials;

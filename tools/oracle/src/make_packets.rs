@@ -203,7 +203,7 @@ pub fn group(prng: &mut Prng) -> u8 {
 // ---- Drives -------------------------------------------------------------
 
 /// One of a drive's own commands: mostly acted on, else a value is off its range,
-/// or a count or a byte isn't as it must be.
+/// or a count or a byte isn't as it must be; or a mask with bit 7 set.
 fn drive_packet(prng: &mut Prng, nodes: &[Node]) -> Vec<u8> {
     let to = drive_address(prng, nodes);
     match prng.below(100) {
@@ -213,6 +213,7 @@ fn drive_packet(prng: &mut Prng, nodes: &[Node]) -> Vec<u8> {
             data[9] = prng.between(1, 0xFF);
             return whole(to, 0x6, &data);
         }
+        12..=16 => return whole(to, 0x2, &[prng.telling_byte() | 0x80]), // no reserved bit
         _ => {}
     }
     let command = match prng.percent(25) {

@@ -90,10 +90,10 @@ impl Story {
             return self.export_of(&list);
         }
         match self.prng.below(100) {
-            0..=4 => self.build_line(),
-            5..=10 => self.read_line(),
-            11..=14 => self.status_line(),
-            15..=21 => self.delivery_line(),
+            0..=3 => self.build_line(),
+            4..=8 => self.read_line(),
+            9..=12 => self.status_line(),
+            13..=21 => self.delivery_line(),
             22 => vec![self.prng.pick(&UNKNOWN_KINDS), self.prng.byte()],
             23..=27 => self.sheet_line(),
             28..=29 => self.recording_line(),
@@ -175,14 +175,14 @@ impl Story {
 impl Story {
     fn delivery_line(&mut self) -> Vec<u8> {
         let nodes = self.table();
-        let mut packet = match self.prng.percent(20) {
+        let mut packet = match self.prng.percent(14) {
             true => pace_packet(&mut self.prng, &nodes),
             false => make_packets::packet(&mut self.prng, &nodes),
         };
         if self.prng.percent(10) {
             packet = followed(&mut self.prng, packet);
         }
-        let at = match self.prng.percent(85) && !nodes.is_empty() {
+        let at = match self.prng.percent(90) && !nodes.is_empty() {
             true => nodes[self.prng.below(nodes.len())].settings.divisor,
             false => divisor(&mut self.prng),
         };
@@ -207,7 +207,7 @@ impl Story {
         kinds.resize(usize::from(length), Kind::Gate);
         let mut nodes: Vec<Node> = kinds.into_iter().map(|kind| self.node(kind)).collect();
         let common = divisor(&mut self.prng);
-        let alike = self.prng.pick(&[60, 100]);
+        let alike = self.prng.pick(&[70, 100, 100]);
         for node in &mut nodes {
             if self.prng.percent(alike) {
                 node.settings.divisor = common;

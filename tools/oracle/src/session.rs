@@ -301,12 +301,7 @@ impl Session {
 
     /// 18, "right after 6": any other divisor than those listed for the chain, to be
     /// sent at or to be set. A mistaken host that looks for it later passes here.
-    fn require_divisors(
-        &self,
-        at: u8,
-        set: Option<u8>,
-        later: &[Mistake],
-    ) -> Result<(), Refusal> {
+    fn require_divisors(&self, at: u8, set: Option<u8>, later: &[Mistake]) -> Result<(), Refusal> {
         let passed = later.iter().any(|place| self.rules.slips(*place));
         require(passed || self.lists_all(at, set), Refusal::Divisor)
     }

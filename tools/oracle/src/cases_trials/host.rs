@@ -275,8 +275,8 @@ pub fn handed(name: &str, session: &Session, lines: &str) -> Case {
     Case::new(name, [vec![hand_in(session)], story(lines)].concat())
 }
 
+/// Sessions that count as closed, or have no nodes.
 pub fn handed_in_cases() -> Vec<Case> {
-    let set_address = Command::SetAddress(Place::from_data(0x05, 0x03));
     let probes = "37; 31 06 3F; 32 04 3F; 33 04 3F 01 80 00 0E; 35 00 00; 36; 37";
     let mut closed = session(2, 2, waits(Target::Node(1), Command::SetOutputs(7)));
     closed.open = false;
@@ -302,6 +302,13 @@ pub fn handed_in_cases() -> Vec<Case> {
             &session(2, 2, waits(Target::Node(3), Command::SetOutputs(7))),
             "31 06 3F; 35 00 00; 34 06 3F 01 80 00; 37; 30 02 00 00; 37",
         ),
+    ]
+}
+
+/// Sessions in which something waits: `divisors` has them.
+pub fn handed_in_waiting_cases() -> Vec<Case> {
+    let set_address = Command::SetAddress(Place::from_data(0x05, 0x03));
+    vec![
         handed(
             "handed in: another Set Address in the walk",
             &session(3, 1, waits(Target::Node(2), set_address)),

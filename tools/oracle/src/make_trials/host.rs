@@ -5,8 +5,8 @@ use crate::command::{Command, COMMAND_BYTES, SET_BAUD_RATE};
 use crate::divisor::POWER_UP;
 use crate::kind::Kind;
 use crate::layout;
-use crate::make_packets::{any_command, divisor, drive_command, group, kinds};
 use crate::make_packets::off_range_command;
+use crate::make_packets::{any_command, divisor, drive_command, group, kinds};
 use crate::record::{all_known, Entry};
 use crate::rules::Rules;
 use crate::session::{Exchange, Session, MOST_NODES};
@@ -88,7 +88,7 @@ impl Story {
 
     /// Any call at all, whether it makes sense or not.
     fn any_call(&mut self) -> Vec<u8> {
-        match self.prng.below(9) {
+        match self.prng.below(10) {
             0 => self.power_up(),
             1 => self.walk_call(0x31),
             2 => self.walk_call(0x32),
@@ -105,7 +105,10 @@ impl Story {
     fn far_fetched_call(&mut self) -> Vec<u8> {
         let far = self.prng.pick(&[0, 32, 40, 0x7F, 0xFF]);
         let low = self.prng.between(0x00, 0x7F);
-        let at = self.divisor();
+        let at = match self.prng.percent(80) {
+            true => POWER_UP,
+            false => self.divisor(),
+        };
         match self.prng.below(7) {
             6 => vec![0x39, self.room(5), at, low, divisor(&mut self.prng)],
             0 => vec![0x33, self.room(4), at, 0x00, far, 0x00, 0x0E],
@@ -132,7 +135,14 @@ impl Story {
             6 => self.set_baud_rate(),
             7 => return self.order(target, Command::SetBaudRate(POWER_UP)),
             0 => self.walk_call(0x31),
-            1 => vec![0x34, self.room(6), POWER_UP, 1, 0x80, self.prng.between(2, 9)],
+            1 => vec![
+                0x34,
+                self.room(6),
+                POWER_UP,
+                1,
+                0x80,
+                self.prng.between(2, 9),
+            ],
             2 => vec![0x33, self.room(6), POWER_UP, 0x00, 1, 0x00, 0x21, 1, 0xFF],
             _ => self.command(),
         };
@@ -149,9 +159,9 @@ impl Story {
             0..=1 => self.power_up(),
             2..=3 => self.walk_call(0x31),
             4..=5 => self.walk_call(0x32),
-            6..=24 => self.regroup(),
-            25..=33 => self.set_baud_rate(),
-            34..=40 => {
+            6..=22 => self.regroup(),
+            23..=30 => self.set_baud_rate(),
+            31..=35 => {
                 let node = self.own_node();
                 self.order(Target::Node(node), Command::Nop)
             }

@@ -29,9 +29,7 @@ pub fn foreign(rules: Rules, bytes: &[u8], kinds: &[Kind]) -> String {
         return "bytes left over".to_string();
     }
     match read(rules, &packet, kinds) {
-        Some(command) if !is_unnamed(rules, packet.address, command) => {
-            sent(rules, bytes, command)
-        }
+        Some(command) if !is_unnamed(rules, packet.address, command) => sent(rules, bytes, command),
         _ => other(rules, packet.address),
     }
 }

@@ -69,7 +69,10 @@ fn resets_zero_the_position() {
 /// What a drive holds after a packet, from its gains to its motion in force.
 fn held_after(before: &str, packet: &str) -> String {
     let node = node("01 FF 00 01", "00", before, VALUES);
-    let answer = last_answer(&[&format!("20 02 3F 01 {node} {}", crate::case::packet(packet))]);
+    let answer = last_answer(&[&format!(
+        "20 02 3F 01 {node} {}",
+        crate::case::packet(packet)
+    )]);
     assert!(
         answer.starts_with("00 02 00 00 01 3F 01 FF 00 01 00 "),
         "{answer}"
@@ -297,7 +300,13 @@ fn recordings_by_kinds() {
     let walked = last_answer(&[&format!("50 02 00 01 {commands} {replies}")]);
     // Ended by 05 to a group of both kinds.
     assert!(walked.starts_with("00 01 0B 00 "), "{walked}");
-    let mut calls = vec!["30 02 00 01", "31 06 3F", "35 00 00", "31 06 3F", "35 00 00"];
+    let mut calls = vec![
+        "30 02 00 01",
+        "31 06 3F",
+        "35 00 00",
+        "31 06 3F",
+        "35 00 00",
+    ];
     calls.extend(["33 06 3F 00 01 00 24 18 40", "35 00 00"]);
     calls.extend(["33 06 3F 00 02 01 24 18 40", "35 00 00"]);
     calls.extend(["33 04 3F 00 02 01 05", "35 00 00", "37"]);

@@ -88,7 +88,13 @@ fn packets_built() {
 
 #[test]
 fn packets_sent() {
-    let ready = ["30 02 00 00", "31 06 3F", "35 00 00", "31 06 3F", "35 00 00"];
+    let ready = [
+        "30 02 00 00",
+        "31 06 3F",
+        "35 00 00",
+        "31 06 3F",
+        "35 00 00",
+    ];
     let answers = answers(&ready);
     assert_eq!(answers[1], "00 AA 00 21 01 FF 21");
     assert_eq!(answers[3], "00 AA 00 21 02 FF 22");
@@ -278,11 +284,16 @@ fn a_group_s_marked_reply_changes_nothing() {
 fn a_second_leader_is_refused() {
     let mut session = ready(2);
     let mut buffer = [0x55; 19];
-    session.regroup(POWER_UP, 1, 0x80, true, &mut buffer).expect("free");
+    session
+        .regroup(POWER_UP, 1, 0x80, true, &mut buffer)
+        .expect("free");
     session.report(&[0, 0]).expect("an exchange is open");
     let refused = session.regroup(POWER_UP, 2, 0x80, true, &mut buffer);
     assert_eq!(refused.map_err(|refusal| refusal.number()), Err(11));
-    assert_eq!(session.regroup(POWER_UP, 2, 0x80, false, &mut buffer), Ok(6));
+    assert_eq!(
+        session.regroup(POWER_UP, 2, 0x80, false, &mut buffer),
+        Ok(6)
+    );
 }
 
 #[test]

@@ -18,6 +18,7 @@ fn bench_counts() {
             "document" | "document-unended" => assert_eq!(output.lines().count(), 5),
             "walk-of-31" => assert_eq!(output, "00 00\n".repeat(31)),
             "walk-of-1" => assert_eq!(output, "00 00\n-\n"),
+            "full-speed" => assert_eq!(output, "00 00\n".repeat(2) + &"-\n".repeat(6)),
             "count-alone" | "count-ended" => assert_eq!(output, ""),
             "empty-packet" => assert_eq!(output, "refused 1\n"),
             _ => assert_eq!(output, "refused 6\n", "{name}"),
@@ -105,6 +106,10 @@ fn edges_of_every_kind() {
     for line in [
         "order Set Address, walk and node 02 01:06 00 55 55 55 55 55",
         "order Set Address, walk and node 03 01:0C 00 55 55 55 55 55",
+        "order Set Baud Rate, walk and address 02 FF:06 00 55 55 55 55 55",
+        "order Set Baud Rate, walk and address 03 FF:0C 00 55 55 55 55 55",
+        "order Set Baud Rate, divisor and data 00 0A:06 00 55 55 55 55 55",
+        "build Set Baud Rate, kind and address 01 FF:00 05 AA FF 1A 0A 23",
         "build Nop, kind and address 00 7F:00 04 AA 7F 0E 8D 55",
         "build Nop, kind and address 00 80:06 00 55 55 55 55 55",
         "build Nop, kind and address 01 7F:06 00 55 55 55 55 55",

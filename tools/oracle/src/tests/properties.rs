@@ -241,7 +241,7 @@ fn numbers_keep_to_their_calls() {
 #[test]
 fn demand_3_holds() {
     for seed in 0..4 {
-        let counts = demand3::run(RIGHT, seed, 20_000);
+        let counts = demand3::run(RIGHT, seed, 40_000);
         let counts = counts.unwrap_or_else(|violation| panic!("{violation}"));
         assert!(counts.ready > 50 && counts.doubts > 1000 && counts.refused > 100);
         assert!(counts.missed > 1000, "{counts}");

@@ -352,7 +352,7 @@ fn only_differences_of_times_count() {
 /// of gates.
 fn steps(line: &str) -> String {
     let answer = last_answer(&[line]);
-    let state = 3 * (3 + 1 + 31 * 15);
+    let state = 3 * (3 + 1 + 31 * 16);
     match answer.len().checked_sub(state) {
         Some(end) => answer[..end].trim_end().to_string(),
         None => answer,

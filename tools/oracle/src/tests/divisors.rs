@@ -2,6 +2,7 @@
 
 use super::{answers, last_answer};
 use crate::bench;
+use crate::call::after_sending;
 use crate::case::{bytes, packet};
 use crate::demand3;
 use crate::kind::Kind;
@@ -296,6 +297,28 @@ fn a_nop_confirms_no_set_baud_rate() {
     assert!(violation
         .what
         .contains("Divisor is called known but differs"));
+}
+
+/// "In a recording it ends the walk": no host, wherever it stands, could have sent it,
+/// whatever a call of its own would give.
+#[test]
+fn no_recording_goes_on_behind_set_baud_rate() {
+    let mut given = 0;
+    for mut host in demand3::stories(3, 2000)
+        .into_iter()
+        .map(|story| story.host)
+    {
+        if host.waits() {
+            host.silence().expect("an exchange is open");
+        }
+        for group in [0x80, 0x90, 0xFF] {
+            let set = bytes(&packet(&format!("{group:02X} 1A 0A")));
+            assert_eq!(after_sending(&host, &set), None);
+            let (mut tried, mut buffer) = (host.clone(), [0; 5]);
+            given += usize::from(tried.set_baud_rate(0x3F, group, 0x0A, &mut buffer).is_ok());
+        }
+    }
+    assert!(given > 20, "{given} given");
 }
 
 /// A session without nodes goes by the LS-773's list.

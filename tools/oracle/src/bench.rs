@@ -1,6 +1,7 @@
 //! The bench program: a node count, then packets, as text; replies as text.
 
 use crate::chain::{deliver, Delivery, MOST_NODES};
+use crate::divisor::POWER_UP;
 use crate::hex;
 use crate::kind::Kind;
 use crate::node::Node;
@@ -56,6 +57,14 @@ impl Bench {
         Some((Bench::new(rules, count), lines.split_off(1)))
     }
 
+    /// "The bench program sends every line at 0x3F" (request 7).
+    fn divisor(&self) -> u8 {
+        match self.nodes.first() {
+            Some(node) if self.rules.slips(Mistake::BenchFollows) => node.settings.divisor,
+            _ => POWER_UP,
+        }
+    }
+
     /// The answer to one packet line: the reply, "-", "collision" or
     /// "refused " and the number.
     pub fn answer(&mut self, line: &[u8]) -> Option<String> {
@@ -67,8 +76,9 @@ impl Bench {
             return Some(refused(Refusal::OffRange));
         };
         let mut buffer = [0; T + 2];
+        let at = self.divisor();
         Some(
-            match deliver(self.rules, &mut self.nodes, &bytes, &mut buffer) {
+            match deliver(self.rules, &mut self.nodes, at, &bytes, &mut buffer) {
                 Ok(Delivery::Reply(length)) => hex::format(&buffer[..length]),
                 Ok(Delivery::Silent) => "-".to_string(),
                 Ok(Delivery::Collision) => "collision".to_string(),

@@ -1,7 +1,9 @@
 //! The host's calls that send a command, by name; and which of them gives some
-//! bytes, which request 3 asks of each command in a recording.
+//! bytes, which request 3 asks of each command in a recording. "In a recording" Set
+//! Baud Rate "ends the walk" (request 7): all that is found is sent at 0x3F.
 
-use crate::command::Command;
+use crate::command::{Command, SET_BAUD_RATE};
+use crate::divisor::POWER_UP;
 use crate::packet::{MOST_PACKET, OVERHEAD};
 use crate::refusal::Refusal;
 use crate::rules::{Mistake, Rules};
@@ -15,19 +17,21 @@ pub enum Call {
     Ask,
     Order(Target, Command),
     Regroup { node: u8, group: u8, leader: bool },
+    SetBaudRate { group: u8, divisor: u8 },
 }
 
 impl Call {
-    pub fn make(self, host: &mut Session, buffer: &mut [u8]) -> Result<usize, Refusal> {
+    pub fn make(self, host: &mut Session, at: u8, buffer: &mut [u8]) -> Result<usize, Refusal> {
         match self {
-            Call::Next => host.next(buffer),
-            Call::Ask => host.ask(buffer),
-            Call::Order(target, command) => host.command(target, command, buffer),
+            Call::Next => host.next(at, buffer),
+            Call::Ask => host.ask(at, buffer),
+            Call::Order(target, command) => host.command(at, target, command, buffer),
             Call::Regroup {
                 node,
                 group,
                 leader,
-            } => host.regroup(node, group, leader, buffer),
+            } => host.regroup(at, node, group, leader, buffer),
+            Call::SetBaudRate { group, divisor } => host.set_baud_rate(at, group, divisor, buffer),
         }
     }
 }
@@ -52,7 +56,7 @@ pub fn after_sending(host: &Session, bytes: &[u8]) -> Option<Sent> {
 fn after_call(host: &Session, call: Call, bytes: &[u8]) -> Option<Sent> {
     let mut tried = mistaken_before(host, call);
     let mut buffer = [0; MOST_PACKET];
-    let length = call.make(&mut tried, &mut buffer).ok()?;
+    let length = call.make(&mut tried, POWER_UP, &mut buffer).ok()?;
     if !is_same(host.rules, &buffer[..length], bytes) {
         return None;
     }
@@ -83,6 +87,14 @@ fn calls(rules: Rules, bytes: &[u8]) -> Vec<Call> {
     for command in readings(rules, *command_byte, data) {
         let targets = [Target::Node(*address), Target::Group(*address)];
         calls.extend(targets.map(|target| Call::Order(target, command)));
+    }
+    if let ([divisor], SET_BAUD_RATE, true) =
+        (data, *command_byte, rules.slips(Mistake::PaceRecorded))
+    {
+        calls.push(Call::SetBaudRate {
+            group: *address,
+            divisor: *divisor,
+        });
     }
     if let [_, second] = data {
         calls.extend([false, true].map(|leader| Call::Regroup {

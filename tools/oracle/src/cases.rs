@@ -5,6 +5,7 @@ use crate::bench::Bench;
 use crate::case::Case;
 use crate::cases_bench;
 use crate::cases_carousels;
+use crate::cases_divisors;
 use crate::cases_trials;
 use crate::hex;
 use crate::make_bench;
@@ -14,10 +15,9 @@ use crate::rules::Rules;
 /// The most stored input for one program.
 pub const MOST_STORED: usize = hex::MOST_INPUT;
 
-/// What the stored inputs of `trials` and `carousels` leave free at least, for the
-/// cases of requests to come.
-pub const LEFT_FREE: usize = 1024;
-pub const LEFT_FREE_CAROUSELS: usize = 4096;
+/// What each stored input of the lines of `trials` leaves free at least, for the cases
+/// of requests to come.
+pub const LEFT_FREE: usize = 4096;
 
 /// The most lines of the generated block, and its seed.
 const BENCH_LINES: usize = 1500;
@@ -44,8 +44,8 @@ pub fn line_names(cases: &[Case], lines: usize) -> Vec<String> {
     names
 }
 
-/// The stored bench input: one chain for all of its lines. The last line
-/// lacks its newline.
+/// The stored bench input: one chain for all of its lines, hand-written ones, then
+/// generated ones, then those that set a divisor. The last line lacks its newline.
 pub fn bench() -> Vec<u8> {
     let mut input = format!("{BENCH_NODES}\n").into_bytes();
     let hand_written = text(&cases_bench::cases());
@@ -54,7 +54,8 @@ pub fn bench() -> Vec<u8> {
         bench.answer(line);
     }
     input.extend(hand_written);
-    let room = MOST_STORED - input.len() - further_bench_bytes();
+    let last = cases_bench::full_speed().join("\n");
+    let room = MOST_STORED - input.len() - last.len() - further_bench_bytes();
     let mut prng = Prng::new(SEED);
     input.extend(make_bench::packet_lines(
         &mut prng,
@@ -62,7 +63,7 @@ pub fn bench() -> Vec<u8> {
         BENCH_LINES,
         room,
     ));
-    input.pop();
+    input.extend(last.into_bytes());
     input
 }
 
@@ -83,6 +84,13 @@ pub fn trials() -> Vec<u8> {
 /// of it hand-written, too, and its last line lacks its newline.
 pub fn carousels() -> Vec<u8> {
     let mut input = text(&cases_carousels::cases());
+    input.pop();
+    input
+}
+
+/// The stored input of `divisors`, likewise.
+pub fn divisors() -> Vec<u8> {
+    let mut input = text(&cases_divisors::cases());
     input.pop();
     input
 }

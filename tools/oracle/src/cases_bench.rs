@@ -32,6 +32,7 @@ pub fn cases() -> Vec<Case> {
         walked("masks", masks()),
         walked("leaders and members", leaders()),
         walked("collisions", collisions()),
+        walked("Set Baud Rate at 3F", set_baud_rate()),
         walked("hearing behind reset nodes", hearing()),
         walked("addresses at the edges", edge_addresses()),
         walked("packets of the wrong shape", wrong_shapes()),
@@ -226,6 +227,45 @@ fn collisions() -> Vec<String> {
     lines
 }
 
+/// To the divisor that all have, by an individual address, with another count, damaged:
+/// all hear on.
+fn set_baud_rate() -> Vec<String> {
+    let mut lines = packets(&[
+        "01 21 01 00", // node 1 leads 0x80
+        "02 21 02 80", // node 2 joins it
+        "80 1A 3F",
+        "FF 1A 3F",
+        "01 1A 0A",
+        "80 0A",
+        "80 2A 0A 0A",
+        "FF 2A 0A 0A",
+        "90 1A 0A", // nobody is in it
+    ]);
+    lines.extend([damaged("80 1A 0A"), damaged("FF 1A 0A")]);
+    lines.extend(packets(&["01 0E", "02 0E", "03 0E"]));
+    lines
+}
+
+/// The last lines of the stored input: "sends every line at 0x3F", so that whoever is
+/// in a group that another divisor is set for hears no more.
+pub fn full_speed() -> Vec<String> {
+    let set = GROUPS_USED.iter().map(|group| format!("{group} 1A 0A"));
+    let mut lines: Vec<String> = set.map(|parts| packet(&parts)).collect();
+    lines.extend(packets(&[
+        "00 0E",
+        "01 0E",
+        "02 0E",
+        "03 0E",
+        "04 0E",
+        "05 0E",
+        "FF 1A 3F",
+        "FF 0F",
+        "00 21 01 FF",
+        "01 0E",
+    ]));
+    lines
+}
+
 /// Nodes behind an unaddressed one are deaf unless addressed themselves.
 fn hearing() -> Vec<String> {
     packets(&[
@@ -320,6 +360,15 @@ fn wrong_forms() -> Vec<String> {
     ])
 }
 
+/// A walk of two, and then Set Baud Rate: every later line gives `-`, at both nodes.
+fn full_speed_of_two() -> String {
+    let mut lines = walk(2);
+    lines.extend(packets(&[
+        "FF 1A 0A", "01 0E", "FF 1A 3F", "02 0E", "FF 0F", "00 0E",
+    ]));
+    format!("2\n{}\n", lines.join("\n"))
+}
+
 /// Further whole inputs, each for what its first or last line tells.
 pub fn further_inputs() -> Vec<(&'static str, Vec<u8>)> {
     let nop = "AA 00 0E 0E";
@@ -328,6 +377,7 @@ pub fn further_inputs() -> Vec<(&'static str, Vec<u8>)> {
         ("document-unended", DOCUMENT_EXAMPLE.join("\n")),
         ("walk-of-31", format!("31\n{}\n", walk(31).join("\n"))),
         ("walk-of-1", format!("1\n{}\n", walk(2).join("\n"))),
+        ("full-speed", full_speed_of_two()),
         ("count-alone", "2".to_string()),
         ("count-ended", "2\n".to_string()),
         ("empty-packet", "2\n\n".to_string()),

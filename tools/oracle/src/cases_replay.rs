@@ -294,8 +294,8 @@ fn run(mark: char, time: u32, bytes: &str) -> String {
     format!("{mark} {time} {bytes}\n")
 }
 
-/// The stored input: all sixteen commands, accepted up to the end of the
-/// recording. One packet is several runs, and the last line lacks its newline.
+/// The stored input: all commands but Set Baud Rate, which would end it, accepted up to
+/// the end of the recording. One packet is several runs, and the last line lacks its newline.
 pub fn stored() -> Vec<u8> {
     let runs: String = STORY
         .iter()
@@ -389,7 +389,17 @@ fn ended_by_a_command() -> Texts {
         ("not-left-over", by("AA 01 0E 0F 00")),
         ("not-two-at-once", by("AA 01 0E 0F\n> 51 AA 02 0E 10")),
         ("not-a-gap-inside", by("AA 02\n> 52 0E 10")),
-        ("not-another", by(&packet("01 1A 3F"))),
+        ("not-another", by(&packet("01 0B"))),
+        ("not-a-baud-rate", by(&packet("FF 1A 0A"))),
+        ("not-a-baud-rate-of-3f", by(&packet("80 1A 3F"))),
+        ("not-a-baud-rate-unlisted", by(&packet("FF 1A 55"))),
+        ("not-a-baud-rate-to-a-node", by(&packet("01 1A 3F"))),
+        ("not-a-baud-rate-of-two", by(&packet("FF 2A 0A 0A"))),
+        (
+            "not-a-baud-rate-while-waiting",
+            by("AA 02 26 05 00 2D\n> 53 AA FF 1A 0A 23"),
+        ),
+        ("not-a-baud-rate-in-walk", at_once("AA FF 1A 0A 23")),
         ("not-another-count", by(&packet("01 1E 00"))),
         ("not-another-to-all", by(&packet("FF 03"))),
         ("not-node-3", by(&packet("03 0E"))),
@@ -449,6 +459,8 @@ fn ended_by_kinds() -> Texts {
         ("not-node-9-s", by("09 57 10 01 00 00 80")),
         ("not-node-9-s-05", by("09 05")),
         ("not-address-00-s", by("00 00")),
+        ("not-a-baud-rate-for-both", by("FF 1A 14")),
+        ("not-a-baud-rate-to-a-drive", by("02 1A 0A")),
     ]
 }
 

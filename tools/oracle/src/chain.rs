@@ -29,32 +29,41 @@ enum Repliers {
     Several(usize),
 }
 
-/// Delivers a packet. "For the chain 6 comes first, then 1, 2, 3 in reading
-/// order, then 5, tested for the actual reply before any node acts."
+/// A packet on the line: "every command is sent at" a divisor (request 7).
+struct Sent<'a> {
+    at: u8,
+    packet: Packet<'a>,
+}
+
+/// Delivers a packet that is sent at a divisor, which may be any. "For the chain 6
+/// comes first, then 1, 2, 3 in reading order, then 5, tested for the actual reply
+/// before any node acts."
 pub fn deliver(
     rules: Rules,
     nodes: &mut [Node],
+    at: u8,
     bytes: &[u8],
     buffer: &mut [u8],
 ) -> Result<Delivery, Refusal> {
     mistakes_before_table(rules, bytes)?;
-    require(table_is_in_range(rules, nodes), Refusal::OffRange)?;
-    mistakes_before_packet(rules, nodes, bytes, buffer)?;
+    require(table_is_in_range(rules, nodes, at), Refusal::OffRange)?;
+    mistakes_before_packet(rules, nodes, at, bytes, buffer)?;
     let packet = alone(rules, bytes)?;
     if rules.slips(Mistake::WrongSumRefused) {
         require(packet.intact, Refusal::WrongSum)?;
     }
-    let (answer, reply) = answer(rules, nodes, &packet);
+    let sent = Sent { at, packet };
+    let (answer, reply) = answer(rules, nodes, &sent);
     let room = buffer.len() >= room_asked_for(rules, &reply);
     if !room {
         mistakes_without_room(rules, &reply, buffer);
     }
     if rules.slips(Mistake::ActsThenRefuses) {
-        act(rules, nodes, &packet);
+        act(rules, nodes, &sent);
         require(room, Refusal::NoRoom)?;
     } else {
         require(room, Refusal::NoRoom)?;
-        act_unless_mistaken(rules, nodes, &packet, answer);
+        act_unless_mistaken(rules, nodes, &sent, answer);
     }
     put(rules, &reply, buffer);
     Ok(answer)
@@ -78,12 +87,12 @@ fn alone(rules: Rules, bytes: &[u8]) -> Result<Packet<'_>, Refusal> {
 
 /// 6: "table length not 1 to 31, .. a lent node record with individual
 /// address above 0x7F or group below 0x80", hearing or not.
-fn table_is_in_range(rules: Rules, nodes: &[Node]) -> bool {
+fn table_is_in_range(rules: Rules, nodes: &[Node], at: u8) -> bool {
     let most = MOST_NODES + usize::from(rules.slips(Mistake::TableOf32));
     let all = !rules.slips(Mistake::DeafRecordsUnchecked);
     (1..=most).contains(&nodes.len())
         && (0..nodes.len())
-            .filter(|index| all || hears(rules, nodes, *index))
+            .filter(|index| all || hears(rules, nodes, *index, at))
             .all(|index| record_is_in_range(&nodes[index]))
 }
 
@@ -92,9 +101,14 @@ fn record_is_in_range(node: &Node) -> bool {
     node.address() <= 0x7F && node.group() >= 0x80
 }
 
-/// "A node hears exactly if it is addressed, is first, or the node before it
-/// is addressed."
-fn hears(rules: Rules, nodes: &[Node], index: usize) -> bool {
+/// "A node hears only commands at its own" divisor (request 7), and of those
+/// "exactly if it is addressed, is first, or the node before it is addressed".
+fn hears(rules: Rules, nodes: &[Node], index: usize, at: u8) -> bool {
+    let own = nodes[index].settings.divisor == at;
+    is_reached(rules, nodes, index) && slipped_divisor(rules, nodes, index, at, own)
+}
+
+fn is_reached(rules: Rules, nodes: &[Node], index: usize) -> bool {
     nodes[index].addressed
         || index == 0 && !rules.slips(Mistake::FirstMustBeAddressed)
         || index > 0 && nodes[index - 1].addressed
@@ -103,20 +117,21 @@ fn hears(rules: Rules, nodes: &[Node], index: usize) -> bool {
 
 /// "A hearing node acts once if the address byte is its individual address
 /// or its group."
-fn acts(rules: Rules, nodes: &[Node], index: usize, packet: &Packet) -> bool {
-    let node = &nodes[index];
+fn acts(rules: Rules, nodes: &[Node], index: usize, sent: &Sent) -> bool {
+    let (node, packet) = (&nodes[index], &sent.packet);
     let follows = node.settings.place.leader || !rules.slips(Mistake::LeadersAlone);
-    hears(rules, nodes, index)
+    hears(rules, nodes, index, sent.at)
         && (packet.address == node.address() || packet.address == node.group() && follows)
 }
 
 /// "It replies if the address is its individual one, or it is leader of that
 /// group, and the command isn't an intact Hard Reset of count 0."
-fn replies(rules: Rules, nodes: &[Node], index: usize, packet: &Packet) -> bool {
-    let node = &nodes[index];
+fn replies(rules: Rules, nodes: &[Node], index: usize, sent: &Sent) -> bool {
+    let (node, packet) = (&nodes[index], &sent.packet);
     let speaks = node.settings.place.leader || rules.slips(Mistake::MembersReply);
     let answers = packet.address == node.address() || packet.address == node.group() && speaks;
-    hears(rules, nodes, index) && answers && !goes_unanswered(rules, node.kind(), packet)
+    let heard = hears(rules, nodes, index, sent.at);
+    heard && answers && !goes_unanswered(rules, node.kind(), packet)
 }
 
 /// Whether no node of this kind answers such a packet: an intact Hard Reset of
@@ -127,15 +142,18 @@ fn goes_unanswered(rules: Rules, kind: Kind, packet: &Packet) -> bool {
     if acted_on.is_none() && mistaken_silence(rules, command) {
         return true;
     }
+    if matches!(command, Some(Command::SetBaudRate(_))) && rules.slips(Mistake::PaceUnanswered) {
+        return packet.intact;
+    }
     command == Some(Command::HardReset)
         && (packet.intact || rules.slips(Mistake::DamagedResetSilent))
         && !rules.slips(Mistake::ResetReplies)
 }
 
 /// "The chain is searched in order and left at the second replier."
-fn repliers(rules: Rules, nodes: &[Node], packet: &Packet) -> Repliers {
+fn repliers(rules: Rules, nodes: &[Node], sent: &Sent) -> Repliers {
     let mut found = Repliers::None;
-    for index in (0..nodes.len()).filter(|index| replies(rules, nodes, *index, packet)) {
+    for index in (0..nodes.len()).filter(|index| replies(rules, nodes, *index, sent)) {
         match found {
             Repliers::None => found = Repliers::One(index),
             Repliers::One(first) => return Repliers::Several(first),
@@ -146,14 +164,14 @@ fn repliers(rules: Rules, nodes: &[Node], packet: &Packet) -> Repliers {
 }
 
 /// What the chain will answer, and the bytes of a single reply.
-fn answer(rules: Rules, nodes: &[Node], packet: &Packet) -> (Delivery, Vec<u8>) {
-    match repliers(rules, nodes, packet) {
+fn answer(rules: Rules, nodes: &[Node], sent: &Sent) -> (Delivery, Vec<u8>) {
+    match repliers(rules, nodes, sent) {
         Repliers::None => (Delivery::Silent, Vec::new()),
         Repliers::Several(_) if !rules.slips(Mistake::FirstReplierAnswers) => {
             (Delivery::Collision, Vec::new())
         }
         Repliers::One(index) | Repliers::Several(index) => {
-            let reply = nodes[index].reply(rules, packet);
+            let reply = nodes[index].reply(rules, &sent.packet);
             (Delivery::Reply(reply.len()), reply)
         }
     }
@@ -161,24 +179,24 @@ fn answer(rules: Rules, nodes: &[Node], packet: &Packet) -> (Delivery, Vec<u8>) 
 
 /// "Who hears is fixed before the packet acts. .. Places are those before
 /// the packet acts."
-fn act(rules: Rules, nodes: &mut [Node], packet: &Packet) {
+fn act(rules: Rules, nodes: &mut [Node], sent: &Sent) {
     let before = nodes.to_vec();
     for index in 0..nodes.len() {
         let acting = if rules.slips(Mistake::HearsAsItActs) {
-            acts(rules, nodes, index, packet)
+            acts(rules, nodes, index, sent)
         } else {
-            acts(rules, &before, index, packet)
+            acts(rules, &before, index, sent)
         };
         if acting {
-            nodes[index] = nodes[index].after(rules, packet);
+            nodes[index] = nodes[index].after(rules, &sent.packet);
         }
     }
 }
 
-fn act_unless_mistaken(rules: Rules, nodes: &mut [Node], packet: &Packet, answer: Delivery) {
+fn act_unless_mistaken(rules: Rules, nodes: &mut [Node], sent: &Sent, answer: Delivery) {
     let withheld = answer == Delivery::Collision && rules.slips(Mistake::CollisionChangesNothing);
     if !withheld {
-        act(rules, nodes, packet);
+        act(rules, nodes, sent);
     }
 }
 
@@ -211,6 +229,19 @@ fn fill(bytes: &[u8], buffer: &mut [u8]) {
 }
 
 // ---- Mistakes alone ----------------------------------------------------
+
+/// Whether a node hears what is sent at a divisor, its own or not, with the mistakes
+/// in it.
+fn slipped_divisor(rules: Rules, nodes: &[Node], index: usize, at: u8, own: bool) -> bool {
+    if rules.slips(Mistake::DivisorUnheeded) {
+        return true;
+    }
+    if rules.slips(Mistake::DivisorCutsChain) {
+        let mut before = nodes[..index].iter();
+        return own && before.all(|node| node.settings.divisor == at);
+    }
+    own
+}
 
 /// Whether a mistaken node keeps silent where it doesn't act: on an other, or on a
 /// value off its range.
@@ -247,6 +278,7 @@ fn mistakes_before_table(rules: Rules, bytes: &[u8]) -> Result<(), Refusal> {
 fn mistakes_before_packet(
     rules: Rules,
     nodes: &[Node],
+    at: u8,
     bytes: &[u8],
     buffer: &[u8],
 ) -> Result<(), Refusal> {
@@ -254,7 +286,8 @@ fn mistakes_before_packet(
         require(!buffer.is_empty(), Refusal::NoRoom)?;
     }
     if rules.slips(Mistake::RoomBeforeLeftOver) {
-        let (_, reply) = answer(rules, nodes, &frame(rules, bytes)?);
+        let packet = frame(rules, bytes)?;
+        let (_, reply) = answer(rules, nodes, &Sent { at, packet });
         require(reply.len() <= buffer.len(), Refusal::NoRoom)?;
     }
     Ok(())

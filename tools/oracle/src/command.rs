@@ -54,7 +54,7 @@ pub struct Held {
     pub pwm: [u8; 2],
 }
 
-/// One of the sixteen commands with its data. "Synch Output and Start Motion share
+/// One of the seventeen commands with its data. "Synch Output and Start Motion share
 /// a byte and are two commands here"; so do Set PWM and a Load Trajectory of a PWM
 /// value alone.
 #[derive(Clone, Copy, Debug, PartialEq, Eq)]
@@ -65,6 +65,7 @@ pub enum Command {
     ReadStatus(u8),
     Nop,
     HardReset,
+    SetBaudRate(u8),
     // Of an LS-773.
     SetPwm([u8; 2]),
     SynchOutput,
@@ -80,10 +81,14 @@ pub enum Command {
     StopMotor(Stop),
 }
 
-/// The eleven of an LS-773 as command bytes: the count in the high nibble.
+/// Eleven of an LS-773 as command bytes: the count in the high nibble. Set Baud Rate,
+/// which is "set only by group", is by itself.
 pub const COMMAND_BYTES: [u8; 11] = [
     0x21, 0x12, 0x13, 0x24, 0x05, 0x26, 0x47, 0x18, 0x0C, 0x0E, 0x0F,
 ];
+
+/// Set Baud Rate, which both kinds have.
+pub const SET_BAUD_RATE: u8 = 0x1A;
 
 /// The five of an LS-173AP alone, Load Trajectory with each count that it has,
 /// Stop Motor with both.
@@ -121,7 +126,8 @@ impl Command {
             | Command::DefineStatus(_)
             | Command::ReadStatus(_)
             | Command::Nop
-            | Command::HardReset => None,
+            | Command::HardReset
+            | Command::SetBaudRate(_) => None,
             Command::SetPwm(_)
             | Command::SynchOutput
             | Command::SetOutputs(_)
@@ -169,6 +175,7 @@ impl Command {
             Command::SetOutputs(_) | Command::SetGain(_) => 0x6,
             Command::SetSynchOutput(_) | Command::StopMotor(_) => 0x7,
             Command::SetTimerMode(_) => 0x8,
+            Command::SetBaudRate(_) => 0xA,
             Command::SynchInput => 0xC,
             Command::Nop => 0xE,
             Command::HardReset => 0xF,
@@ -181,7 +188,8 @@ impl Command {
             Command::SetAddress(place) => place.data().to_vec(),
             Command::DefineStatus(byte)
             | Command::ReadStatus(byte)
-            | Command::SetTimerMode(byte) => vec![byte],
+            | Command::SetTimerMode(byte)
+            | Command::SetBaudRate(byte) => vec![byte],
             Command::SetPwm(pair) => pair.to_vec(),
             Command::SetOutputs(outputs) => outputs.to_le_bytes().to_vec(),
             Command::SetSynchOutput(held) => [held.outputs.to_le_bytes(), held.pwm].concat(),
@@ -208,6 +216,7 @@ fn shared(kind: Kind, command_byte: u8, data: &[u8]) -> Option<Command> {
         }
         (0x12, &[mask]) => Command::DefineStatus(mask),
         (0x13, &[mask]) => Command::ReadStatus(mask),
+        (SET_BAUD_RATE, &[divisor]) => Command::SetBaudRate(divisor),
         (0x0E, []) => Command::Nop,
         (0x0F, []) => Command::HardReset,
         _ => return None,

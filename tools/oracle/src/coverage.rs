@@ -2,7 +2,7 @@
 //! packet is read with bytes behind it, and the same of recordings.
 
 use crate::bench::Bench;
-use crate::command::Command;
+use crate::command::{Command, SET_BAUD_RATE};
 use crate::hex;
 use crate::kind::Kind;
 use crate::layout::{self, Cursor};
@@ -214,17 +214,18 @@ fn tried_command(line: &[u8]) -> Option<Tried> {
         0x31 | 0x34 => Tried::plain(Some(&0x21)),
         0x32 => Tried::plain(Some(&0x0E)),
         0x33 => Some(Tried {
-            byte: *line.get(5)?,
-            to_drives: line[4] == layout::kind(Kind::Drive),
+            byte: *line.get(6)?,
+            to_drives: line[5] == layout::kind(Kind::Drive),
         }),
+        0x39 => Tried::plain(Some(&SET_BAUD_RATE)),
         _ => None,
     }
 }
 
 /// What a line `20` delivers.
 fn delivered(line: &[u8]) -> Option<Tried> {
-    let mut records = Cursor(line.get(3..)?);
-    let nodes = (0..line[2]).map(|_| records.node());
+    let mut records = Cursor(line.get(4..)?);
+    let nodes = (0..line[3]).map(|_| records.node());
     let nodes: Vec<Node> = nodes.collect::<Option<_>>()?;
     Some(Tried {
         byte: *records.rest().get(2)?,

@@ -1,13 +1,14 @@
 //! Demand 3 tried: a host session and a real chain over a faulty line.
 //!
 //! The premises are those of the acceptance conditions, as request 4 has them:
-//! all nodes power up when the host is told so; a command goes out whole or with
+//! all nodes power up when the host is told so; a command, at the divisor that it is
+//! sent at (request 7), goes out whole or with
 //! one byte other than header and command byte changed, and each node by itself
-//! hears it or misses it; a reply comes whole, with one byte changed, or not at
+//! hears it or misses it, and hears only what comes at its own; a reply comes whole, with one byte changed, or not at
 //! all, always before the next command. After each closed exchange three things
 //! are checked: what the host calls known is what the node holds; doubt is
-//! exactly what the history of sent and answered says; and no two nodes ever
-//! replied at once.
+//! exactly what the history of sent and answered says; no two nodes ever replied at
+//! once; and nobody to an intact Set Baud Rate.
 //!
 //! What goes over both lines is heard along, so that recordings can be made of
 //! it (request 3).
@@ -17,6 +18,7 @@ mod line;
 
 use crate::chain::Delivery;
 use crate::command::Command;
+use crate::divisor::{listed, POWER_UP};
 use crate::hex;
 use crate::history::History;
 use crate::kind::Kind;
@@ -52,6 +54,7 @@ impl std::fmt::Display for Violation {
 /// So many steps from a seed: the counts, or the first violation.
 pub fn run(rules: Rules, seed: u64, steps: usize) -> Result<Counts, Violation> {
     let mut world = World::new(rules, seed);
+    world.line_of_many_speeds = true;
     for _ in 0..steps {
         world.counts.steps += 1;
         if let Err(what) = world.step() {
@@ -88,7 +91,8 @@ impl Story {
     }
 }
 
-/// The stories of so many steps from a seed, in which demand 3 holds.
+/// The stories of so many steps from a seed, in which demand 3 holds, every command
+/// sent at 0x3F: so recordings are.
 pub fn stories(seed: u64, steps: usize) -> Vec<Story> {
     let mut world = World::new(Rules::RIGHT, seed);
     for _ in 0..steps {
@@ -111,6 +115,10 @@ struct World {
     /// Which nodes missed the command that was sent last.
     missed: Vec<bool>,
     line: Line,
+    /// Whether commands are sent at other divisors than 0x3F; whether they are since
+    /// the last power-up.
+    line_of_many_speeds: bool,
+    paced: bool,
     /// Of a hundred commands so many are a Hard Reset, which ends the story.
     resets: usize,
     history: History,
@@ -130,6 +138,8 @@ impl World {
             reply: Vec::new(),
             missed: Vec::new(),
             line: Line::default(),
+            line_of_many_speeds: false,
+            paced: false,
             resets: 0,
             history: History::new(rules),
             story: Vec::new(),
@@ -179,6 +189,7 @@ impl World {
         self.chain = nodes.collect();
         self.line = Line::any(&mut self.prng);
         self.resets = self.prng.pick(&[0, 0, 0, 20]);
+        self.paced = self.line_of_many_speeds && self.prng.percent(45);
         self.story = vec![format!("power-up of {n}: {kinds:?}")];
         self.history = History::new(self.rules);
         self.counts.power_ups += 1;
@@ -212,23 +223,34 @@ impl World {
     fn send(&mut self) -> Step {
         let mut buffer = [0; 19];
         let before = self.host.clone();
-        let (call, sent) = self.call_host(&mut buffer);
+        let (call, at, sent) = self.call_host(&mut buffer);
         let length = match sent {
             Ok(length) => length,
             Err(refusal) => {
-                self.story.push(format!("{call}: {}", refusal.number()));
+                self.story
+                    .push(format!("{call} at {at:02X}: {}", refusal.number()));
                 self.counts.refused += 1;
                 return self.unchanged(&before);
             }
         };
         self.counts.sent += 1;
-        self.story
-            .push(format!("{call}: {}", hex::format(&buffer[..length])));
+        self.story.push(format!(
+            "{call} at {at:02X}: {}",
+            hex::format(&buffer[..length])
+        ));
         self.heard.push(Heard::Command(buffer[..length].to_vec()));
-        if let Exchange::Waiting { target, command } = self.host.exchange {
+        let mut paces = false;
+        if let Exchange::Waiting {
+            target, command, ..
+        } = self.host.exchange
+        {
             self.history.send(target, command, before.walks());
+            paces = matches!(command, Command::SetBaudRate(_));
         }
-        self.carry(&buffer[..length])?;
+        let intact = self.carry(at, &buffer[..length])?;
+        if paces && intact && !self.reply.is_empty() {
+            return Err("an intact Set Baud Rate was replied to".to_string());
+        }
         if !self.host.waits() && !self.reply.is_empty() {
             // To a Hard Reset that was changed on its way.
             self.heard.push(Heard::Reply(self.reply.clone()));
@@ -244,30 +266,109 @@ impl World {
         }
     }
 
-    /// A call that makes sense; its name and its result.
-    fn call_host(&mut self, buffer: &mut [u8]) -> (String, Result<usize, Refusal>) {
+    /// A call that makes sense; its name, the divisor that it is to be sent at, and its
+    /// result.
+    fn call_host(&mut self, buffer: &mut [u8]) -> (String, u8, Result<usize, Refusal>) {
         if self.host.walks() {
             return self.walk_on(buffer);
+        }
+        if self.paced && self.prng.percent(40) {
+            return self.pace_or_ask(buffer);
         }
         if self.prng.percent(30) {
             let node = self.own_node();
             let group = self.group_for(self.chain[usize::from(node - 1)].kind());
             let leader = self.prng.percent(60);
+            let at = self.divisor_of(Target::Node(node));
             let name = format!("regroup {node} to {group:02X}, leader {leader}");
-            return (name, self.host.regroup(node, group, leader, buffer));
+            return (name, at, self.host.regroup(at, node, group, leader, buffer));
         }
         let target = self.target();
         let command = self.ready_command(target);
+        let at = self.divisor_of(target);
         let name = format!("{command:?} to {target:?}");
-        (name, self.host.command(target, command, buffer))
+        (name, at, self.host.command(at, target, command, buffer))
     }
 
     /// "Next" or "ask", mostly the one that is due.
-    fn walk_on(&mut self, buffer: &mut [u8]) -> (String, Result<usize, Refusal>) {
+    fn walk_on(&mut self, buffer: &mut [u8]) -> (String, u8, Result<usize, Refusal>) {
+        let at = match self.paced && self.prng.percent(3) {
+            true => self.any_divisor(),
+            false => POWER_UP,
+        };
         if self.host.ask_is_due() == self.prng.percent(90) {
-            ("ask".to_string(), self.host.ask(buffer))
+            ("ask".to_string(), at, self.host.ask(at, buffer))
         } else {
-            ("next".to_string(), self.host.next(buffer))
+            ("next".to_string(), at, self.host.next(at, buffer))
+        }
+    }
+
+    /// Set Baud Rate, or a Nop that finds out what came of one. A place in doubt, or a
+    /// leader, is told its place again first, mostly, since 19 comes of them.
+    fn pace_or_ask(&mut self, buffer: &mut [u8]) -> (String, u8, Result<usize, Refusal>) {
+        if self.prng.percent(50) {
+            let target = match self.prng.percent(85) {
+                true => Target::Node(self.own_node()),
+                false => Target::Group(self.group()),
+            };
+            let at = self.divisor_of(target);
+            let name = format!("Nop to {target:?}");
+            return (
+                name,
+                at,
+                self.host.command(at, target, Command::Nop, buffer),
+            );
+        }
+        if let (Some(node), true) = (self.hindering_node(), self.prng.percent(75)) {
+            let group = self.group_for(self.chain[usize::from(node - 1)].kind());
+            let at = self.divisor_of(Target::Node(node));
+            let name = format!("regroup {node} to {group:02X}, leader false");
+            return (name, at, self.host.regroup(at, node, group, false, buffer));
+        }
+        let (group, divisor) = (self.group(), self.any_divisor());
+        let at = self.divisor_of(Target::Group(group));
+        let name = format!("Set Baud Rate {divisor:02X} to {group:02X}");
+        let sent = self.host.set_baud_rate(at, group, divisor, buffer);
+        (name, at, sent)
+    }
+
+    /// A node whose place is in doubt, or that leads.
+    fn hindering_node(&mut self) -> Option<u8> {
+        let entries = &self.host.entries[..self.chain.len()];
+        let nodes = (1..)
+            .zip(entries)
+            .filter(|(_, entry)| !entry.knows(Setting::Place) || entry.settings.place.leader);
+        let nodes: Vec<u8> = nodes.map(|(node, _)| node).collect();
+        (!nodes.is_empty()).then(|| self.prng.pick(&nodes))
+    }
+
+    /// A divisor to send at: mostly one that those have who are meant, sometimes one
+    /// that is recorded of them or any.
+    fn divisor_of(&mut self, target: Target) -> u8 {
+        if !self.paced {
+            return POWER_UP;
+        }
+        let meant = (0..self.chain.len()).filter(|index| match target {
+            Target::Node(node) => index + 1 == usize::from(node),
+            Target::Group(group) => self.chain[*index].group() == group,
+        });
+        let meant: Vec<usize> = meant.collect();
+        if meant.is_empty() || self.prng.percent(6) {
+            return self.any_divisor();
+        }
+        let index = self.prng.pick(&meant);
+        match self.prng.percent(85) {
+            true => self.chain[index].settings.divisor,
+            false => self.host.entries[index].settings.divisor,
+        }
+    }
+
+    /// One of the few that stories keep to, one that only gates list, or none's.
+    fn any_divisor(&mut self) -> u8 {
+        match self.prng.below(12) {
+            0 => self.prng.byte(),
+            1 => self.prng.pick(listed(Kind::Gate)),
+            _ => self.prng.pick(&[POWER_UP, 0x0A, 0x0A, 0x14]),
         }
     }
 
@@ -338,20 +439,20 @@ impl World {
         }
     }
 
-    /// The line takes the command to the nodes.
-    fn carry(&mut self, packet: &[u8]) -> Step {
+    /// The line takes the command to the nodes; whether it arrives as it was sent.
+    fn carry(&mut self, at: u8, packet: &[u8]) -> Result<bool, String> {
         self.reply.clear();
         let arriving = self.line.carry(&mut self.prng, packet, self.chain.len());
         self.tell(packet, &arriving);
         let mut buffer = [0; T + 2];
-        match arriving.deliver(self.rules, &mut self.chain, &mut buffer) {
+        match arriving.deliver(self.rules, &mut self.chain, at, &mut buffer) {
             Ok(Delivery::Reply(length)) => self.reply = buffer[..length].to_vec(),
             Ok(Delivery::Silent) => {}
             Ok(Delivery::Collision) => return Err("several nodes replied".to_string()),
             Err(refusal) => return Err(format!("the chain gave {}", refusal.number())),
         }
         self.missed = arriving.missed;
-        Ok(())
+        Ok(arriving.bytes == packet)
     }
 
     /// What the line does to a command, told and counted.
@@ -375,7 +476,7 @@ impl World {
     fn report(&mut self) -> Step {
         if self.prng.percent(4) {
             let before = self.host.clone();
-            self.expect_number(7, |host| host.next(&mut [0; 19]))?;
+            self.expect_number(7, |host| host.next(POWER_UP, &mut [0; 19]))?;
             return self.unchanged(&before);
         }
         let reply = std::mem::take(&mut self.reply);

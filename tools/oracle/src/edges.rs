@@ -4,6 +4,7 @@
 //! the lent buffer, which held 55 before.
 
 use crate::command::{Command, Place};
+use crate::divisor::POWER_UP;
 use crate::drive::{Motion, Stop};
 use crate::hex;
 use crate::refusal::{number_of, Refusal};
@@ -12,8 +13,8 @@ use crate::session::{self, Session};
 use crate::target::Target;
 use crate::trials::FILL;
 
-/// A Nop has room in the lent buffer, and so has a load of no value; a Set
-/// Address has not.
+/// A Nop has room in the lent buffer, and so have a load of no value and a Set Baud
+/// Rate; a Set Address has not.
 const ROOM: usize = 5;
 
 /// A line whose last byte lacks a digit.
@@ -27,11 +28,21 @@ struct Kind {
 }
 
 /// The kinds in the order of the output.
-const KINDS: [Kind; 7] = [
+const KINDS: [Kind; 10] = [
     Kind {
         what: "order Set Address, walk and node",
         call: order,
         arguments: &[(2, 1), (2, 3), (0, 1), (3, 1)],
+    },
+    Kind {
+        what: "order Set Baud Rate, walk and address",
+        call: order_pace,
+        arguments: &[(2, 1), (2, 3), (2, 0xFF), (0, 0xFF), (3, 0xFF)],
+    },
+    Kind {
+        what: "order Set Baud Rate, divisor and data",
+        call: order_pace_at,
+        arguments: &[(0x00, 0x0A), (0x3F, 0x00)],
     },
     Kind {
         what: "build Nop, kind and address",
@@ -49,6 +60,11 @@ const KINDS: [Kind; 7] = [
         what: "build Set Address, address and group",
         call: build_place,
         arguments: &[(0x7F, 0x80), (0x80, 0x80), (0x7F, 0x7F)],
+    },
+    Kind {
+        what: "build Set Baud Rate, kind and address",
+        call: build_pace,
+        arguments: &[(0, 0x01), (1, 0xFF), (1, 0x7F)],
     },
     Kind {
         what: "build Load Trajectory, control byte and velocity",
@@ -109,16 +125,41 @@ fn set_address(address: u8, group: u8) -> Command {
 /// A Set Address to a node, ordered from a session of two nodes.
 fn order(rules: Rules, walk: u8, node: u8, buffer: &mut [u8]) -> Result<usize, Refusal> {
     let command = set_address(node, 0x81);
-    made(rules, 2, walk).command(Target::Node(node), command, buffer)
+    made(rules, 2, walk).command(POWER_UP, Target::Node(node), command, buffer)
 }
 
-/// A Nop to an address of kind 0, individual, or 1, group.
-fn build_nop(rules: Rules, kind: u8, address: u8, buffer: &mut [u8]) -> Result<usize, Refusal> {
-    let to = match kind {
+/// A Set Baud Rate to a node or a group, ordered from a session of two nodes.
+fn order_pace(rules: Rules, walk: u8, address: u8, buffer: &mut [u8]) -> Result<usize, Refusal> {
+    let to = match address {
+        0x80.. => Target::Group(address),
+        _ => Target::Node(address),
+    };
+    made(rules, 2, walk).command(POWER_UP, to, Command::SetBaudRate(0x0A), buffer)
+}
+
+/// A Set Baud Rate to group FF at a divisor, ordered from a ready session of two nodes.
+fn order_pace_at(rules: Rules, at: u8, divisor: u8, buffer: &mut [u8]) -> Result<usize, Refusal> {
+    let command = Command::SetBaudRate(divisor);
+    made(rules, 2, 2).command(at, Target::Group(0xFF), command, buffer)
+}
+
+/// An address of kind 0, individual, or 1, group.
+fn to(kind: u8, address: u8) -> Target {
+    match kind {
         0 => Target::Node(address),
         _ => Target::Group(address),
-    };
-    session::build(rules, to, Command::Nop, buffer)
+    }
+}
+
+/// A Nop to an address of either kind.
+fn build_nop(rules: Rules, kind: u8, address: u8, buffer: &mut [u8]) -> Result<usize, Refusal> {
+    session::build(rules, to(kind, address), Command::Nop, buffer)
+}
+
+/// A Set Baud Rate of 0A to an address of either kind: it is the host that sends it to
+/// groups alone.
+fn build_pace(rules: Rules, kind: u8, address: u8, buffer: &mut [u8]) -> Result<usize, Refusal> {
+    session::build(rules, to(kind, address), Command::SetBaudRate(0x0A), buffer)
 }
 
 /// A Set Address to node 1 with this place.

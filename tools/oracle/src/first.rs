@@ -3,6 +3,7 @@
 
 use crate::chain::{deliver, Delivery};
 use crate::command::Command;
+use crate::divisor::POWER_UP;
 use crate::hex;
 use crate::kind::{gates, Kind};
 use crate::node::Node;
@@ -19,10 +20,13 @@ pub fn run(rules: Rules) -> Option<String> {
     let mut session = Session::fresh(rules);
     session.power_up(2, &gates(2)).ok()?;
     for _ in 0..2 {
-        exchange(rules, &mut nodes, &mut session, Session::next).ok()?;
+        exchange(rules, &mut nodes, &mut session, |session, buffer| {
+            session.next(POWER_UP, buffer)
+        })
+        .ok()?;
     }
     exchange(rules, &mut nodes, &mut session, |session, buffer| {
-        session.command(Target::Node(2), Command::SetOutputs(5), buffer)
+        session.command(POWER_UP, Target::Node(2), Command::SetOutputs(5), buffer)
     })
     .ok()?;
     [1, 2].iter().map(|node| line(&session, *node)).collect()
@@ -38,7 +42,7 @@ fn exchange(
     let mut packet = [0; 19];
     let length = send(session, &mut packet)?;
     let mut reply = [0; T + 2];
-    match deliver(rules, nodes, &packet[..length], &mut reply)? {
+    match deliver(rules, nodes, POWER_UP, &packet[..length], &mut reply)? {
         Delivery::Reply(length) => session.report(&reply[..length]),
         Delivery::Silent | Delivery::Collision => session.silence(),
     }

@@ -6,7 +6,10 @@
 //! copied a setting in doubt. A reply with the checksum bit set makes its
 //! command count as unsent." Of a group command "a good clear reply .. confirms
 //! only the leader, if known" (request 4): the one that the group was known to
-//! have when the command was sent.
+//! have when the command was sent. "A Nop to a node at a divisor, with a good clear
+//! reply, makes it known, and demand 3 counts it as confirming" (request 7): such a
+//! Nop is a command that wrote the node's divisor, confirmed; without such a reply it
+//! could have written nothing.
 
 use crate::command::{Command, Place};
 use crate::rules::{Mistake, Rules};
@@ -31,8 +34,8 @@ struct Sent {
 pub struct History {
     rules: Rules,
     sent: Vec<Sent>,
-    /// Whether the command that waits is an ask.
-    asking: bool,
+    /// Whom the command that waits asks after, if it is an ask.
+    asking: Option<Target>,
 }
 
 impl History {
@@ -41,7 +44,7 @@ impl History {
         History {
             rules,
             sent: Vec::new(),
-            asking: false,
+            asking: None,
         }
     }
 
@@ -49,8 +52,8 @@ impl History {
     /// during the walk is an ask, no command of its own: its good clear reply
     /// confirms the Set Address it asks after.
     pub fn send(&mut self, target: Target, command: Command, walking: bool) {
-        self.asking = walking && command == Command::Nop;
-        if !self.asking {
+        self.asking = Some(target).filter(|_| walking && command == Command::Nop);
+        if self.asking.is_none() {
             self.sent.push(Sent {
                 target,
                 command,
@@ -76,7 +79,12 @@ impl History {
             if let Some(last) = self.sent.last_mut() {
                 last.answered = Answered::GoodAndClear;
             }
-        } else if good && !self.asking {
+            self.sent.extend(self.asking.map(|target| Sent {
+                target,
+                command: Command::Nop,
+                answered: Answered::GoodAndClear,
+            }));
+        } else if good && self.asking.is_none() {
             self.sent.pop();
         }
     }
@@ -122,7 +130,17 @@ impl History {
     fn last_writer(&self, time: usize, node: u8, setting: Setting) -> Option<usize> {
         (0..time)
             .rev()
-            .find(|at| writes(self.sent[*at].command, setting) && self.could_write(*at, node))
+            .find(|at| self.writes(&self.sent[*at], setting) && self.could_write(*at, node))
+    }
+
+    /// Whether a command writes a setting, where the node's kind has both: a Nop only
+    /// the divisor, and only where it told of it.
+    fn writes(&self, sent: &Sent, setting: Setting) -> bool {
+        if setting != Setting::Divisor || sent.command != Command::Nop {
+            return writes(sent.command, setting);
+        }
+        let answered = sent.answered == Answered::GoodAndClear && !sent.target.is_group();
+        answered && !self.rules.slips(Mistake::HistoryNopWritesNothing)
     }
 
     /// Whether a command could have written to a node: sent to it, or to a group
@@ -158,11 +176,12 @@ impl History {
     }
 }
 
-/// Whether a command writes a setting, where the node's kind has both.
+/// Whether a command writes a setting by its own data.
 fn writes(command: Command, setting: Setting) -> bool {
     match setting {
         Setting::Place => matches!(command, Command::SetAddress(_)),
         Setting::Mask => matches!(command, Command::DefineStatus(_)),
+        Setting::Divisor => matches!(command, Command::SetBaudRate(_)),
         Setting::Outputs => matches!(command, Command::SetOutputs(_) | Command::SynchOutput),
         Setting::Pwm => matches!(command, Command::SetPwm(_) | Command::SynchOutput),
         Setting::Held => matches!(command, Command::SetSynchOutput(_)),

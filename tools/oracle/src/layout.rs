@@ -13,7 +13,7 @@ use crate::session::{Exchange, Session};
 use crate::settings::{DriveSettings, GateSettings, Own, Settings};
 use crate::target::Target;
 
-/// The bytes of one NODE, behind its KIND.
+/// The bytes of one NODE, behind its KIND and its divisor.
 #[cfg(test)]
 pub fn node_bytes(kind: Kind) -> usize {
     match kind {
@@ -138,8 +138,9 @@ impl<'a> Cursor<'a> {
         (0..n).map(|_| self.kind()).collect()
     }
 
-    /// The settings behind the place, in the order of both NODE and ENTRY.
-    fn settings_at(&mut self, kind: Kind, place: Place) -> Option<Settings> {
+    /// The settings behind the place, in the order of both NODE and ENTRY, in which
+    /// the divisor stands before it.
+    fn settings_at(&mut self, kind: Kind, divisor: u8, place: Place) -> Option<Settings> {
         let mask = self.byte()?;
         let own = match kind {
             Kind::Gate => Own::Gate(GateSettings {
@@ -155,7 +156,12 @@ impl<'a> Cursor<'a> {
                 in_force: self.motion()?,
             }),
         };
-        Some(Settings { place, mask, own })
+        Some(Settings {
+            place,
+            mask,
+            divisor,
+            own,
+        })
     }
 
     fn values(&mut self, kind: Kind) -> Option<Values> {
@@ -186,23 +192,26 @@ impl<'a> Cursor<'a> {
         })
     }
 
-    /// NODE, its KIND first.
+    /// NODE, its KIND and its divisor first.
     pub fn node(&mut self) -> Option<Node> {
         let kind = self.kind()?;
+        let divisor = self.byte()?;
         let place = self.place()?;
         let addressed = self.flag()?;
         Some(Node {
-            settings: self.settings_at(kind, place)?,
+            settings: self.settings_at(kind, divisor, place)?,
             addressed,
             values: self.values(kind)?,
         })
     }
 
-    /// ENTRY, its KIND first: "bits 6 and 7 are 0, else FF", 14 and 15 of a drive's.
+    /// ENTRY, its KIND and its divisor first: "known has bit 6 for the divisor of kind
+    /// 00 (bit 7 is 0), bit 14 of kind 01 (bit 15 is 0)".
     fn entry(&mut self) -> Option<Entry> {
         let kind = self.kind()?;
+        let divisor = self.byte()?;
         let place = self.place()?;
-        let settings = self.settings_at(kind, place)?;
+        let settings = self.settings_at(kind, divisor, place)?;
         let known = match kind {
             Kind::Gate => u16::from(self.byte()?),
             Kind::Drive => self.word()?,
@@ -231,13 +240,18 @@ impl<'a> Cursor<'a> {
         Command::decode(family, byte, data).filter(own)
     }
 
+    /// EXCHANGE, "with the divisor that it was sent at; 1A may wait too, FAMILY 00, kind
+    /// 01 (a group) only, else `FF`".
     fn exchange(&mut self) -> Option<Exchange> {
         if !self.flag()? {
             return Some(Exchange::Idle);
         }
-        Some(Exchange::Waiting {
-            target: self.target()?,
-            command: self.command()?,
+        let (at, target, command) = (self.byte()?, self.target()?, self.command()?);
+        let paces = matches!(command, Command::SetBaudRate(_));
+        (target.is_group() || !paces).then_some(Exchange::Waiting {
+            at,
+            target,
+            command,
         })
     }
 
@@ -331,11 +345,12 @@ fn values(values: &Values) -> Vec<u8> {
     bytes
 }
 
-/// NODE, its KIND first.
+/// NODE, its KIND and its divisor first.
 pub fn node(node: &Node) -> Vec<u8> {
     let place = node.settings.place;
     let mut bytes = vec![
         kind(node.kind()),
+        node.settings.divisor,
         place.address,
         place.group,
         u8::from(place.leader),
@@ -346,11 +361,12 @@ pub fn node(node: &Node) -> Vec<u8> {
     bytes
 }
 
-/// ENTRY, its KIND first.
+/// ENTRY, its KIND and its divisor first.
 fn entry(entry: &Entry) -> Vec<u8> {
     let place = entry.settings.place;
     let mut bytes = vec![
         kind(entry.kind()),
+        entry.settings.divisor,
         place.address,
         place.group,
         u8::from(place.leader),
@@ -379,10 +395,11 @@ fn exchange(exchange: &Exchange) -> Vec<u8> {
     match exchange {
         Exchange::Idle => vec![0],
         Exchange::Waiting {
+            at,
             target: to,
             command: waiting,
         } => {
-            let mut bytes = vec![1];
+            let mut bytes = vec![1, *at];
             bytes.extend(target(*to));
             bytes.extend(command(*waiting));
             bytes

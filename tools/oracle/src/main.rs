@@ -29,7 +29,7 @@ oracle cases-bench [NAME]       the stored bench input, or a further one
 oracle cases-bench list         the names of the further bench inputs
 oracle cases-trials             the stored trials input
 oracle cases-carousels          the stored input of carousels, which answers the
-                                lines that trials does
+                                lines that trials does; cases-divisors
 oracle cases-import [NAME|list] the same for import; cases-export; cases-play;
                                 cases-replay
 oracle manuals                  the packets printed in the manuals, as read
@@ -115,6 +115,7 @@ fn run(words: &[&str]) -> Option<Output> {
         ["cases-bench", name] => further(cases_bench::further_inputs(), name)?,
         ["cases-trials"] => cases::trials(),
         ["cases-carousels"] => cases::carousels(),
+        ["cases-divisors"] => cases::divisors(),
         ["cases-import"] => cases_sheets::import(),
         ["cases-import", name] => further(cases_sheets::further_imports(), name)?,
         ["cases-export"] => cases_sheets::export(),

@@ -27,8 +27,20 @@ pub fn make(seed: u64, lines: usize) -> Vec<u8> {
     let mut prng = Prng::new(seed);
     let (count, mut input) = count_line(&mut prng);
     let mut bench = Bench::new(Rules::RIGHT, usize::from(count));
+    let (before, deaf) = match prng.percent(30) {
+        true => (prng.below(lines.max(1)), true),
+        false => (lines, false),
+    };
     let room = hex::MOST_INPUT - input.len();
-    input.extend(packet_lines(&mut prng, &mut bench, lines, room));
+    input.extend(packet_lines(&mut prng, &mut bench, before, room));
+    // Nodes that are set to another divisor hear no line any more.
+    let line = pace_line(&mut prng, &mut bench);
+    if deaf && input.len() + line.len() <= hex::MOST_INPUT {
+        bench.answer(line.trim_ascii_end());
+        input.extend(line);
+        let room = hex::MOST_INPUT - input.len();
+        input.extend(packet_lines(&mut prng, &mut bench, lines - before, room));
+    }
     if prng.percent(30) {
         input.pop();
     }
@@ -68,6 +80,12 @@ pub fn packet_lines(
         input.push(b'\n');
     }
     input
+}
+
+/// A line with a Set Baud Rate, mostly to a group.
+fn pace_line(prng: &mut Prng, bench: &mut Bench) -> Vec<u8> {
+    let packet = make_packets::pace_packet(prng, &bench.nodes);
+    format!("{}\n", hex::format(&packet)).into_bytes()
 }
 
 /// One line: a packet, now and then malformed or very long.

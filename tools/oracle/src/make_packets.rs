@@ -1,6 +1,7 @@
 //! Seeded packets that tell right nodes from wrong ones.
 
-use crate::command::{Command, Held, Place, COMMAND_BYTES};
+use crate::command::{Command, Held, Place, COMMAND_BYTES, SET_BAUD_RATE};
+use crate::divisor::{listed, POWER_UP};
 use crate::drive::{Gains, Motion, Stop, Value, NO_POSITION};
 use crate::kind::Kind;
 use crate::node::Node;
@@ -97,8 +98,35 @@ fn command_packet(prng: &mut Prng, nodes: &[Node]) -> Vec<u8> {
 /// Any command with any count.
 fn other_packet(prng: &mut Prng, nodes: &[Node]) -> Vec<u8> {
     let count = prng.pick(&[0, 0, 1, 1, 2, 3, 4, 5, MOST_DATA]);
-    let data = prng.telling_bytes(count);
-    whole(address(prng, nodes), prng.between(0, 15), &data)
+    let mut data = prng.telling_bytes(count);
+    let (to, command) = (address(prng, nodes), prng.between(0, 15));
+    if command == SET_BAUD_RATE & 0x0F && to >= 0x80 && count == 1 {
+        data[0] = POWER_UP; // no word of a speed at which nobody is spoken to again
+    }
+    whole(to, command, &data)
+}
+
+/// Set Baud Rate: mostly to somebody's group, else by an individual address, or with
+/// another count.
+pub fn pace_packet(prng: &mut Prng, nodes: &[Node]) -> Vec<u8> {
+    let groups: Vec<u8> = nodes.iter().map(Node::group).collect();
+    let to = match prng.percent(65) && !groups.is_empty() {
+        true => prng.pick(&groups),
+        false => address(prng, nodes),
+    };
+    let count = prng.pick(&[1, 1, 1, 1, 1, 0, 2]);
+    let data: Vec<u8> = (0..count).map(|_| divisor(prng)).collect();
+    whole(to, SET_BAUD_RATE & 0x0F, &data)
+}
+
+/// A divisor: one of the few that stories keep to, one that a gate's manual lists, or
+/// any byte.
+pub fn divisor(prng: &mut Prng) -> u8 {
+    match prng.below(10) {
+        0 => prng.byte(),
+        1..=2 => prng.pick(listed(Kind::Gate)),
+        _ => prng.pick(&[POWER_UP, POWER_UP, 0x0A, 0x14]),
+    }
 }
 
 /// One byte changed, but for header and command byte: form right, sum wrong.
@@ -175,7 +203,7 @@ pub fn group(prng: &mut Prng) -> u8 {
 // ---- Drives -------------------------------------------------------------
 
 /// One of a drive's own commands: mostly acted on, else a value is off its range,
-/// or a count or a byte isn't as it must be.
+/// or a count or a byte isn't as it must be; or a mask with bit 7 set.
 fn drive_packet(prng: &mut Prng, nodes: &[Node]) -> Vec<u8> {
     let to = drive_address(prng, nodes);
     match prng.below(100) {
@@ -185,6 +213,7 @@ fn drive_packet(prng: &mut Prng, nodes: &[Node]) -> Vec<u8> {
             data[9] = prng.between(1, 0xFF);
             return whole(to, 0x6, &data);
         }
+        12..=16 => return whole(to, 0x2, &[prng.telling_byte() | 0x80]), // no reserved bit
         _ => {}
     }
     let command = match prng.percent(25) {

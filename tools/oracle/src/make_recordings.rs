@@ -1,10 +1,10 @@
 //! Seeded recordings: what is heard of demand 3's host over its faulty line,
 //! laid out in time as the host would have it, then some of them spoilt.
 
-use crate::command::COMMAND_BYTES;
+use crate::command::{COMMAND_BYTES, SET_BAUD_RATE};
 use crate::demand3::{self, Heard, Story};
 use crate::kind::{gates, Kind};
-use crate::make_packets::{damage, drive_command, group, misshape, off_range_command};
+use crate::make_packets::{damage, divisor, drive_command, group, misshape, off_range_command};
 use crate::packet::{whole, OVERHEAD};
 use crate::prng::Prng;
 use crate::recording::{Capture, Line, Recording, GAP};
@@ -17,8 +17,9 @@ const STEPS: usize = 500;
 /// A recording of at most so many packets, right or spoilt.
 pub fn recording(prng: &mut Prng, packets: usize) -> Recording {
     match prng.below(100) {
-        0..=39 => right(prng, packets),
-        40..=64 => disturbed(prng, packets),
+        0..=31 => right(prng, packets),
+        32..=41 => paced(prng, packets),
+        42..=64 => disturbed(prng, packets),
         65..=84 => mistimed(prng, packets),
         _ => refused(prng, packets),
     }
@@ -116,6 +117,23 @@ fn put(prng: &mut Prng, capture: &mut Capture, start: u32, bytes: &[u8]) {
 
 // ---- Spoilt -------------------------------------------------------------
 
+/// Ended by a Set Baud Rate, with something behind it.
+fn paced(prng: &mut Prng, packets: usize) -> Recording {
+    let (kinds, mut heard) = story(prng, packets);
+    let node = prng.between(1, kinds.len() as u8);
+    heard.push(Heard::Command(pace(prng, node)));
+    heard.push(Heard::Command(whole(node, 0xE, &[])));
+    laid_out(prng, &kinds, &heard)
+}
+
+/// Set Baud Rate, mostly to a group and with one data byte.
+fn pace(prng: &mut Prng, node: u8) -> Vec<u8> {
+    let to = prng.pick(&[node, 0xFF, 0xFF, 0x80, 0x90]);
+    let count = prng.pick(&[1, 1, 1, 1, 1, 0, 2]);
+    let data: Vec<u8> = (0..count).map(|_| divisor(prng)).collect();
+    whole(to, SET_BAUD_RATE & 0x0F, &data)
+}
+
 /// Replies that nobody waits for, replies missing, commands that the host
 /// couldn't have sent.
 fn disturbed(prng: &mut Prng, packets: usize) -> Recording {
@@ -155,7 +173,8 @@ fn foreign(prng: &mut Prng, nodes: u8, heard: &[Heard]) -> Heard {
         true => whole(0x00, 0x1, &[1, 0xFF]),
         false => own[prng.below(own.len())].clone(),
     };
-    Heard::Command(match prng.below(14) {
+    Heard::Command(match prng.below(15) {
+        14 => pace(prng, node),
         0 | 12 => damage(prng, again),
         1 => some(prng, again),
         2 => whole(0x00, 0x1, &[node, 0xFF]),

@@ -11,7 +11,8 @@ use crate::hex;
 use crate::kind::Kind;
 use crate::layout;
 use crate::make_bench::malform;
-use crate::make_packets::{self, damage, followed, gains, group, kinds, misshape, motion, place};
+use crate::make_packets::{self, damage, divisor, followed, gains, group, kinds};
+use crate::make_packets::{misshape, motion, pace_packet, place};
 use crate::node::{BenchValues, Captured, DriveValues, Node, Values};
 use crate::packet::whole;
 use crate::prng::Prng;
@@ -22,7 +23,7 @@ use crate::trials::{Trials, MOST_RECORDS, MOST_ROOM};
 
 /// First bytes that try nothing.
 const UNKNOWN_KINDS: [u8; 11] = [
-    0x00, 0x0F, 0x13, 0x1F, 0x21, 0x2F, 0x39, 0x44, 0x4F, 0x51, 0xFF,
+    0x00, 0x0F, 0x13, 0x1F, 0x21, 0x2F, 0x3A, 0x44, 0x4F, 0x51, 0xFF,
 ];
 
 /// An input of at most so many lines, within 64 KiB.
@@ -89,10 +90,10 @@ impl Story {
             return self.export_of(&list);
         }
         match self.prng.below(100) {
-            0..=4 => self.build_line(),
-            5..=10 => self.read_line(),
-            11..=14 => self.status_line(),
-            15..=21 => self.delivery_line(),
+            0..=3 => self.build_line(),
+            4..=8 => self.read_line(),
+            9..=12 => self.status_line(),
+            13..=21 => self.delivery_line(),
             22 => vec![self.prng.pick(&UNKNOWN_KINDS), self.prng.byte()],
             23..=27 => self.sheet_line(),
             28..=29 => self.recording_line(),
@@ -174,12 +175,19 @@ impl Story {
 impl Story {
     fn delivery_line(&mut self) -> Vec<u8> {
         let nodes = self.table();
-        let mut packet = make_packets::packet(&mut self.prng, &nodes);
+        let mut packet = match self.prng.percent(14) {
+            true => pace_packet(&mut self.prng, &nodes),
+            false => make_packets::packet(&mut self.prng, &nodes),
+        };
         if self.prng.percent(10) {
             packet = followed(&mut self.prng, packet);
         }
-        let room = self.room(reply_length(&nodes, &packet));
-        let mut line = vec![0x20, room, nodes.len() as u8];
+        let at = match self.prng.percent(90) && !nodes.is_empty() {
+            true => nodes[self.prng.below(nodes.len())].settings.divisor,
+            false => divisor(&mut self.prng),
+        };
+        let room = self.room(reply_length(&nodes, at, &packet));
+        let mut line = vec![0x20, room, at, nodes.len() as u8];
         line.extend(nodes.iter().flat_map(layout::node));
         line.extend(packet);
         line
@@ -198,6 +206,13 @@ impl Story {
         let mut kinds = kinds(&mut self.prng, usize::from(length.min(5)));
         kinds.resize(usize::from(length), Kind::Gate);
         let mut nodes: Vec<Node> = kinds.into_iter().map(|kind| self.node(kind)).collect();
+        let common = divisor(&mut self.prng);
+        let alike = self.prng.pick(&[70, 100, 100]);
+        for node in &mut nodes {
+            if self.prng.percent(alike) {
+                node.settings.divisor = common;
+            }
+        }
         for (index, node) in nodes.iter_mut().enumerate() {
             node.addressed = index < usize::from(addressed);
             node.settings.place.address = if node.addressed { index as u8 + 1 } else { 0 };
@@ -297,6 +312,7 @@ impl Story {
         Settings {
             place: place(&mut self.prng),
             mask: self.prng.telling_byte(),
+            divisor: divisor(&mut self.prng),
             own,
         }
     }
@@ -311,10 +327,10 @@ impl Story {
 }
 
 /// How long the reply will be, given all the room there is.
-fn reply_length(nodes: &[Node], packet: &[u8]) -> usize {
+fn reply_length(nodes: &[Node], at: u8, packet: &[u8]) -> usize {
     let mut nodes = nodes.to_vec();
     let mut buffer = [0; MOST_ROOM as usize];
-    match deliver(Rules::RIGHT, &mut nodes, packet, &mut buffer) {
+    match deliver(Rules::RIGHT, &mut nodes, at, packet, &mut buffer) {
         Ok(Delivery::Reply(length)) => length,
         _ => 2,
     }

@@ -2,10 +2,10 @@
 //! is printed. 003 prints none: its lines `HEX 1 05`, as those of 000 and 001,
 //! are input of an interpreter, which adds header and sum.
 
-use crate::command::Command;
+use crate::command::{Command, SET_BAUD_RATE};
 use crate::hex;
 use crate::kind::Kind;
-use crate::packet;
+use crate::packet::{self, whole};
 use crate::replay::words::name_and_data;
 use crate::rules::Rules;
 use crate::status;
@@ -232,6 +232,40 @@ pub const PRINTED_STATUS: &[PrintedStatus] = &[
     status("002", "Status Data, Examples: four bytes asked for", 0x10, "09 00 28 00 00 31"),
 ];
 
+/// A row of the table of divisors that a manual prints under Set Baud Rate: no manual
+/// prints a packet of it.
+pub struct PrintedDivisor {
+    pub document: &'static str,
+    pub baud_rate: u32,
+    pub divisor: u8,
+}
+
+const fn listed(document: &'static str, baud_rate: u32, divisor: u8) -> PrintedDivisor {
+    PrintedDivisor {
+        document,
+        baud_rate,
+        divisor,
+    }
+}
+
+/// The tables of the two manuals that decide: 000 the LS-173AP's, 001 the LS-773's. 003
+/// and 004 print that of 000, 002 that of 001.
+#[rustfmt::skip]
+pub const PRINTED_DIVISORS: &[PrintedDivisor] = &[
+    listed("000", 9600, 0x81),
+    listed("000", 19200, 0x3F),
+    listed("000", 57600, 0x14),
+    listed("000", 115200, 0x0A),
+    listed("001", 9600, 0x81),
+    listed("001", 19200, 0x3F),
+    listed("001", 57600, 0x14),
+    listed("001", 115200, 0x0A),
+    listed("001", 125000, 0x27),
+    listed("001", 312500, 0x0F),
+    listed("001", 625000, 0x07),
+    listed("001", 1250000, 0x03),
+];
+
 impl PrintedStatus {
     /// The kind of node that the document is of: 000 is the LS-173AP's, all others
     /// are taken for an LS-773's.
@@ -318,6 +352,16 @@ pub fn list() -> String {
             packet.section,
             packet.bytes,
             status_reading(packet)
+        );
+    }
+    for row in PRINTED_DIVISORS {
+        let set = whole(0xFF, SET_BAUD_RATE & 0x0F, &[row.divisor]);
+        text += &format!(
+            "{} | Set Baud Rate, {} | {:02X} | to group FF: {}\n",
+            row.document,
+            row.baud_rate,
+            row.divisor,
+            hex::format(&set)
         );
     }
     text

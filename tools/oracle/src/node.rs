@@ -203,13 +203,27 @@ impl Node {
 
     /// The command that it takes a packet for: each node reads it by its
     /// kind. None for others, and for what is "replied to as a Nop is and not acted
-    /// on" since a value is off its range (request 6).
+    /// on" since a value is off its range (request 6), or since it is a Set Baud Rate
+    /// that didn't come to its group (request 7).
     pub fn understand(&self, rules: Rules, packet: &Packet) -> Option<Command> {
         if let Some(command) = misunderstood(rules, self.kind(), packet) {
             return Some(command);
         }
         Command::decode(self.kind(), packet.command_byte, packet.data)
             .filter(|command| command.is_in_range(rules))
+            .filter(|command| self.is_paced(rules, packet.address, *command))
+    }
+
+    /// "A node acts on it only when it came to its group, and keeps any divisor
+    /// sent"; of every other command, whether it came so or not.
+    fn is_paced(&self, rules: Rules, address: u8, command: Command) -> bool {
+        match command {
+            Command::SetBaudRate(divisor) => {
+                let to_group = address == self.group();
+                mistaken::is_paced(rules, self.kind(), to_group, divisor)
+            }
+            _ => true,
+        }
     }
 
     /// The node once it has acted on a packet meant for it. "Wrong sum:

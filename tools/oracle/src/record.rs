@@ -54,6 +54,12 @@ impl Entry {
         self.known &= !setting.bit(self.kind());
     }
 
+    /// The divisor, as a Nop's good clear reply tells it.
+    pub fn learn_divisor(&mut self, divisor: u8) {
+        self.settings.divisor = divisor;
+        self.known |= Setting::Divisor.bit(self.kind());
+    }
+
     /// Takes over one setting, known and new.
     fn learn(&mut self, setting: Setting, new: &Settings) {
         self.settings.take(setting, new);
@@ -69,6 +75,7 @@ pub fn written_by(kind: Kind, command: Command) -> Vec<Setting> {
         _ if !command.is_of(kind) => Vec::new(),
         Command::SetAddress(_) => vec![Setting::Place],
         Command::DefineStatus(_) => vec![Setting::Mask],
+        Command::SetBaudRate(_) => vec![Setting::Divisor],
         Command::HardReset => Setting::all(kind).to_vec(),
         Command::SetPwm(_) => vec![Setting::Pwm],
         Command::SynchOutput => vec![Setting::Outputs, Setting::Pwm],

@@ -1,5 +1,5 @@
 //! "Numbers returned": the one table of numbers that every call answers with,
-//! and those that requests 1, 3 and 6 add.
+//! and those that requests 1, 3, 6 and 7 add.
 
 /// A call was done; also the number of a chain that stayed silent.
 pub const DONE: u8 = 0;
@@ -39,6 +39,8 @@ refusals! {
     CountsDiffer = 15,
     TimeFalls = 16,
     KindLacks = 17,
+    Divisor = 18,
+    Paced = 19,
 }
 
 impl Refusal {

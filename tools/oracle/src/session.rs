@@ -4,6 +4,7 @@
 mod reporting;
 
 use crate::command::{Command, Place};
+use crate::divisor;
 use crate::kind::Kind;
 use crate::packet::{self, OVERHEAD};
 use crate::record::Entry;
@@ -22,11 +23,16 @@ const DEFAULT_GROUP: u8 = 0xFF;
 /// The address at which a node waits for its Set Address.
 const UNADDRESSED: u8 = 0x00;
 
-/// "The open exchange holds the command that waits."
+/// "The open exchange holds the command that waits", with the divisor that it was
+/// sent at.
 #[derive(Clone, Copy, Debug, PartialEq, Eq)]
 pub enum Exchange {
     Idle,
-    Waiting { target: Target, command: Command },
+    Waiting {
+        at: u8,
+        target: Target,
+        command: Command,
+    },
 }
 
 /// A host session, as it can also be handed in by hand.
@@ -38,6 +44,8 @@ pub struct Session {
     pub walk: u8,
     pub exchange: Exchange,
     pub entries: [Entry; MOST_NODES as usize],
+    /// The divisor that was set last: only a mistaken host keeps it.
+    pub set: Option<u8>,
 }
 
 impl Session {
@@ -50,6 +58,7 @@ impl Session {
             walk: 0,
             exchange: Exchange::Idle,
             entries: [Entry::power_up(rules, Kind::Gate); MOST_NODES as usize],
+            set: None,
         }
     }
 
@@ -80,43 +89,49 @@ impl Session {
     }
 
     /// "Next" sends Set Address to 0x00 with the next address.
-    pub fn next(&mut self, buffer: &mut [u8]) -> Result<usize, Refusal> {
-        self.require_idle()?;
+    pub fn next(&mut self, at: u8, buffer: &mut [u8]) -> Result<usize, Refusal> {
+        self.require_idle_for_walk(at)?;
         require(self.next_is_due(), Refusal::NotDue)?;
-        let node = self.walk + 1;
-        self.send(UNADDRESSED, Target::Node(node), walk_command(node), buffer)
+        self.later_divisors(Mistake::DivisorAfterWalk, at, None)?;
+        let target = Target::Node(self.walk + 1);
+        let command = walk_command(self.walk + 1);
+        self.send(at, UNADDRESSED, (target, command), buffer)
     }
 
     /// "Ask": a Nop to the new address, due only after an unconfirmed one.
-    pub fn ask(&mut self, buffer: &mut [u8]) -> Result<usize, Refusal> {
-        self.require_idle()?;
+    pub fn ask(&mut self, at: u8, buffer: &mut [u8]) -> Result<usize, Refusal> {
+        self.require_idle_for_walk(at)?;
         let anytime = self.rules.slips(Mistake::AskAnytime) && self.walks();
         require(self.ask_is_due() || anytime, Refusal::NotDue)?;
+        self.later_divisors(Mistake::DivisorAfterWalk, at, None)?;
         let node = self.walk + 1;
-        self.send(node, Target::Node(node), Command::Nop, buffer)
+        self.send(at, node, (Target::Node(node), Command::Nop), buffer)
     }
 
     /// One of the fifteen commands of a ready session, to a node or a group. Set
-    /// Address is not among them: 6. Values off their ranges are 6, too, whomever
-    /// they are for: "the host refuses it with 6" (request 6).
+    /// Address and Set Baud Rate are not among them: 6. Values off their ranges are 6,
+    /// too, whomever they are for: "the host refuses it with 6" (request 6).
     pub fn command(
         &mut self,
+        at: u8,
         target: Target,
         command: Command,
         buffer: &mut [u8],
     ) -> Result<usize, Refusal> {
         self.slip_into_range_check(target)?;
         self.mistake_range_at(Mistake::ValuesBeforeOpen, command)?;
-        self.require_idle()?;
+        self.require_idle_at(at, None)?;
         if let (Target::Node(node), true) = (target, self.rules.slips(Mistake::NodeBeforeRange)) {
             self.require_node(node)?;
         }
         self.mistake_kind_before_node(target, command)?;
         self.require_range(command)?;
-        match target {
-            Target::Group(group) => require(group >= 0x80, Refusal::OffRange)?,
-            Target::Node(node) => self.require_node(node)?,
+        self.require_group(target)?;
+        self.require_divisors(at, None, &LATER)?;
+        if let Target::Node(node) = target {
+            self.require_node(node)?;
         }
+        self.later_divisors(Mistake::DivisorAfterNode, at, None)?;
         self.mistake_range_at(Mistake::ValuesAfterNode, command)?;
         if self.rules.slips(Mistake::WalkBeforeKind) {
             self.require_walk_ended()?;
@@ -124,9 +139,10 @@ impl Session {
         self.require_kinds(target, command)?;
         self.mistake_range_at(Mistake::ValuesAfterKind, command)?;
         self.require_walk_ended()?;
-        let length = self.send(target.address(), target, command, buffer)?;
+        self.later_divisors(Mistake::DivisorAfterWalk, at, None)?;
+        let length = self.send(at, target.address(), (target, command), buffer)?;
         if command == Command::HardReset {
-            self.hard_reset(target);
+            self.hard_reset(at, target);
         }
         Ok(length)
     }
@@ -135,19 +151,23 @@ impl Session {
     /// wish."
     pub fn regroup(
         &mut self,
+        at: u8,
         node: u8,
         group: u8,
         leader: bool,
         buffer: &mut [u8],
     ) -> Result<usize, Refusal> {
         self.slip_into_range_check(Target::Group(group))?;
-        self.require_idle()?;
+        self.require_idle_at(at, None)?;
         if self.rules.slips(Mistake::NodeBeforeRange) {
             self.require_node(node)?;
         }
-        require(group >= 0x80, Refusal::OffRange)?;
+        self.require_group(Target::Group(group))?;
+        self.require_divisors(at, None, &LATER)?;
         self.require_node(node)?;
+        self.later_divisors(Mistake::DivisorAfterNode, at, None)?;
         self.require_walk_ended()?;
+        self.later_divisors(Mistake::DivisorAfterWalk, at, None)?;
         if self.rules.slips(Mistake::RoomBeforeLeader) {
             require(buffer.len() >= 6, Refusal::NoRoom)?;
         }
@@ -161,7 +181,38 @@ impl Session {
             group,
             leader: leader && !self.rules.slips(Mistake::LeaderWishSentAsMember),
         };
-        self.send(node, Target::Node(node), Command::SetAddress(place), buffer)
+        let command = Command::SetAddress(place);
+        self.send(at, node, (Target::Node(node), command), buffer)
+    }
+
+    /// "Bring in Set Baud Rate .. set only by group" (request 7).
+    pub fn set_baud_rate(
+        &mut self,
+        at: u8,
+        group: u8,
+        divisor: u8,
+        buffer: &mut [u8],
+    ) -> Result<usize, Refusal> {
+        let target = Target::Group(group);
+        self.slip_into_range_check(target)?;
+        self.require_idle_at(at, Some(divisor))?;
+        self.require_group(target)?;
+        let later = [Mistake::DivisorAfterWalk, Mistake::DivisorAfterPaced];
+        self.require_divisors(at, Some(divisor), &later)?;
+        if self.rules.slips(Mistake::PacedBeforeWalk) {
+            require(self.may_be_paced(group), Refusal::Paced)?;
+        }
+        self.require_walk_ended()?;
+        self.later_divisors(Mistake::DivisorAfterWalk, at, Some(divisor))?;
+        if self.rules.slips(Mistake::RoomBeforePaced) {
+            require(buffer.len() > OVERHEAD, Refusal::NoRoom)?;
+        }
+        require(self.may_be_paced(group), Refusal::Paced)?;
+        self.later_divisors(Mistake::DivisorAfterPaced, at, Some(divisor))?;
+        let command = Command::SetBaudRate(divisor);
+        let length = self.send(at, group, (target, command), buffer)?;
+        self.set = Some(divisor).filter(|_| self.rules.slips(Mistake::NopConfirmsPace));
+        Ok(length)
     }
 
     /// What the record has of a node 1 to n, whether the session counts as
@@ -223,6 +274,64 @@ impl Session {
         require(!self.waits(), Refusal::ExchangeOpen)
     }
 
+    /// 12 and 7 of "next" and "ask", and 18 right behind them: they take no argument
+    /// that could be off its range.
+    fn require_idle_for_walk(&self, at: u8) -> Result<(), Refusal> {
+        self.require_idle_at(at, None)?;
+        if self.rules.slips(Mistake::WalkAtPowerUpsAlone) {
+            require(at == divisor::POWER_UP, Refusal::Divisor)?;
+        }
+        self.require_divisors(at, None, &[Mistake::DivisorAfterWalk])
+    }
+
+    /// 12 and 7, with 18 before or between them and 6 for a mistaken host.
+    fn require_idle_at(&self, at: u8, set: Option<u8>) -> Result<(), Refusal> {
+        self.later_divisors(Mistake::DivisorBeforeOpen, at, set)?;
+        self.require_idle()?;
+        self.later_divisors(Mistake::DivisorBeforeRange, at, set)
+    }
+
+    /// 6: group below 0x80.
+    fn require_group(&self, target: Target) -> Result<(), Refusal> {
+        match target {
+            Target::Group(group) => require(group >= 0x80, Refusal::OffRange),
+            Target::Node(_) => Ok(()),
+        }
+    }
+
+    /// 18, "right after 6": any other divisor than those listed for the chain, to be
+    /// sent at or to be set. A mistaken host that looks for it later passes here.
+    fn require_divisors(&self, at: u8, set: Option<u8>, later: &[Mistake]) -> Result<(), Refusal> {
+        let passed = later.iter().any(|place| self.rules.slips(*place));
+        require(passed || self.lists_all(at, set), Refusal::Divisor)
+    }
+
+    fn lists_all(&self, at: u8, set: Option<u8>) -> bool {
+        let slips = |mistake| self.rules.slips(mistake);
+        let kinds = self.kinds_on_chain();
+        let lists = |divisor| divisor::is_listed(self.rules, &kinds, divisor);
+        let sent = lists(at) || slips(Mistake::SentAtAny);
+        let set = set.is_none_or(lists) || slips(Mistake::AnySet);
+        sent && set
+    }
+
+    /// The kinds of nodes 1 to n.
+    fn kinds_on_chain(&self) -> Vec<Kind> {
+        let beyond = self.rules.slips(Mistake::KindsBeyondListed);
+        let n = if beyond { MOST_NODES } else { self.n };
+        let nodes = self.entries.iter().take(usize::from(n));
+        nodes.map(Entry::kind).collect()
+    }
+
+    /// Whether 19 isn't due: "Set Baud Rate to a group that a known member leads, or
+    /// while any place is in doubt".
+    fn may_be_paced(&self, group: u8) -> bool {
+        let nodes = self.entries.iter().take(usize::from(self.n));
+        let led = nodes.clone().any(|entry| entry.leads(group));
+        let in_doubt = nodes.clone().any(|entry| !entry.knows(Setting::Place));
+        self.slipped_pace(!led && !in_doubt, group)
+    }
+
     /// 10: node not 1 to n.
     fn require_node(&self, node: u8) -> Result<(), Refusal> {
         if self.rules.slips(Mistake::WalkBeforeNode) {
@@ -240,11 +349,15 @@ impl Session {
         require(!refused, Refusal::KindLacks)
     }
 
-    /// 6: a Set Address, which isn't ordered so, or a value off its range.
+    /// 6: a Set Address or a Set Baud Rate, which aren't ordered so, or a value off its
+    /// range.
     fn require_range(&self, command: Command) -> Result<(), Refusal> {
         let slips = |mistake| self.rules.slips(mistake);
-        let ordered =
-            !matches!(command, Command::SetAddress(_)) || slips(Mistake::SetAddressOrdered);
+        let ordered = match command {
+            Command::SetAddress(_) => slips(Mistake::SetAddressOrdered),
+            Command::SetBaudRate(_) => slips(Mistake::PaceOrdered),
+            _ => true,
+        };
         let passed_over = slips(Mistake::OffRangeSent)
             || slips(Mistake::ValuesAfterNode)
             || slips(Mistake::ValuesAfterKind);
@@ -291,28 +404,40 @@ impl Session {
     /// the exchange.
     fn send(
         &mut self,
+        at: u8,
         address: u8,
-        target: Target,
-        command: Command,
+        (target, command): (Target, Command),
         buffer: &mut [u8],
     ) -> Result<usize, Refusal> {
         let nibble = command.nibble();
         let length = packet::build(self.rules, buffer, address, nibble, &command.data())?;
-        self.exchange = Exchange::Waiting { target, command };
+        let at = match self.rules.slips(Mistake::WaitsAtPowerUps) {
+            true => divisor::POWER_UP,
+            false => at,
+        };
+        self.exchange = Exchange::Waiting {
+            at,
+            target,
+            command,
+        };
         Ok(length)
     }
 
     /// "Hard Reset closes the session and puts all settings in doubt", and
     /// it opens no exchange.
-    fn hard_reset(&mut self, target: Target) {
+    fn hard_reset(&mut self, at: u8, target: Target) {
         if !self.rules.slips(Mistake::ResetWaits) {
             self.exchange = Exchange::Idle;
         }
         self.open = self.rules.slips(Mistake::ResetKeepsSession);
         if self.rules.slips(Mistake::ResetDoubtsTarget) {
-            self.doubt(target, Command::HardReset);
+            self.doubt(at, target, Command::HardReset);
         } else if !self.rules.slips(Mistake::ResetKeepsKnown) {
-            self.entries.iter_mut().for_each(|entry| entry.known = 0);
+            let kept = self.rules.slips(Mistake::ResetKeepsDivisors);
+            for entry in &mut self.entries {
+                let divisor = Setting::Divisor.bit(entry.kind());
+                entry.known &= if kept { divisor } else { 0 };
+            }
         }
         if self.rules.slips(Mistake::ResetChangesKinds) {
             self.entries = Session::fresh(self.rules).entries;
@@ -323,7 +448,47 @@ impl Session {
 
 // ---- Mistakes alone ----------------------------------------------------
 
+/// Where a mistaken host looks for 18 later than it should.
+const LATER: [Mistake; 2] = [Mistake::DivisorAfterNode, Mistake::DivisorAfterWalk];
+
 impl Session {
+    /// 18, where a mistaken host looks for it.
+    fn later_divisors(&self, place: Mistake, at: u8, set: Option<u8>) -> Result<(), Refusal> {
+        let asked = self.rules.slips(place);
+        require(!asked || self.lists_all(at, set), Refusal::Divisor)
+    }
+
+    /// Whether a mistaken host sends a Set Baud Rate to a group.
+    fn slipped_pace(&self, may: bool, group: u8) -> bool {
+        let slips = |mistake| self.rules.slips(mistake);
+        let beyond = slips(Mistake::PacedByEntriesBeyond);
+        let n = if beyond { MOST_NODES } else { self.n };
+        let nodes = self.entries.iter().take(usize::from(n));
+        let led = nodes.clone().any(|entry| entry.leads(group));
+        let in_doubt = |entry: &&Entry| !entry.knows(Setting::Place);
+        let mut doubtful = nodes.clone().filter(in_doubt);
+        if slips(Mistake::PacedUnheeded) {
+            return true;
+        }
+        if slips(Mistake::PacedByLeadersAlone) {
+            return !led;
+        }
+        if slips(Mistake::PacedByDoubtAlone) {
+            return doubtful.next().is_none();
+        }
+        if slips(Mistake::PacedByDoubtInside) {
+            return !led && !doubtful.any(|entry| entry.settings.place.group == group);
+        }
+        if slips(Mistake::PacedByAnyLeader) {
+            let leads = |entry: &Entry| entry.settings.place.leader;
+            return may && !nodes.clone().any(leads);
+        }
+        if beyond {
+            return !led && doubtful.next().is_none();
+        }
+        may
+    }
+
     /// The kinds beyond n, as a mistaken power-up leaves them.
     fn mistake_kinds_beyond(&self, new: &mut Session) {
         if self.rules.slips(Mistake::KindsBeyondKept) {

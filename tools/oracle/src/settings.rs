@@ -1,7 +1,8 @@
-//! The settings of a node, as it holds them and as the host records them: place
-//! and status mask, and those that its kind alone has.
+//! The settings of a node, as it holds them and as the host records them: place,
+//! status mask and divisor, and those that its kind alone has.
 
 use crate::command::{Command, Held, Place};
+use crate::divisor;
 use crate::drive::{Gains, Motion, Stop, Value};
 use crate::kind::Kind;
 use crate::rules::{Mistake, Rules};
@@ -19,22 +20,24 @@ pub enum Setting {
     Stop,
     Waiting(Value),
     InForce(Value),
+    Divisor,
 }
 
-/// The six of an LS-773.
-const OF_GATE: [Setting; 6] = [
+/// The seven of an LS-773, the divisor last, as its bit is.
+const OF_GATE: [Setting; 7] = [
     Setting::Place,
     Setting::Mask,
     Setting::Outputs,
     Setting::Pwm,
     Setting::Held,
     Setting::TimerMode,
+    Setting::Divisor,
 ];
 
-/// The fourteen of an LS-173AP: "gains, stop byte and, each a setting by itself in
+/// The fifteen of an LS-173AP: "gains, stop byte and, each a setting by itself in
 /// waiting and in force, control byte, position, velocity, acceleration and PWM
-/// value" (request 6).
-const OF_DRIVE: [Setting; 14] = [
+/// value" (request 6); and the divisor.
+const OF_DRIVE: [Setting; 15] = [
     Setting::Place,
     Setting::Mask,
     Setting::Gains,
@@ -49,6 +52,7 @@ const OF_DRIVE: [Setting; 14] = [
     Setting::InForce(Value::Velocity),
     Setting::InForce(Value::Acceleration),
     Setting::InForce(Value::Pwm),
+    Setting::Divisor,
 ];
 
 impl Setting {
@@ -96,6 +100,7 @@ pub enum Own {
 pub struct Settings {
     pub place: Place,
     pub mask: u8,
+    pub divisor: u8,
     pub own: Own,
 }
 
@@ -189,11 +194,16 @@ impl Own {
 }
 
 impl Settings {
-    /// "Address 0x00, group 0xFF, no leader, .. all else 0", but for SR.
+    /// "Address 0x00, group 0xFF, no leader, .. all else 0", but for SR and the
+    /// divisor.
     pub fn power_up(rules: Rules, kind: Kind) -> Settings {
         Settings {
             place: Place::POWER_UP,
             mask: 0,
+            divisor: match rules.slips(Mistake::Divisor0AtPowerUp) {
+                true => 0,
+                false => divisor::POWER_UP,
+            },
             own: Own::power_up(rules, kind),
         }
     }
@@ -212,6 +222,7 @@ impl Settings {
         match command {
             Command::SetAddress(place) => new.place = place,
             Command::DefineStatus(mask) => new.mask = mask,
+            Command::SetBaudRate(divisor) => new.divisor = divisor,
             Command::HardReset => new = Settings::power_up(rules, self.kind()),
             _ => match &mut new.own {
                 Own::Gate(gate) => gate.act(command),
@@ -226,6 +237,7 @@ impl Settings {
         match (setting, &mut self.own, &from.own) {
             (Setting::Place, ..) => self.place = from.place,
             (Setting::Mask, ..) => self.mask = from.mask,
+            (Setting::Divisor, ..) => self.divisor = from.divisor,
             (setting, Own::Gate(gate), Own::Gate(from)) => gate.take(setting, from),
             (setting, Own::Drive(drive), Own::Drive(from)) => drive.take(setting, from),
             _ => {}

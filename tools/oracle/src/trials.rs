@@ -76,6 +76,7 @@ impl Trials {
             0x36 => self.silence(line),
             0x37 => self.show(line),
             0x38 => self.hand_in(line),
+            0x39 => self.set_baud_rate(line),
             0x40 => sheets::import(self.rules, line),
             0x41 => sheets::export(self.rules, line),
             0x42 => sheets::long_import(self.rules, line),
@@ -118,11 +119,12 @@ impl Trials {
 impl Trials {
     fn deliver(&self, mut line: Cursor) -> Option<Vec<u8>> {
         let mut buffer = room(&mut line)?;
+        let at = line.byte()?;
         let count = line.byte().filter(|count| *count <= MOST_RECORDS)?;
         let mut nodes = (0..count)
             .map(|_| line.node())
             .collect::<Option<Vec<Node>>>()?;
-        let result = deliver(self.rules, &mut nodes, line.rest(), &mut buffer);
+        let result = deliver(self.rules, &mut nodes, at, line.rest(), &mut buffer);
         let (number, length) = match result {
             Ok(Delivery::Silent) => (DONE, 0),
             Ok(Delivery::Reply(length)) => (DONE, length as u8),
@@ -146,34 +148,42 @@ impl Trials {
     }
 
     fn next(&mut self, mut line: Cursor) -> Option<Vec<u8>> {
-        let mut buffer = room(&mut line)?;
+        let (mut buffer, at) = (room(&mut line)?, line.byte()?);
         line.end()?;
-        Some(with_buffer(self.session.next(&mut buffer), &buffer))
+        Some(with_buffer(self.session.next(at, &mut buffer), &buffer))
     }
 
     fn ask(&mut self, mut line: Cursor) -> Option<Vec<u8>> {
-        let mut buffer = room(&mut line)?;
+        let (mut buffer, at) = (room(&mut line)?, line.byte()?);
         line.end()?;
-        Some(with_buffer(self.session.ask(&mut buffer), &buffer))
+        Some(with_buffer(self.session.ask(at, &mut buffer), &buffer))
     }
 
-    /// Only the fifteen commands that a ready session takes.
+    /// Only the fifteen commands that a ready session takes: "33 never takes 1A".
     fn command(&mut self, mut line: Cursor) -> Option<Vec<u8>> {
-        let mut buffer = room(&mut line)?;
+        let (mut buffer, at) = (room(&mut line)?, line.byte()?);
         let target = line.target()?;
-        let command = line
-            .command()
-            .filter(|command| !matches!(command, Command::SetAddress(_)))?;
+        let command = line.command().filter(|command| {
+            !matches!(command, Command::SetAddress(_) | Command::SetBaudRate(_))
+        })?;
         line.end()?;
-        let sent = self.session.command(target, command, &mut buffer);
+        let sent = self.session.command(at, target, command, &mut buffer);
         Some(with_buffer(sent, &buffer))
     }
 
     fn regroup(&mut self, mut line: Cursor) -> Option<Vec<u8>> {
-        let mut buffer = room(&mut line)?;
+        let (mut buffer, at) = (room(&mut line)?, line.byte()?);
         let (node, group, leader) = (line.byte()?, line.byte()?, line.flag()?);
         line.end()?;
-        let sent = self.session.regroup(node, group, leader, &mut buffer);
+        let sent = self.session.regroup(at, node, group, leader, &mut buffer);
+        Some(with_buffer(sent, &buffer))
+    }
+
+    fn set_baud_rate(&mut self, mut line: Cursor) -> Option<Vec<u8>> {
+        let (mut buffer, at) = (room(&mut line)?, line.byte()?);
+        let (group, divisor) = (line.byte()?, line.byte()?);
+        line.end()?;
+        let sent = self.session.set_baud_rate(at, group, divisor, &mut buffer);
         Some(with_buffer(sent, &buffer))
     }
 
@@ -197,7 +207,7 @@ impl Trials {
 
 /// Recordings.
 impl Trials {
-    /// "The session of `30` to `38` isn't touched."
+    /// "The session of `30` to `38`", and to `39`, "isn't touched".
     fn walk(&mut self, line: Cursor) -> Option<Vec<u8>> {
         let recording = recordings::read(self.rules, line)?;
         let walked = recording::walk(self.rules, &recording);

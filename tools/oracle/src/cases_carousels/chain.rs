@@ -3,12 +3,13 @@
 use crate::case::{damaged, packet, Case};
 use crate::cases_trials::chain::{addressed, deliver, record, showing, waiting};
 use crate::command::Place;
+use crate::divisor::POWER_UP;
 use crate::drive::{Gains, Motion};
 use crate::node::{DriveValues, Node, Values};
 use crate::settings::{DriveSettings, Own, Settings};
 
 /// A drive whose every byte tells where it comes from.
-fn drive(address: u8, group: u8, leader: bool) -> Node {
+pub fn drive(address: u8, group: u8, leader: bool) -> Node {
     Node {
         settings: Settings {
             place: Place {
@@ -17,6 +18,7 @@ fn drive(address: u8, group: u8, leader: bool) -> Node {
                 leader,
             },
             mask: 0,
+            divisor: POWER_UP,
             own: Own::Drive(DriveSettings {
                 gains: Gains {
                     kp: 0x1211,

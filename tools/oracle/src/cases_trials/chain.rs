@@ -2,6 +2,7 @@
 
 use crate::case::{damaged, of_count, packet, Case};
 use crate::command::{Held, Place};
+use crate::divisor::POWER_UP;
 use crate::hex;
 use crate::layout;
 use crate::node::{BenchValues, Captured, Node, Values};
@@ -17,6 +18,7 @@ pub fn record(address: u8, group: u8, leader: bool, addressed: bool) -> Node {
                 leader,
             },
             mask: 0,
+            divisor: POWER_UP,
             own: Own::Gate(GateSettings {
                 outputs: 0x9291,
                 pwm: [0x31, 0x32],
@@ -61,9 +63,14 @@ pub fn waiting() -> Node {
     record(0x00, 0xFF, false, false)
 }
 
-/// A delivery's line.
+/// A delivery's line, at 0x3F.
 pub fn deliver(room: u8, nodes: &[Node], packet: &str) -> String {
-    let mut bytes = vec![0x20, room, nodes.len() as u8];
+    deliver_at(POWER_UP, room, nodes, packet)
+}
+
+/// A delivery's line, at a divisor.
+pub fn deliver_at(at: u8, room: u8, nodes: &[Node], packet: &str) -> String {
+    let mut bytes = vec![0x20, room, at, nodes.len() as u8];
     bytes.extend(nodes.iter().flat_map(layout::node));
     format!("{} {packet}", hex::format(&bytes))
         .trim_end()

@@ -3,6 +3,7 @@
 use super::story;
 use crate::case::Case;
 use crate::command::{Command, Place};
+use crate::divisor::POWER_UP;
 use crate::hex;
 use crate::layout;
 use crate::rules::Rules;
@@ -18,7 +19,7 @@ fn power_up(n: u8) -> String {
 fn ready(n: u8) -> Vec<String> {
     let mut lines = vec![power_up(n)];
     for _ in 0..n {
-        lines.extend(story("31 06; 35 00 00"));
+        lines.extend(story("31 06 3F; 35 00 00"));
     }
     lines
 }
@@ -34,31 +35,31 @@ pub fn document_records() -> Vec<Case> {
         when_ready(
             "document 01: outputs silent, then sent again",
             2,
-            "33 06 00 02 00 26 05 00; 36; 37; 33 06 00 02 00 26 05 00; 35 00 00; 37",
+            "33 06 3F 00 02 00 26 05 00; 36; 37; 33 06 3F 00 02 00 26 05 00; 35 00 00; 37",
         ),
         when_ready(
             "document 01: reply 02 02",
             2,
-            "33 06 00 02 00 26 05 00; 35 02 02; 37",
+            "33 06 3F 00 02 00 26 05 00; 35 02 02; 37",
         ),
         when_ready(
             "document 01: reply 02 03",
             2,
-            "33 06 00 02 00 26 05 00; 35 02 03; 37",
+            "33 06 3F 00 02 00 26 05 00; 35 02 03; 37",
         ),
         when_ready(
             "document 01: held set silent, then Synch Output",
             2,
-            "33 08 00 02 00 47 07 01 80 AA; 36; 37; 33 04 00 02 00 05; 35 00 00; 37",
+            "33 08 3F 00 02 00 47 07 01 80 AA; 36; 37; 33 04 3F 00 02 00 05; 35 00 00; 37",
         ),
         when_ready(
             "document 01: node 1 leads 0x80",
             2,
-            "34 06 01 80 01; 35 00 00; 34 06 02 80 01; 34 06 02 80 00; 35 00 00; 37",
+            "34 06 3F 01 80 01; 35 00 00; 34 06 3F 02 80 01; 34 06 3F 02 80 00; 35 00 00; 37",
         ),
         Case::new(
             "document 01: first next silent",
-            story("30 02 00 00; 31 06; 36; 37; 31 06; 32 04; 35 00 00; 37"),
+            story("30 02 00 00; 31 06 3F; 36; 37; 31 06 3F; 32 04 3F; 35 00 00; 37"),
         ),
     ]
 }
@@ -78,15 +79,15 @@ fn walk_cases() -> Vec<Case> {
         Case::new(
             "walk: marked replies and asks",
             story(
-                "30 03 00 00 00; 32 04; 31 06; 35 02 02; 37; 32 04; 31 06; 35 00 01; 31 06; 32 04; 36; \
-             32 04; 35 02 02; 31 06; 37; 32 04; 35 00 00; 37; 31 06; 35 FD FD; 32 04; 31 06; \
-             35 00 00; 31 06; 32 04; 37",
+                "30 03 00 00 00; 32 04 3F; 31 06 3F; 35 02 02; 37; 32 04 3F; 31 06 3F; 35 00 01; 31 06 3F; 32 04 3F; 36; \
+             32 04 3F; 35 02 02; 31 06 3F; 37; 32 04 3F; 35 00 00; 37; 31 06 3F; 35 FD FD; 32 04 3F; 31 06 3F; \
+             35 00 00; 31 06 3F; 32 04 3F; 37",
             ),
         ),
         Case::new("walk: 31 nodes", ready(31)),
         Case::new(
             "walk: rooms",
-            story("30 01 00; 31 05; 31 00; 37; 31 40; 36; 32 03; 32 00; 32 04; 35 00 00; 37"),
+            story("30 01 00; 31 05 3F; 31 00 3F; 37; 31 40 3F; 36; 32 03 3F; 32 00 3F; 32 04 3F; 35 00 00; 37"),
         ),
     ]
 }
@@ -97,7 +98,7 @@ fn order_cases() -> Vec<Case> {
         Case::new(
             "order: bad power-ups, then powered up anew",
             story(&format!(
-                "30 02 00 00; 31 06; 30 00; {}; 37; 35 00 00; 31 06; {}; 37; 35 00 00; 36",
+                "30 02 00 00; 31 06 3F; 30 00; {}; 37; 35 00 00; 31 06 3F; {}; 37; 35 00 00; 36",
                 power_up(32),
                 power_up(31)
             )),
@@ -105,29 +106,29 @@ fn order_cases() -> Vec<Case> {
         when_ready(
             "order: closed comes first",
             1,
-            "33 04 00 01 00 0F; 33 00 01 05 00 0E; 33 00 00 09 00 0E; 34 00 09 05 01; 31 00; 32 00; \
+            "33 04 3F 00 01 00 0F; 33 00 3F 01 05 00 0E; 33 00 3F 00 09 00 0E; 34 00 3F 09 05 01; 31 00 3F; 32 00 3F; \
              35 00 00; 36; 37",
         ),
         when_ready(
             "order: an open exchange comes next",
             1,
-            "33 04 00 01 00 0E; 33 00 01 05 00 0E; 33 00 00 09 00 0E; 34 00 09 05 01; 31 00; 32 00; \
+            "33 04 3F 00 01 00 0E; 33 00 3F 01 05 00 0E; 33 00 3F 00 09 00 0E; 34 00 3F 09 05 01; 31 00 3F; 32 00 3F; \
              37; 35 00 00; 35 00 00; 36",
         ),
         Case::new(
             "order: while walking",
             story(
-                "30 02 00 00; 33 00 01 05 00 0E; 33 00 01 80 00 0E; 33 00 00 00 00 0E; 33 00 00 03 00 0E; \
-             33 00 00 02 00 0E; 34 00 28 05 01; 34 00 28 80 01; 34 00 02 80 01; 32 00; 31 00; \
-             31 06; 36; 31 00; 32 00; 37",
+                "30 02 00 00; 33 00 3F 01 05 00 0E; 33 00 3F 01 80 00 0E; 33 00 3F 00 00 00 0E; 33 00 3F 00 03 00 0E; \
+             33 00 3F 00 02 00 0E; 34 00 3F 28 05 01; 34 00 3F 28 80 01; 34 00 3F 02 80 01; 32 00 3F; 31 00 3F; \
+             31 06 3F; 36; 31 00 3F; 32 00 3F; 37",
             ),
         ),
         when_ready(
             "order: when ready",
             2,
-            "31 00; 32 00; 33 00 01 7F 00 0E; 33 00 00 00 00 0E; 33 00 00 03 00 0E; 34 00 03 7F 01; \
-             34 00 03 80 01; 34 06 01 80 01; 35 00 00; 34 00 02 80 01; 34 05 02 81 01; \
-             33 03 00 01 00 0E; 33 05 01 FF 00 26 05 00; 33 03 00 01 00 0F; 37",
+            "31 00 3F; 32 00 3F; 33 00 3F 01 7F 00 0E; 33 00 3F 00 00 00 0E; 33 00 3F 00 03 00 0E; 34 00 3F 03 7F 01; \
+             34 00 3F 03 80 01; 34 06 3F 01 80 01; 35 00 00; 34 00 3F 02 80 01; 34 05 3F 02 81 01; \
+             33 03 3F 00 01 00 0E; 33 05 3F 01 FF 00 26 05 00; 33 03 3F 00 01 00 0F; 37",
         ),
     ]
 }
@@ -138,34 +139,34 @@ fn reply_cases() -> Vec<Case> {
         when_ready(
             "replies: lengths and bits",
             1,
-            "33 05 00 01 00 18 33; 35; 37; 33 05 00 01 00 18 33; 35 00; 37; 33 05 00 01 00 18 33; \
+            "33 05 3F 00 01 00 18 33; 35; 37; 33 05 3F 00 01 00 18 33; 35 00; 37; 33 05 3F 00 01 00 18 33; \
              35 FD 01 02 03 04 05 06 07 08 09 0A 0B 0C 0D 0E 0F 10 11 96; 37; \
-             33 05 00 01 00 18 44; \
+             33 05 3F 00 01 00 18 44; \
              35 00 01 02 03 04 05 06 07 08 09 0A 0B 0C 0D 0E 0F 10 11 12 AB; 37; \
-             33 05 00 01 00 18 44; 35 FD FD; 37; 33 05 00 01 00 18 33; 35 FF FF; 37; \
-             33 05 00 01 00 18 33; 35 00 01; 37; 33 05 00 01 00 18 33; 35 00 00; 37; \
-             33 05 00 01 00 18 44; 35 02 00; 37",
+             33 05 3F 00 01 00 18 44; 35 FD FD; 37; 33 05 3F 00 01 00 18 33; 35 FF FF; 37; \
+             33 05 3F 00 01 00 18 33; 35 00 01; 37; 33 05 3F 00 01 00 18 33; 35 00 00; 37; \
+             33 05 3F 00 01 00 18 44; 35 02 00; 37",
         ),
         when_ready(
             "replies: commands that write nothing",
             2,
-            "33 05 00 01 00 13 FF; 36; 33 04 00 01 00 0E; 36; 33 04 01 FF 00 0C; 36; 37; \
-             33 04 00 02 00 0C; 35 00 00; 37",
+            "33 05 3F 00 01 00 13 FF; 36; 33 04 3F 00 01 00 0E; 36; 33 04 3F 01 FF 00 0C; 36; 37; \
+             33 04 3F 00 02 00 0C; 35 00 00; 37",
         ),
         when_ready(
             "replies: every kind confirmed",
             2,
-            "33 05 00 02 00 12 41; 35 00 00; 33 06 00 02 00 24 31 32; 35 00 00; \
-             33 06 00 02 00 26 FF 91; 35 00 00; 33 08 00 02 00 47 C1 C2 43 44; 35 00 00; 37; \
-             33 04 00 02 00 05; 35 00 00; 33 05 00 02 00 18 CD; 35 00 00; 33 04 00 02 00 0C; \
-             35 00 00; 33 05 00 02 00 13 FF; 35 00 00; 37",
+            "33 05 3F 00 02 00 12 41; 35 00 00; 33 06 3F 00 02 00 24 31 32; 35 00 00; \
+             33 06 3F 00 02 00 26 FF 91; 35 00 00; 33 08 3F 00 02 00 47 C1 C2 43 44; 35 00 00; 37; \
+             33 04 3F 00 02 00 05; 35 00 00; 33 05 3F 00 02 00 18 CD; 35 00 00; 33 04 3F 00 02 00 0C; \
+             35 00 00; 33 05 3F 00 02 00 13 FF; 35 00 00; 37",
         ),
         when_ready(
             "replies: every kind silent",
             2,
-            "33 05 00 01 00 12 41; 36; 37; 33 06 00 01 00 24 31 32; 36; 37; 33 06 00 02 00 26 FF 91; \
-             36; 37; 33 08 00 02 00 47 C1 C2 43 44; 36; 37; 33 05 00 02 00 18 CD; 36; 37; \
-             33 04 00 01 00 05; 36; 37; 34 06 02 81 00; 36; 37",
+            "33 05 3F 00 01 00 12 41; 36; 37; 33 06 3F 00 01 00 24 31 32; 36; 37; 33 06 3F 00 02 00 26 FF 91; \
+             36; 37; 33 08 3F 00 02 00 47 C1 C2 43 44; 36; 37; 33 05 3F 00 02 00 18 CD; 36; 37; \
+             33 04 3F 00 01 00 05; 36; 37; 34 06 3F 02 81 00; 36; 37",
         ),
     ]
 }
@@ -178,30 +179,30 @@ fn doubt_cases() -> Vec<Case> {
         when_ready(
             "doubt: a group with a place in doubt",
             3,
-            "34 06 01 80 01; 35 00 00; 34 06 02 80 00; 35 00 00; 34 06 03 81 00; 36; 37; \
-             33 06 01 80 00 26 07 00; 35 00 00; 37; 33 06 01 90 00 24 01 02; 36; 37; \
-             33 04 00 03 00 0E; 35 00 00; 37; 34 06 03 80 00; 35 00 00; 33 05 01 80 00 18 01; \
-             35 02 02; 37; 34 06 01 81 00; 36; 33 05 01 80 00 18 01; 35 00 00; 37",
+            "34 06 3F 01 80 01; 35 00 00; 34 06 3F 02 80 00; 35 00 00; 34 06 3F 03 81 00; 36; 37; \
+             33 06 3F 01 80 00 26 07 00; 35 00 00; 37; 33 06 3F 01 90 00 24 01 02; 36; 37; \
+             33 04 3F 00 03 00 0E; 35 00 00; 37; 34 06 3F 03 80 00; 35 00 00; 33 05 3F 01 80 00 18 01; \
+             35 02 02; 37; 34 06 3F 01 81 00; 36; 33 05 3F 01 80 00 18 01; 35 00 00; 37",
         ),
         // The same value again, silent; another, with a reply.
         when_ready(
             "doubt: a group without leader",
             2,
-            "33 06 01 FF 00 26 00 00; 36; 37; 33 05 01 FF 00 18 07; 35 00 00; 37",
+            "33 06 3F 01 FF 00 26 00 00; 36; 37; 33 05 3F 01 FF 00 18 07; 35 00 00; 37",
         ),
         // The leader's, known and in doubt.
         when_ready(
             "doubt: copies of a held set",
             2,
-            "34 06 01 FF 01; 35 00 00; 33 08 01 FF 00 47 07 00 11 22; 35 00 00; 33 04 01 FF 00 05; \
-             35 00 00; 37; 33 08 00 01 00 47 08 00 33 44; 36; 33 04 01 FF 00 05; 35 00 00; 37",
+            "34 06 3F 01 FF 01; 35 00 00; 33 08 3F 01 FF 00 47 07 00 11 22; 35 00 00; 33 04 3F 01 FF 00 05; \
+             35 00 00; 37; 33 08 3F 00 01 00 47 08 00 33 44; 36; 33 04 3F 01 FF 00 05; 35 00 00; 37",
         ),
         // To a group of another leader than the first.
         when_ready(
             "doubt: a node that left the group",
             2,
-            "34 06 01 80 01; 35 00 00; 34 06 02 90 01; 35 00 00; 33 05 01 80 00 18 01; 36; 37; \
-             33 05 01 90 00 18 02; 35 00 00; 37",
+            "34 06 3F 01 80 01; 35 00 00; 34 06 3F 02 90 01; 35 00 00; 33 05 3F 01 80 00 18 01; 36; 37; \
+             33 05 3F 01 90 00 18 02; 35 00 00; 37",
         ),
     ]
 }
@@ -211,9 +212,9 @@ fn leader_cases() -> Vec<Case> {
     vec![when_ready(
         "leader wishes",
         3,
-        "34 06 01 80 01; 35 00 00; 34 06 01 80 01; 35 00 00; 34 06 02 80 01; 34 06 02 81 01; \
-         36; 34 06 02 82 01; 36; 34 06 03 90 01; 34 06 01 80 01; 34 06 01 80 00; 35 00 00; \
-         34 06 02 80 01; 35 00 00; 34 06 03 90 01; 35 00 00; 37",
+        "34 06 3F 01 80 01; 35 00 00; 34 06 3F 01 80 01; 35 00 00; 34 06 3F 02 80 01; 34 06 3F 02 81 01; \
+         36; 34 06 3F 02 82 01; 36; 34 06 3F 03 90 01; 34 06 3F 01 80 01; 34 06 3F 01 80 00; 35 00 00; \
+         34 06 3F 02 80 01; 35 00 00; 34 06 3F 03 90 01; 35 00 00; 37",
     )]
 }
 
@@ -223,13 +224,13 @@ fn ending_cases() -> Vec<Case> {
         when_ready(
             "Hard Reset closes",
             2,
-            "33 05 00 01 00 18 33; 35 00 00; 33 04 01 90 00 0F; 37; 35 02 02; 36; 33 04 00 01 00 0E; \
-             31 06; 30 01 00; 37",
+            "33 05 3F 00 01 00 18 33; 35 00 00; 33 04 3F 01 90 00 0F; 37; 35 02 02; 36; 33 04 3F 00 01 00 0E; \
+             31 06 3F; 30 01 00; 37",
         ),
         when_ready(
             "power-up drops an exchange",
             2,
-            "33 05 00 01 00 18 33; 35 00 00; 33 05 00 01 00 18 44; 30 02 00 00; 37; 35 00 00; 31 06; \
+            "33 05 3F 00 01 00 18 33; 35 00 00; 33 05 3F 00 01 00 18 44; 30 02 00 00; 37; 35 00 00; 31 06 3F; \
              35 00 00",
         ),
     ]
@@ -255,8 +256,18 @@ pub fn session(n: u8, walk: u8, exchange: Exchange) -> Session {
     session
 }
 
+/// A command that waits, sent at 0x3F.
 pub fn waits(target: Target, command: Command) -> Exchange {
-    Exchange::Waiting { target, command }
+    waits_at(POWER_UP, target, command)
+}
+
+/// A command that waits, sent at a divisor.
+pub fn waits_at(at: u8, target: Target, command: Command) -> Exchange {
+    Exchange::Waiting {
+        at,
+        target,
+        command,
+    }
 }
 
 /// A session handed in, then lines.
@@ -264,9 +275,9 @@ pub fn handed(name: &str, session: &Session, lines: &str) -> Case {
     Case::new(name, [vec![hand_in(session)], story(lines)].concat())
 }
 
+/// Sessions that count as closed, or have no nodes.
 pub fn handed_in_cases() -> Vec<Case> {
-    let set_address = Command::SetAddress(Place::from_data(0x05, 0x03));
-    let probes = "37; 31 06; 32 04; 33 04 01 80 00 0E; 35 00 00; 36; 37";
+    let probes = "37; 31 06 3F; 32 04 3F; 33 04 3F 01 80 00 0E; 35 00 00; 36; 37";
     let mut closed = session(2, 2, waits(Target::Node(1), Command::SetOutputs(7)));
     closed.open = false;
     vec![
@@ -289,22 +300,29 @@ pub fn handed_in_cases() -> Vec<Case> {
         handed(
             "handed in: waiting past n",
             &session(2, 2, waits(Target::Node(3), Command::SetOutputs(7))),
-            "31 06; 35 00 00; 34 06 01 80 00; 37; 30 02 00 00; 37",
+            "31 06 3F; 35 00 00; 34 06 3F 01 80 00; 37; 30 02 00 00; 37",
         ),
+    ]
+}
+
+/// Sessions in which something waits: `divisors` has them.
+pub fn handed_in_waiting_cases() -> Vec<Case> {
+    let set_address = Command::SetAddress(Place::from_data(0x05, 0x03));
+    vec![
         handed(
             "handed in: another Set Address in the walk",
             &session(3, 1, waits(Target::Node(2), set_address)),
-            "35 00 00; 37; 31 06",
+            "35 00 00; 37; 31 06 3F",
         ),
         handed(
             "handed in: a Set Address beside the walk",
             &session(3, 1, waits(Target::Node(3), set_address)),
-            "35 00 00; 37; 31 06; 36; 32 04; 35 00 00; 37",
+            "35 00 00; 37; 31 06 3F; 36; 32 04 3F; 35 00 00; 37",
         ),
         handed(
             "handed in: a Hard Reset that waits, confirmed",
             &session(2, 2, waits(Target::Node(2), Command::HardReset)),
-            "31 06; 35 00 00; 37; 33 04 00 01 00 0E; 36; 37",
+            "31 06 3F; 35 00 00; 37; 33 04 3F 00 01 00 0E; 36; 37",
         ),
         handed(
             "handed in: a Hard Reset to a group that waits, silent",
@@ -319,7 +337,7 @@ pub fn handed_in_cases() -> Vec<Case> {
         handed(
             "handed in: a Set Address to a group that waits",
             &session(2, 2, waits(Target::Group(0xFF), set_address)),
-            "35 00 00; 37; 34 06 01 90 01; 36; 37",
+            "35 00 00; 37; 34 06 3F 01 90 01; 36; 37",
         ),
     ]
 }

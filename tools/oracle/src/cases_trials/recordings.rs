@@ -205,7 +205,7 @@ fn every_command() -> Vec<String> {
 /// "The session of `30` to `38` isn't touched."
 fn session_stays() -> Vec<String> {
     let walked = walk(1, &[], &[]);
-    story(&format!("30 02 00 00; 31 06; {walked}; 35 00 00; 37"))
+    story(&format!("30 02 00 00; 31 06 3F; {walked}; 35 00 00; 37"))
 }
 
 /// Cut short, with more than 1024 bytes or times, with a byte too many.

@@ -1,4 +1,4 @@
-//! How often things happened, and how often a command met what requests 4 and 6
+//! How often things happened, and how often a command met what requests 4, 6 and 7
 //! are about.
 
 use crate::command::Command;
@@ -52,7 +52,8 @@ impl std::fmt::Display for Counts {
     }
 }
 
-/// What a command can meet: one to a group, and behind those a drive's.
+/// What a command can meet: one to a group, behind those a drive's, and then what
+/// divisors bring.
 #[derive(Clone, Copy, Debug, PartialEq, Eq)]
 pub enum Met {
     MemberMissed,
@@ -65,10 +66,16 @@ pub enum Met {
     DoubtfulStart,
     DoubtfulLoadStart,
     StartToGroup,
+    PaceParts,
+    PaceUnheard,
+    DivisorFound,
+    DivisorStayed,
+    NodeDeaf,
+    GroupParted,
 }
 
 impl Met {
-    pub const ALL: [(Met, &'static str); 10] = [
+    pub const ALL: [(Met, &'static str); 16] = [
         (Met::MemberMissed, "confirmed and missed by a member"),
         (Met::LeaderMissed, "missed by the leader, heard by a member"),
         (Met::LeaderInDoubt, "answered by a leader in doubt"),
@@ -85,6 +92,12 @@ impl Met {
             Met::StartToGroup,
             "starting a group, confirmed for its leader",
         ),
+        (Met::PaceParts, "setting the divisor of some members alone"),
+        (Met::PaceUnheard, "setting a divisor, heard by no member"),
+        (Met::DivisorFound, "telling another divisor than recorded"),
+        (Met::DivisorStayed, "telling a divisor in doubt that stayed"),
+        (Met::NodeDeaf, "at another divisor than its node's"),
+        (Met::GroupParted, "at the divisor of some members alone"),
     ];
 }
 
@@ -104,10 +117,19 @@ impl Closing<'_> {
         let met = Met::ALL.into_iter().map(|(met, _)| met);
         match self.host.exchange {
             Exchange::Idle => Vec::new(),
-            Exchange::Waiting { target, command } => met
+            Exchange::Waiting {
+                at,
+                target,
+                command,
+            } => met
                 .filter(|met| match target {
-                    Target::Group(group) => self.meets(*met, group, command),
-                    Target::Node(node) => self.meets_at(*met, usize::from(node - 1), command),
+                    Target::Group(group) => {
+                        self.meets(*met, group, command) || self.parts(*met, at, group, command)
+                    }
+                    Target::Node(node) => {
+                        let index = usize::from(node - 1);
+                        self.meets_at(*met, index, command) || self.tells(*met, at, index, command)
+                    }
                 })
                 .collect(),
         }
@@ -125,6 +147,34 @@ impl Closing<'_> {
                 let others = values.filter(|value| !load.brings(*value));
                 self.clear && load.starts() && others.into_iter().any(|own| in_doubt(&own))
             }
+            _ => false,
+        }
+    }
+
+    /// What a command at a divisor to one node meets.
+    fn tells(&self, met: Met, at: u8, index: usize, command: Command) -> bool {
+        let recorded = self.host.entries[index].settings.divisor;
+        let doubtful = !self.knows(index, Setting::Divisor);
+        let nop = self.clear && command == Command::Nop;
+        match met {
+            Met::DivisorFound => nop && recorded != at,
+            Met::DivisorStayed => nop && recorded == at && doubtful,
+            Met::NodeDeaf => self.chain[index].settings.divisor != at,
+            _ => false,
+        }
+    }
+
+    /// What a command at a divisor to a group meets.
+    fn parts(&self, met: Met, at: u8, group: u8, command: Command) -> bool {
+        let members = self.chain.iter().filter(|node| node.group() == group);
+        let divisors: Vec<u8> = members.map(|node| node.settings.divisor).collect();
+        let some = |own: u8| divisors.contains(&own) && divisors.iter().any(|one| *one != own);
+        match (met, command) {
+            (Met::PaceParts, Command::SetBaudRate(divisor)) => some(divisor),
+            (Met::PaceUnheard, Command::SetBaudRate(divisor)) => {
+                !divisors.is_empty() && !divisors.contains(&divisor)
+            }
+            (Met::GroupParted, _) => some(at),
             _ => false,
         }
     }
@@ -161,6 +211,7 @@ impl Closing<'_> {
             Met::DoubtfulStart | Met::DoubtfulLoadStart => {
                 known_leader.is_some_and(|index| self.meets_at(met, index, command))
             }
+            _ => false,
         }
     }
 

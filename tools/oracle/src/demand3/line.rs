@@ -59,12 +59,13 @@ impl Line {
 }
 
 impl Arriving {
-    /// The chain's own delivery, to those that hear. One that misses the command
+    /// The chain's own delivery, at a divisor, to those that hear. One that misses the command
     /// stands in the chain as if it were for somebody else.
     pub fn deliver(
         &self,
         rules: Rules,
         chain: &mut [Node],
+        at: u8,
         buffer: &mut [u8],
     ) -> Result<Delivery, Refusal> {
         let before = chain.to_vec();
@@ -72,7 +73,7 @@ impl Arriving {
         if !rules.slips(Mistake::MissedReplies) {
             missing().for_each(|index| chain[index].settings.place = elsewhere(self.bytes[1]));
         }
-        let delivery = deliver(rules, chain, &self.bytes, buffer);
+        let delivery = deliver(rules, chain, at, &self.bytes, buffer);
         missing().for_each(|index| chain[index] = before[index]);
         delivery
     }

@@ -1,10 +1,12 @@
 //! The host's calls of a story: most make sense where the session stands.
 
 use super::Story;
-use crate::command::{Command, COMMAND_BYTES};
+use crate::command::{Command, COMMAND_BYTES, SET_BAUD_RATE};
+use crate::divisor::POWER_UP;
 use crate::kind::Kind;
 use crate::layout;
-use crate::make_packets::{any_command, drive_command, group, kinds, off_range_command};
+use crate::make_packets::off_range_command;
+use crate::make_packets::{any_command, divisor, drive_command, group, kinds};
 use crate::record::{all_known, Entry};
 use crate::rules::Rules;
 use crate::session::{Exchange, Session, MOST_NODES};
@@ -27,12 +29,42 @@ impl Story {
         } else if session.waits() {
             self.report()
         } else if session.ask_is_due() {
-            vec![0x32, self.room(4)]
+            self.walk_call(0x32)
         } else if session.walks() {
-            vec![0x31, self.room(6)]
+            self.walk_call(0x31)
         } else {
             self.ready_call()
         }
+    }
+
+    /// `31`, next, or `32`, ask: mostly at 0x3F, where nodes that have no address hear.
+    fn walk_call(&mut self, call: u8) -> Vec<u8> {
+        let room = self.room(if call == 0x31 { 6 } else { 4 });
+        let at = match self.prng.percent(92) {
+            true => POWER_UP,
+            false => divisor(&mut self.prng),
+        };
+        vec![call, room, at]
+    }
+
+    /// A divisor to send at: mostly one that is recorded of a node.
+    fn divisor(&mut self) -> u8 {
+        let node = self.own_node();
+        let recorded = self.model.session.entries[usize::from(node - 1)].settings;
+        match self.prng.percent(75) {
+            true => recorded.divisor,
+            false => divisor(&mut self.prng),
+        }
+    }
+
+    /// `39`: mostly a divisor that may be set, to a group that nobody leads.
+    fn set_baud_rate(&mut self) -> Vec<u8> {
+        let group = match self.prng.percent(50) {
+            true => self.own_group(),
+            false => group(&mut self.prng),
+        };
+        let (room, at) = (self.room(5), self.divisor());
+        vec![0x39, room, at, group, divisor(&mut self.prng)]
     }
 
     /// Mostly a power-up: all else is refused.
@@ -56,14 +88,15 @@ impl Story {
 
     /// Any call at all, whether it makes sense or not.
     fn any_call(&mut self) -> Vec<u8> {
-        match self.prng.below(8) {
+        match self.prng.below(10) {
             0 => self.power_up(),
-            1 => vec![0x31, self.room(6)],
-            2 => vec![0x32, self.room(4)],
+            1 => self.walk_call(0x31),
+            2 => self.walk_call(0x32),
             3 => self.command(),
             4 => self.regroup(),
             5 => self.report(),
             6 => self.misformed_call(),
+            7 => self.set_baud_rate(),
             _ => self.far_fetched_call(),
         }
     }
@@ -72,9 +105,14 @@ impl Story {
     fn far_fetched_call(&mut self) -> Vec<u8> {
         let far = self.prng.pick(&[0, 32, 40, 0x7F, 0xFF]);
         let low = self.prng.between(0x00, 0x7F);
-        match self.prng.below(6) {
-            0 => vec![0x33, self.room(4), 0x00, far, 0x00, 0x0E],
-            1 => vec![0x33, self.room(4), 0x01, low, 0x00, 0x0E],
+        let at = match self.prng.percent(80) {
+            true => POWER_UP,
+            false => self.divisor(),
+        };
+        match self.prng.below(7) {
+            6 => vec![0x39, self.room(5), at, low, divisor(&mut self.prng)],
+            0 => vec![0x33, self.room(4), at, 0x00, far, 0x00, 0x0E],
+            1 => vec![0x33, self.room(4), at, 0x01, low, 0x00, 0x0E],
             4..=5 => {
                 let target = self.prng.pick(&[Target::Node(far), Target::Group(low)]);
                 let command = match self.prng.percent(50) {
@@ -83,19 +121,29 @@ impl Story {
                 };
                 self.order(target, command)
             }
-            2 => vec![0x34, self.room(6), far, low, 0x01],
-            _ => vec![0x34, self.room(6), far, 0x80, 0x01],
+            2 => vec![0x34, self.room(6), at, far, low, 0x01],
+            _ => vec![0x34, self.room(6), at, far, 0x80, 0x01],
         }
     }
 
     /// Calls one byte too short or too long, with a bad flag, or of the other family.
     fn misformed_call(&mut self) -> Vec<u8> {
-        let mut line = match self.prng.below(6) {
+        let target = self.target();
+        let mut line = match self.prng.below(8) {
             4 => return self.command_of_other_family(),
             5 => self.power_up(),
-            0 => vec![0x31, self.room(6)],
-            1 => vec![0x34, self.room(6), 1, 0x80, self.prng.between(2, 9)],
-            2 => vec![0x33, self.room(6), 0x00, 1, 0x00, 0x21, 1, 0xFF],
+            6 => self.set_baud_rate(),
+            7 => return self.order(target, Command::SetBaudRate(POWER_UP)),
+            0 => self.walk_call(0x31),
+            1 => vec![
+                0x34,
+                self.room(6),
+                POWER_UP,
+                1,
+                0x80,
+                self.prng.between(2, 9),
+            ],
+            2 => vec![0x33, self.room(6), POWER_UP, 0x00, 1, 0x00, 0x21, 1, 0xFF],
             _ => self.command(),
         };
         if self.prng.percent(50) {
@@ -109,9 +157,14 @@ impl Story {
     fn ready_call(&mut self) -> Vec<u8> {
         match self.prng.below(100) {
             0..=1 => self.power_up(),
-            2..=3 => vec![0x31, self.room(6)],
-            4..=5 => vec![0x32, self.room(4)],
-            6..=30 => self.regroup(),
+            2..=3 => self.walk_call(0x31),
+            4..=5 => self.walk_call(0x32),
+            6..=22 => self.regroup(),
+            23..=30 => self.set_baud_rate(),
+            31..=35 => {
+                let node = self.own_node();
+                self.order(Target::Node(node), Command::Nop)
+            }
             _ => self.command(),
         }
     }
@@ -186,17 +239,18 @@ impl Story {
     /// `33`.
     fn order(&mut self, target: Target, command: Command) -> Vec<u8> {
         let command = layout::command(command);
-        let room = self.room(2 + command.len());
-        [vec![0x33, room], layout::target(target).to_vec(), command].concat()
+        let (room, at) = (self.room(2 + command.len()), self.divisor());
+        let call = vec![0x33, room, at];
+        [call, layout::target(target).to_vec(), command].concat()
     }
 
     /// A command whose FAMILY isn't its own, none at all, or has it otherwise.
     fn command_of_other_family(&mut self) -> Vec<u8> {
         let mut line = self.command();
         match self.prng.below(3) {
-            0 => line[4] = self.prng.between(2, 0xFF),
-            1 if line.len() > 6 => line[6] ^= 1 << self.prng.below(8),
-            _ => line[4] ^= 1,
+            0 => line[5] = self.prng.between(2, 0xFF),
+            1 if line.len() > 7 => line[7] ^= 1 << self.prng.below(8),
+            _ => line[5] ^= 1,
         }
         line
     }
@@ -223,7 +277,7 @@ impl Story {
         let node = self.own_node();
         let group = self.group_for(node);
         let leader = u8::from(self.prng.percent(50));
-        vec![0x34, self.room(6), node, group, leader]
+        vec![0x34, self.room(6), self.divisor(), node, group, leader]
     }
 
     /// What came back: mostly a good and clear reply.
@@ -289,8 +343,8 @@ impl Story {
     fn misform_state(&mut self, line: &mut Vec<u8>) {
         let last = line.len() - 1;
         match self.prng.below(4) {
-            0 => line[last] |= self.prng.pick(&[0x40, 0x80]),
-            1 => line[last - 14] = self.prng.between(1, 3),
+            0 => line[last] |= 0x80,
+            1 => line[last - 15] = self.prng.between(1, 3),
             2 => drop(line.pop()),
             _ => line.push(self.prng.telling_byte()),
         }
@@ -340,19 +394,31 @@ impl Story {
         let command = match self.prng.below(10) {
             0 => off_range_command(&mut self.prng),
             1..=3 => drive_command(&mut self.prng),
+            4 => any_command(&mut self.prng, SET_BAUD_RATE),
             _ => {
                 let byte = self.prng.pick(&COMMAND_BYTES);
                 any_command(&mut self.prng, byte)
             }
         };
-        Exchange::Waiting { target, command }
+        let paces = matches!(command, Command::SetBaudRate(_));
+        // On a node it waits in no session: now and then a line says so.
+        let target = match paces && self.prng.percent(85) {
+            true => Target::Group(group(&mut self.prng)),
+            false => target,
+        };
+        Exchange::Waiting {
+            at: divisor(&mut self.prng),
+            target,
+            command,
+        }
     }
 
     /// One thing about a session changed, to sense or nonsense.
     fn twist(&mut self, session: &mut Session) {
         let index = self.prng.below(6);
         let kind = session.entries[index].kind();
-        match self.prng.below(9) {
+        match self.prng.below(10) {
+            9 => session.entries[index].known ^= Setting::Divisor.bit(kind),
             0 => session.open = !session.open,
             1 => session.n = self.prng.pick(&[0, 1, 2, 3, 31, 32, 0xFF]),
             2 => session.walk = self.prng.pick(&[0, 1, 2, session.n, 31, 32, 0xFF]),

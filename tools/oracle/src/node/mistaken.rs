@@ -1,7 +1,8 @@
 //! What a mistaken node makes of packets, settings and items.
 
 use super::{DriveValues, Values};
-use crate::command::{Command, Held, Place, COMMAND_BYTES};
+use crate::command::{Command, Held, Place, COMMAND_BYTES, SET_BAUD_RATE};
+use crate::divisor::listed;
 use crate::drive::{Gains, Motion, Stop};
 use crate::kind::Kind;
 use crate::packet::{sum, Packet, MOST_DATA};
@@ -54,15 +55,27 @@ pub fn misunderstood(rules: Rules, kind: Kind, packet: &Packet) -> Option<Comman
         let place = Place::from_data(packet.data[0] & 0x7F, packet.data[1]);
         return Some(Command::SetAddress(place));
     }
+    if let (0xA, &[divisor, _]) = (packet.command(), packet.data) {
+        if rules.slips(Mistake::PaceOfTwoBytesActs) {
+            return Some(Command::SetBaudRate(divisor));
+        }
+    }
     match kind {
         Kind::Gate => None,
         Kind::Drive => misunderstood_by_drive(rules, packet),
     }
 }
 
+/// Whether a node acts on a Set Baud Rate that came to its group or by its individual
+/// address, with the mistakes in it.
+pub fn is_paced(rules: Rules, kind: Kind, to_group: bool, divisor: u8) -> bool {
+    let kept = listed(kind).contains(&divisor) || !rules.slips(Mistake::UnlistedPaceIgnored);
+    kept && (to_group || rules.slips(Mistake::IndividualPaceActs))
+}
+
 /// The command that the low nibble names, data cut or filled to fit.
 fn with_own_count(kind: Kind, packet: &Packet) -> Option<Command> {
-    let mut bytes = COMMAND_BYTES.into_iter();
+    let mut bytes = COMMAND_BYTES.into_iter().chain([SET_BAUD_RATE]);
     let own = bytes.find(|byte| byte & 0x0F == packet.command())?;
     let mut data = packet.data.to_vec();
     data.resize(usize::from(own >> 4), 0);
@@ -132,6 +145,9 @@ pub fn slipped_settings(rules: Rules, old: Settings, command: Command) -> Settin
         }
         Command::HardReset if rules.slips(Mistake::LeaderSurvivesReset) => {
             new.place.leader = old.place.leader;
+        }
+        Command::HardReset if rules.slips(Mistake::DivisorSurvivesReset) => {
+            new.divisor = old.divisor;
         }
         Command::ReadStatus(mask) if rules.slips(Mistake::ReadStatusSticks) => new.mask = mask,
         Command::DefineStatus(mask)

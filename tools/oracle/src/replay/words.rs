@@ -29,8 +29,8 @@ pub fn foreign(rules: Rules, bytes: &[u8], kinds: &[Kind]) -> String {
         return "bytes left over".to_string();
     }
     match read(rules, &packet, kinds) {
-        Some(command) => sent(rules, bytes, command),
-        None => other(rules, packet.address),
+        Some(command) if !is_unnamed(rules, packet.address, command) => sent(rules, bytes, command),
+        _ => other(rules, packet.address),
     }
 }
 
@@ -63,6 +63,14 @@ fn misread(refusal: Refusal) -> &'static str {
     }
 }
 
+/// Whether a mistaken reader calls a Set Baud Rate another command, to anyone or by an
+/// individual address.
+fn is_unnamed(rules: Rules, address: u8, command: Command) -> bool {
+    let individual = address < 0x80 && rules.slips(Mistake::PaceToNodeUnsaid);
+    let paces = matches!(command, Command::SetBaudRate(_));
+    paces && (individual || rules.slips(Mistake::PaceUnsaid))
+}
+
 fn other(rules: Rules, address: u8) -> String {
     match rules.slips(Mistake::OtherTargetSaid) {
         true => format!("another command{}", target(rules, address)),
@@ -81,6 +89,7 @@ pub fn name_and_data(rules: Rules, command: Command) -> String {
         Command::SetOutputs(own) => format!("Set Outputs {}", outputs(rules, own)),
         Command::SetSynchOutput(own) => format!("Set Synch Output {}", held(rules, own)),
         Command::SetTimerMode(mode) => format!("Set Timer Mode {mode:02X}"),
+        Command::SetBaudRate(divisor) => format!("Set Baud Rate {divisor:02X}"),
         Command::SynchInput => "Synch Input".to_string(),
         Command::Nop => "Nop".to_string(),
         Command::HardReset => "Hard Reset".to_string(),
@@ -171,10 +180,10 @@ pub fn changes(rules: Rules, change: &Change) -> String {
     let nodes: Vec<String> = (1..)
         .zip(pairs)
         .filter_map(|(node, (before, after))| {
-            let changed: Vec<String> = Setting::all(after.kind())
-                .iter()
-                .filter(|own| is_changed(rules, **own, before, after))
-                .map(|own| setting(rules, *own, after))
+            let changed: Vec<String> = in_sequence(rules, after.kind())
+                .into_iter()
+                .filter(|own| is_changed(rules, *own, before, after))
+                .map(|own| setting(rules, own, after))
                 .collect();
             let drive = drive_said(after, rules.slips(Mistake::DriveSaidInChanges));
             let line = format!("node {node}{drive}: {}", changed.join(", "));
@@ -187,6 +196,17 @@ pub fn changes(rules: Rules, change: &Change) -> String {
     }
 }
 
+/// The settings of a node of this kind as they are told: place, mask, divisor, and
+/// then its kind's own.
+fn in_sequence(rules: Rules, kind: Kind) -> Vec<Setting> {
+    let mut settings = Setting::all(kind).to_vec();
+    let divisor = settings.pop();
+    if !rules.slips(Mistake::DivisorUnsaid) {
+        settings.splice(2..2, divisor);
+    }
+    settings
+}
+
 /// Whether a setting's value is another, or its doubt.
 fn is_changed(rules: Rules, own: Setting, before: &Entry, after: &Entry) -> bool {
     let shown = shown(rules, own, before) != shown(rules, own, after);
@@ -196,8 +216,8 @@ fn is_changed(rules: Rules, own: Setting, before: &Entry, after: &Entry) -> bool
 
 /// A line of the record: all settings that a node of this kind has.
 pub fn entry(rules: Rules, node: u8, entry: &Entry) -> String {
-    let all = Setting::all(entry.kind()).iter();
-    let all: Vec<String> = all.map(|own| setting(rules, *own, entry)).collect();
+    let all = in_sequence(rules, entry.kind()).into_iter();
+    let all: Vec<String> = all.map(|own| setting(rules, own, entry)).collect();
     let drive = drive_said(entry, !rules.slips(Mistake::DriveUnsaid));
     format!("node {node}{drive}: {}", all.join(", "))
 }
@@ -224,6 +244,7 @@ fn shown(rules: Rules, own: Setting, entry: &Entry) -> String {
     match (own, &settings.own) {
         (Setting::Place, _) => format!("place {}", place(rules, settings.place)),
         (Setting::Mask, _) => format!("mask {:02X}", settings.mask),
+        (Setting::Divisor, _) => format!("divisor {:02X}", settings.divisor),
         (own, Own::Gate(gate)) => shown_of_gate(rules, own, gate),
         (own, Own::Drive(drive)) => shown_of_drive(rules, own, drive),
     }

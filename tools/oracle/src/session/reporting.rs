@@ -57,17 +57,22 @@ impl Session {
     /// Closes the open exchange, or 8.
     fn close(&mut self, outcome: Outcome) -> Result<(), Refusal> {
         let open = self.waits() || self.rules.slips(Mistake::ClosedExchangeReports);
-        let (target, command) = match self.exchange {
-            Exchange::Waiting { target, command } if open => (target, command),
+        let (at, target, command) = match self.exchange {
+            Exchange::Waiting {
+                at,
+                target,
+                command,
+            } if open => (at, target, command),
             _ => return Err(Refusal::NothingToReport),
         };
         self.exchange = Exchange::Idle;
-        match self.slipped_outcome(outcome, target) {
-            Outcome::Clear => self.confirm(target, command),
+        match self.slipped_outcome(outcome, target, command) {
+            Outcome::Clear => self.confirm(at, target, command),
             // "The record stays as before."
-            Outcome::Marked => self.mistake_marked(target, command),
-            Outcome::Unconfirmed => self.doubt(target, command),
+            Outcome::Marked => self.mistake_marked(at, target, command),
+            Outcome::Unconfirmed => self.doubt(at, target, command),
         }
+        self.mistake_nop(outcome, at, target, command);
         Ok(())
     }
 
@@ -75,29 +80,46 @@ impl Session {
     /// the nodes that it is confirmed for, and "every other node that may be
     /// written goes into doubt" (request 4). A confirmed Set Address of the walk,
     /// by its own reply or by an ask's, moves the walk.
-    fn confirm(&mut self, target: Target, command: Command) {
+    fn confirm(&mut self, at: u8, target: Target, command: Command) {
         let in_walk = self.walks() && target == Target::Node(self.walk + 1);
-        let command = match command {
-            Command::Nop if in_walk && self.asks() => self.asked_after(),
-            other => other,
+        let asks = command == Command::Nop && in_walk && self.asks();
+        self.learn_divisor(at, target, command, asks);
+        let command = match asks {
+            true => self.asked_after(),
+            false => command,
         };
-        let (confirmed, others) = self.parted(target);
+        let (confirmed, others) = self.parted(target, command);
         for index in confirmed {
             confirm_entry(self.rules, &mut self.entries[index], target, command);
         }
         if !self.rules.slips(Mistake::UnconfirmedKept) {
-            self.doubt_at(&others, command);
+            self.doubt_each(&others, at, command);
         }
         if in_walk && matches!(command, Command::SetAddress(_)) {
             self.walk += 1;
         }
     }
 
+    /// "A Nop to a node at a divisor, with a good clear reply, makes it known" (request
+    /// 7): the divisor that the Nop was sent at, whatever was set before it. An ask is
+    /// such a Nop, too; no other command's reply tells, and no group's.
+    fn learn_divisor(&mut self, at: u8, target: Target, command: Command, asks: bool) {
+        let tells = command == Command::Nop && !target.is_group();
+        if !self.slipped_telling(tells, target, command, asks) {
+            return;
+        }
+        for index in self.may_be_written(target) {
+            let divisor = self.slipped_divisor(at, index);
+            self.entries[index].learn_divisor(divisor);
+        }
+    }
+
     /// The nodes that may be written: those for which a good clear reply confirms
     /// the command, and the others.
-    fn parted(&self, target: Target) -> (Vec<usize>, Vec<usize>) {
+    fn parted(&self, target: Target, command: Command) -> (Vec<usize>, Vec<usize>) {
         let written = self.may_be_written(target).into_iter();
-        written.partition(|index| self.is_confirmed_for(*index, target))
+        let paced = matches!(command, Command::SetBaudRate(_)) && self.slips_into_pacing();
+        written.partition(|index| paced || self.is_confirmed_for(*index, target))
     }
 
     /// Whether a good clear reply confirms the command for a node that may be
@@ -128,13 +150,18 @@ impl Session {
 
     /// "Unconfirmed: all that it may write goes into doubt. A setting in
     /// doubt shows its last known value."
-    pub(super) fn doubt(&mut self, target: Target, command: Command) {
-        self.doubt_at(&self.may_be_written(target), command);
+    /// A divisor known to be another than the command was sent at spares no doubt:
+    /// "a command at a divisor not known to be the node's stays "could have written""
+    /// (request 7).
+    pub(super) fn doubt(&mut self, at: u8, target: Target, command: Command) {
+        self.doubt_each(&self.may_be_written(target), at, command);
     }
 
-    fn doubt_at(&mut self, nodes: &[usize], command: Command) {
+    fn doubt_each(&mut self, nodes: &[usize], at: u8, command: Command) {
         for index in nodes {
-            doubt_entry(self.rules, &mut self.entries[*index], command);
+            if !self.slips_into_sparing(*index, at, command) {
+                doubt_entry(self.rules, &mut self.entries[*index], command);
+            }
         }
     }
 
@@ -185,8 +212,15 @@ impl Session {
     }
 
     /// The outcome, with the mistakes in taking it.
-    fn slipped_outcome(&self, outcome: Outcome, target: Target) -> Outcome {
+    fn slipped_outcome(&self, outcome: Outcome, target: Target, command: Command) -> Outcome {
+        let paces = matches!(command, Command::SetBaudRate(_));
         match outcome {
+            Outcome::Unconfirmed if paces && self.rules.slips(Mistake::SilencePaces) => {
+                Outcome::Clear
+            }
+            Outcome::Marked if paces && self.rules.slips(Mistake::MarkedPaceDoubts) => {
+                Outcome::Unconfirmed
+            }
             Outcome::Unconfirmed if self.rules.slips(Mistake::SilenceIsNotDone) => Outcome::Marked,
             Outcome::Unconfirmed if self.rules.slips(Mistake::SilenceIsDone) => Outcome::Clear,
             Outcome::Unconfirmed
@@ -244,10 +278,71 @@ impl Session {
     }
 
     /// What a mistaken host takes from a reply that isn't clear.
-    fn mistake_marked(&mut self, target: Target, command: Command) {
+    fn mistake_marked(&mut self, at: u8, target: Target, command: Command) {
         if self.rules.slips(Mistake::MarkedDoubtsMembers) {
-            let (_, others) = self.parted(target);
-            self.doubt_at(&others, command);
+            let (_, others) = self.parted(target, command);
+            self.doubt_each(&others, at, command);
         }
+    }
+
+    /// Whether a mistaken host takes a Set Baud Rate as confirmed for all that may be
+    /// written.
+    fn slips_into_pacing(&self) -> bool {
+        self.rules.slips(Mistake::ReplyPacesMembers) || self.rules.slips(Mistake::SilencePaces)
+    }
+
+    /// Whether a mistaken host takes a good clear reply for a word about the divisor.
+    fn slipped_telling(&self, tells: bool, target: Target, command: Command, asks: bool) -> bool {
+        let slips = |mistake| self.rules.slips(mistake);
+        let to_group = target.is_group();
+        if asks && slips(Mistake::AskTellsNoDivisor) || slips(Mistake::NopTellsNothing) {
+            return false;
+        }
+        tells
+            || slips(Mistake::GroupNopTells) && to_group && command == Command::Nop
+            || slips(Mistake::EveryReplyTells) && !to_group
+    }
+
+    /// The divisor that a mistaken host takes a Nop's reply to tell.
+    fn slipped_divisor(&self, at: u8, index: usize) -> u8 {
+        match self.set {
+            Some(divisor) if self.rules.slips(Mistake::NopConfirmsPace) => divisor,
+            _ if self.rules.slips(Mistake::NopTellsRecorded) => {
+                self.entries[index].settings.divisor
+            }
+            _ => at,
+        }
+    }
+
+    /// What a mistaken host makes of a Nop to a node that had no good clear reply.
+    fn mistake_nop(&mut self, outcome: Outcome, at: u8, target: Target, command: Command) {
+        if command != Command::Nop || target.is_group() || outcome == Outcome::Clear {
+            return;
+        }
+        let silent = outcome == Outcome::Unconfirmed;
+        let tells = match silent {
+            true => self.rules.slips(Mistake::SilentNopTells),
+            false => self.rules.slips(Mistake::MarkedNopTells),
+        };
+        let doubts = silent && self.rules.slips(Mistake::SilentNopDoubts);
+        for index in self.may_be_written(target) {
+            if tells {
+                self.entries[index].learn_divisor(at);
+            }
+            if doubts {
+                self.entries[index].put_in_doubt(Setting::Divisor);
+            }
+        }
+    }
+
+    /// Whether a mistaken host takes a node that is known to hear at another divisor
+    /// as not written.
+    fn slips_into_sparing(&self, index: usize, at: u8, command: Command) -> bool {
+        let entry = &self.entries[index];
+        let deaf = entry.knows(Setting::Divisor) && entry.settings.divisor != at;
+        deaf && self.rules.slips(match command {
+            Command::SetBaudRate(_) => Mistake::DeafPaceSpared,
+            _ => Mistake::DeafSpared,
+        })
     }
 }

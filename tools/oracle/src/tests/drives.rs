@@ -9,9 +9,9 @@ use crate::session::Session;
 use crate::settings::Setting;
 
 /// A drive's NODE at power-up, but for address, group byte, leader and addressed:
-/// zeros, but for SR, which is 1.
+/// zeros, but for SR, which is 1, and the divisor.
 fn node(place: &str, mask: &str, gains_to_motion: &str, values: &str) -> String {
-    format!("01 {place} {mask} {gains_to_motion} {values}")
+    format!("01 3F {place} {mask} {gains_to_motion} {values}")
 }
 
 /// GAINS, stop byte and both MOTIONs of power-up; the bench values.
@@ -40,7 +40,7 @@ fn a_drive_s_status_packets_read() {
 #[test]
 fn a_drive_s_items_come_in_order() {
     let before = node("01 FF 00 01", "00", POWER_UP, VALUES);
-    let line = format!("20 12 01 {before} AA 01 13 FF 13");
+    let line = format!("20 12 3F 01 {before} AA 01 13 FF 13");
     let sum: u32 = crate::case::bytes(VALUES)
         .iter()
         .map(|byte| u32::from(*byte))
@@ -58,10 +58,10 @@ fn resets_zero_the_position() {
                  52 41 42 43 44 45 46 47 48 49 4A 4B 4C 4D";
     let zeroed = "00 00 00 00 65 66 67 68 69 6A 6B 6C 5A 01 71 72";
     let before = node("01 80 01 01", "01", other, VALUES);
-    let reset_position = last_answer(&[&format!("20 06 01 {before} AA 01 00 01")]);
+    let reset_position = last_answer(&[&format!("20 06 3F 01 {before} AA 01 00 01")]);
     let after = node("01 80 01 01", "01", other, zeroed);
     assert_eq!(reset_position, format!("00 06 00 00 00 00 00 00 {after}"));
-    let hard_reset = last_answer(&[&format!("20 00 01 {before} AA 01 0F 10")]);
+    let hard_reset = last_answer(&[&format!("20 00 3F 01 {before} AA 01 0F 10")]);
     let after = node("00 FF 00 00", "00", POWER_UP, zeroed);
     assert_eq!(hard_reset, format!("00 00 {after}"));
 }
@@ -69,12 +69,15 @@ fn resets_zero_the_position() {
 /// What a drive holds after a packet, from its gains to its motion in force.
 fn held_after(before: &str, packet: &str) -> String {
     let node = node("01 FF 00 01", "00", before, VALUES);
-    let answer = last_answer(&[&format!("20 02 01 {node} {}", crate::case::packet(packet))]);
+    let answer = last_answer(&[&format!(
+        "20 02 3F 01 {node} {}",
+        crate::case::packet(packet)
+    )]);
     assert!(
-        answer.starts_with("00 02 00 00 01 01 FF 00 01 00 "),
+        answer.starts_with("00 02 00 00 01 3F 01 FF 00 01 00 "),
         "{answer}"
     );
-    let held = &answer["00 02 00 00 01 01 FF 00 01 00 ".len()..];
+    let held = &answer["00 02 00 00 01 3F 01 FF 00 01 00 ".len()..];
     assert!(held.ends_with(VALUES));
     held[..held.len() - VALUES.len() - 1].to_string()
 }
@@ -147,7 +150,7 @@ fn when_ready(kinds: &str, lines: &[&str]) -> Vec<String> {
     let power_up = format!("30 {nodes:02X} {kinds}");
     let mut all = vec![power_up.as_str()];
     for _ in 0..nodes {
-        all.extend(["31 06", "35 00 00"]);
+        all.extend(["31 06 3F", "35 00 00"]);
     }
     all.extend(lines);
     answers(&all).split_off(1 + 2 * nodes)
@@ -167,26 +170,26 @@ fn numbers(kinds: &str, lines: &[&str]) -> Vec<String> {
 #[test]
 fn the_host_refuses_by_kinds() {
     let lines = [
-        ("33 04 00 02 00 05", "11"),
-        ("33 06 00 02 00 24 08 40", "11"),
-        ("33 04 00 02 00 0C", "11"),
-        ("33 04 00 01 01 05", "11"),
-        ("33 04 00 01 01 00", "11"),
-        ("33 04 01 FF 01 05", "11"),
-        ("33 04 01 FF 00 05", "11"),
-        ("33 05 00 01 01 17 06", "06"),
-        ("33 05 00 28 01 17 06", "06"),
-        ("33 05 01 A0 01 17 06", "06"),
-        ("33 05 01 7F 01 17 05", "06"),
-        ("33 05 00 28 01 17 05", "0A"),
-        ("33 04 00 02 01 05", "00"),
+        ("33 04 3F 00 02 00 05", "11"),
+        ("33 06 3F 00 02 00 24 08 40", "11"),
+        ("33 04 3F 00 02 00 0C", "11"),
+        ("33 04 3F 00 01 01 05", "11"),
+        ("33 04 3F 00 01 01 00", "11"),
+        ("33 04 3F 01 FF 01 05", "11"),
+        ("33 04 3F 01 FF 00 05", "11"),
+        ("33 05 3F 00 01 01 17 06", "06"),
+        ("33 05 3F 00 28 01 17 06", "06"),
+        ("33 05 3F 01 A0 01 17 06", "06"),
+        ("33 05 3F 01 7F 01 17 05", "06"),
+        ("33 05 3F 00 28 01 17 05", "0A"),
+        ("33 04 3F 00 02 01 05", "00"),
     ];
     let (calls, expected): (Vec<&str>, Vec<&str>) = lines.into_iter().unzip();
     assert_eq!(numbers("00 01", &calls), expected);
     let walking = answers(&[
         "30 02 00 01",
-        "33 06 01 FF 00 24 01 02",
-        "33 04 00 02 01 05",
+        "33 06 3F 01 FF 00 24 01 02",
+        "33 04 3F 00 02 01 05",
     ]);
     assert_eq!(walking[1], "11 55 55 55 55 55 55");
     assert_eq!(walking[2], "09 55 55 55 55");
@@ -196,16 +199,16 @@ fn the_host_refuses_by_kinds() {
 #[test]
 fn groups_of_both_kinds() {
     let lines = [
-        ("33 05 01 FF 00 12 01", "00"),
+        ("33 05 3F 01 FF 00 12 01", "00"),
         ("36", "00"),
-        ("33 04 01 A0 00 05", "00"),
+        ("33 04 3F 01 A0 00 05", "00"),
         ("36", "00"),
-        ("33 04 01 A0 01 05", "00"),
+        ("33 04 3F 01 A0 01 05", "00"),
         ("36", "00"),
-        ("34 06 02 90 00", "00"),
+        ("34 06 3F 02 90 00", "00"),
         ("36", "00"),
-        ("33 04 01 A0 00 05", "11"),
-        ("33 04 01 A0 01 05", "00"),
+        ("33 04 3F 01 A0 00 05", "11"),
+        ("33 04 3F 01 A0 01 05", "00"),
     ];
     let (calls, expected): (Vec<&str>, Vec<&str>) = lines.into_iter().unzip();
     assert_eq!(numbers("00 01", &calls), expected);
@@ -214,8 +217,8 @@ fn groups_of_both_kinds() {
 /// The settings of node 1 that a shown session has in doubt.
 fn in_doubt(shown: &str) -> Vec<Setting> {
     let bytes = crate::case::bytes(shown);
-    // The number, STATE's three bytes, no exchange; ENTRY's KIND and 46 bytes.
-    let known = u16::from_le_bytes([bytes[5 + 47], bytes[5 + 48]]);
+    // The number, STATE's three bytes, no exchange; ENTRY's KIND, divisor and 46 bytes.
+    let known = u16::from_le_bytes([bytes[5 + 48], bytes[5 + 49]]);
     let all = Setting::all(Kind::Drive).iter().copied();
     all.filter(|own| known & own.bit(Kind::Drive) == 0)
         .collect()
@@ -228,13 +231,13 @@ fn doubt_goes_with_each_copy() {
     let shown = when_ready(
         "01",
         &[
-            "33 09 00 01 01 54 04 58 01 00 00",
+            "33 09 3F 00 01 01 54 04 58 01 00 00",
             "36",
             "37",
-            "33 09 00 01 01 54 91 00 28 00 00",
+            "33 09 3F 00 01 01 54 91 00 28 00 00",
             "35 00 00",
             "37",
-            "33 04 00 01 01 05",
+            "33 04 3F 00 01 01 05",
             "36",
             "37",
         ],
@@ -297,10 +300,16 @@ fn recordings_by_kinds() {
     let walked = last_answer(&[&format!("50 02 00 01 {commands} {replies}")]);
     // Ended by 05 to a group of both kinds.
     assert!(walked.starts_with("00 01 0B 00 "), "{walked}");
-    let mut calls = vec!["30 02 00 01", "31 06", "35 00 00", "31 06", "35 00 00"];
-    calls.extend(["33 06 00 01 00 24 18 40", "35 00 00"]);
-    calls.extend(["33 06 00 02 01 24 18 40", "35 00 00"]);
-    calls.extend(["33 04 00 02 01 05", "35 00 00", "37"]);
+    let mut calls = vec![
+        "30 02 00 01",
+        "31 06 3F",
+        "35 00 00",
+        "31 06 3F",
+        "35 00 00",
+    ];
+    calls.extend(["33 06 3F 00 01 00 24 18 40", "35 00 00"]);
+    calls.extend(["33 06 3F 00 02 01 24 18 40", "35 00 00"]);
+    calls.extend(["33 04 3F 00 02 01 05", "35 00 00", "37"]);
     let shown = last_answer(&calls);
     assert!(walked.ends_with(&shown[3..]));
 }

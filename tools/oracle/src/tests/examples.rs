@@ -5,6 +5,7 @@ use super::{answers, last_answer};
 use crate::bench;
 use crate::cases_bench::DOCUMENT_EXAMPLE;
 use crate::command::Command;
+use crate::divisor::POWER_UP;
 use crate::hex;
 use crate::kind::{gates, Kind};
 use crate::layout;
@@ -63,7 +64,7 @@ fn left_over_bytes_are_refused() {
         ("AA 00 21 01 FF 21 AA 00 0E 0E", "03 00 55 55"),
         ("AB 00 21 01 FF 21 00", "02 00 55 55"),
     ] {
-        let line = format!("20 02 01 {node} {packet}");
+        let line = format!("20 02 3F 01 {node} {packet}");
         assert_eq!(last_answer(&[&line]), format!("{answer} {node}"));
     }
     let input = b"1\nAA 00 21 01 FF 21\nAA 01 0E 0F 00\nAA 01 0E 10 00\n";
@@ -87,16 +88,22 @@ fn packets_built() {
 
 #[test]
 fn packets_sent() {
-    let ready = ["30 02 00 00", "31 06", "35 00 00", "31 06", "35 00 00"];
+    let ready = [
+        "30 02 00 00",
+        "31 06 3F",
+        "35 00 00",
+        "31 06 3F",
+        "35 00 00",
+    ];
     let answers = answers(&ready);
     assert_eq!(answers[1], "00 AA 00 21 01 FF 21");
     assert_eq!(answers[3], "00 AA 00 21 02 FF 22");
     for (line, answer) in [
-        ("33 04 00 01 00 0E", "00 AA 01 0E 0F"),
-        ("33 05 00 01 00 13 04", "00 AA 01 13 04 18"),
-        ("33 06 00 02 00 26 05 00", "00 AA 02 26 05 00 2D"),
-        ("33 04 01 80 00 05", "00 AA 80 05 85"),
-        ("34 06 02 81 01", "00 AA 02 21 02 01 26"),
+        ("33 04 3F 00 01 00 0E", "00 AA 01 0E 0F"),
+        ("33 05 3F 00 01 00 13 04", "00 AA 01 13 04 18"),
+        ("33 06 3F 00 02 00 26 05 00", "00 AA 02 26 05 00 2D"),
+        ("33 04 3F 01 80 00 05", "00 AA 80 05 85"),
+        ("34 06 3F 02 81 01", "00 AA 02 21 02 01 26"),
     ] {
         assert_eq!(last_answer(&[&ready[..], &[line]].concat()), answer);
     }
@@ -116,7 +123,7 @@ fn ready(n: u8) -> Session {
     let kinds = gates(usize::from(n));
     session.power_up(n, &kinds).expect("1 to 31 nodes");
     for _ in 0..n {
-        session.next(&mut buffer).expect("next is due");
+        session.next(POWER_UP, &mut buffer).expect("next is due");
         session.report(&[0, 0]).expect("an exchange is open");
     }
     session
@@ -125,7 +132,7 @@ fn ready(n: u8) -> Session {
 /// Sends a command and reports what came.
 fn exchange(session: &mut Session, target: Target, command: Command, reply: &[u8]) {
     session
-        .command(target, command, &mut [0; 19])
+        .command(POWER_UP, target, command, &mut [0; 19])
         .expect("a ready session");
     session.report(reply).expect("an exchange is open");
 }
@@ -211,7 +218,7 @@ fn grouped() -> Session {
 /// Regroups a node to 0x80, as its leader or not, and reports what came.
 fn regroup(session: &mut Session, node: u8, leader: bool, reply: &[u8]) {
     session
-        .regroup(node, 0x80, leader, &mut [0; 19])
+        .regroup(POWER_UP, node, 0x80, leader, &mut [0; 19])
         .expect("a ready session");
     session.report(reply).expect("an exchange is open");
 }
@@ -277,23 +284,28 @@ fn a_group_s_marked_reply_changes_nothing() {
 fn a_second_leader_is_refused() {
     let mut session = ready(2);
     let mut buffer = [0x55; 19];
-    session.regroup(1, 0x80, true, &mut buffer).expect("free");
+    session
+        .regroup(POWER_UP, 1, 0x80, true, &mut buffer)
+        .expect("free");
     session.report(&[0, 0]).expect("an exchange is open");
-    let refused = session.regroup(2, 0x80, true, &mut buffer);
+    let refused = session.regroup(POWER_UP, 2, 0x80, true, &mut buffer);
     assert_eq!(refused.map_err(|refusal| refusal.number()), Err(11));
-    assert_eq!(session.regroup(2, 0x80, false, &mut buffer), Ok(6));
+    assert_eq!(
+        session.regroup(POWER_UP, 2, 0x80, false, &mut buffer),
+        Ok(6)
+    );
 }
 
 #[test]
 fn first_next_silent() {
     let lines = [
         "30 02 00 00",
-        "31 06",
+        "31 06 3F",
         "36",
-        "31 06",
-        "32 04",
+        "31 06 3F",
+        "32 04 3F",
         "35 00 00",
-        "31 06",
+        "31 06 3F",
     ];
     let answers = answers(&lines);
     assert_eq!(answers[3], "09 55 55 55 55 55 55");
@@ -309,5 +321,5 @@ fn a_fresh_session_is_closed_and_known() {
         .entries
         .iter()
         .all(|entry| *entry == Entry::power_up(Rules::RIGHT, Kind::Gate)));
-    assert_eq!(last_answer(&["31 00"]), "0C");
+    assert_eq!(last_answer(&["31 00 3F"]), "0C");
 }

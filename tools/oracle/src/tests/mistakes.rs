@@ -6,8 +6,8 @@ use super::fingerprint;
 use crate::cases::{self, line_names};
 use crate::cases_sheets::{self, further_exports, further_imports, further_plays, Named};
 use crate::rules::{Mistake, Rules, ALL};
-use crate::{bench, cases_bench, cases_carousels, cases_replay, cases_trials, demand3, edges};
-use crate::{export, hex, import, make_trials, play, replay, trials};
+use crate::{bench, cases_bench, cases_carousels, cases_divisors, cases_replay, cases_trials};
+use crate::{demand3, edges, export, hex, import, make_trials, play, replay, trials};
 
 /// The seed and the steps of demand 3 that each mistake is tried on.
 const DEMAND3: (u64, usize) = (1, 20_000);
@@ -78,9 +78,14 @@ fn carousels_input() -> Tried {
     Tried::new(cases::carousels(), names, trials::run)
 }
 
+fn divisors_input() -> Tried {
+    let names = line_names(&cases_divisors::cases(), 5000);
+    Tried::new(cases::divisors(), names, trials::run)
+}
+
 /// Made inputs of `trials`, whose lines have no names.
 fn made_trials() -> Vec<Tried> {
-    (0..20)
+    (0..30)
         .map(|seed| Tried::new(make_trials::make(seed, 1500), Vec::new(), trials::run))
         .collect()
 }
@@ -169,16 +174,17 @@ fn cell(found: &Option<(usize, String)>) -> String {
 /// The table of README.md.
 fn table() -> String {
     let (bench, trials, carousels) = (bench_inputs(), trials_input(), carousels_input());
-    let (edges, whole) = (edges_calls(), whole_inputs());
+    let (divisors, edges, whole) = (divisors_input(), edges_calls(), whole_inputs());
     let mut text = String::new();
     for (mistake, meaning) in ALL {
         let rules = Rules::with(*mistake);
         let in_bench = bench.iter().find_map(|tried| tried.differences(rules));
         text += &format!(
-            "| {meaning} | {} | {} | {} | {} | {} | {} |\n",
+            "| {meaning} | {} | {} | {} | {} | {} | {} | {} |\n",
             cell(&in_bench),
             cell(&trials.differences(rules)),
             cell(&carousels.differences(rules)),
+            cell(&divisors.differences(rules)),
             cell(&edges.differences(rules)),
             cell(&whole.differences(rules)),
             if in_demand3(rules) { "yes" } else { "-" }
@@ -193,7 +199,7 @@ fn every_mistake_is_noticed() {
     let table = table();
     for row in table.lines() {
         assert!(
-            !row.ends_with("| - | - | - | - | - | - |"),
+            !row.ends_with("| - | - | - | - | - | - | - |"),
             "unnoticed: {row}"
         );
     }
@@ -275,11 +281,11 @@ fn replies_are_noticed_in_deliveries() {
 /// for what a session that is kept changes.
 #[test]
 fn recordings_are_noticed_in_their_own_lines() {
-    let (trials, carousels) = (trials_input(), carousels_input());
+    let inputs = [trials_input(), carousels_input(), divisors_input()];
     for (mistake, meaning) in between(Mistake::CountsBeforeNodes, Mistake::RecordingLeftOver) {
         let rules = Rules::with(*mistake);
-        let mut kinds = trials.kinds_differing(rules);
-        kinds.extend(carousels.kinds_differing(rules));
+        let kinds = inputs.iter().flat_map(|own| own.kinds_differing(rules));
+        let kinds: BTreeSet<String> = kinds.collect();
         assert!(
             kinds.contains("50") || *mistake == Mistake::RecordingKept,
             "{meaning}"
@@ -336,6 +342,89 @@ fn drives_are_noticed_in_their_own_lines() {
         }
     }
 }
+
+/// What is wrong about divisors (request 7) is noticed by the stored cases of
+/// `divisors`: at the node, in refusals, in the record, in recordings; by made inputs;
+/// and what calls known that which isn't, or in doubt what is known, by demand 3.
+#[test]
+fn divisors_are_noticed_in_their_own_lines() {
+    let stored = divisors_input();
+    let made = made_trials();
+    for (mistakes, own) in [
+        (
+            between(Mistake::Divisor0AtPowerUp, Mistake::PaceUnanswered),
+            &["20"][..],
+        ),
+        (
+            between(Mistake::SentAtAny, Mistake::SentAtAny),
+            &["33", "39"],
+        ),
+        (between(Mistake::AnySet, Mistake::AnySet), &["39"]),
+        (
+            between(Mistake::DriveListUnheeded, Mistake::FirstKindListed),
+            &["31", "33", "34", "39"],
+        ),
+        (
+            between(Mistake::DivisorBeforeOpen, Mistake::DivisorBeforeOpen),
+            &["31", "32", "33", "34", "39"],
+        ),
+        (
+            between(Mistake::DivisorBeforeRange, Mistake::DivisorBeforeRange),
+            &["33", "34", "39"],
+        ),
+        (
+            between(Mistake::DivisorAfterNode, Mistake::DivisorAfterNode),
+            &["33", "34"],
+        ),
+        (
+            between(Mistake::DivisorAfterWalk, Mistake::DivisorAfterWalk),
+            &["31", "32", "33", "34", "39"],
+        ),
+        (
+            between(Mistake::DivisorAfterPaced, Mistake::RoomBeforePaced),
+            &["39"],
+        ),
+        (
+            between(Mistake::NopConfirmsPace, Mistake::WaitsAtPowerUps),
+            &["37"],
+        ),
+        (
+            between(Mistake::PaceRecorded, Mistake::PaceRecorded),
+            &["50"],
+        ),
+    ] {
+        for (mistake, meaning) in mistakes {
+            let rules = Rules::with(*mistake);
+            let kinds = stored.kinds_differing(rules);
+            let noticed = own.iter().all(|kind| kinds.contains(*kind));
+            assert!(noticed, "{meaning}: {kinds:?}");
+            assert!(noticing(&made, rules) >= 1, "{meaning}, made");
+        }
+    }
+    for mistake in FAILING_DEMAND_3 {
+        assert!(in_demand3(Rules::with(mistake)), "{mistake:?}, demand 3");
+    }
+}
+
+/// Of the mistakes about divisors those that demand 3 forbids.
+const FAILING_DEMAND_3: [Mistake; 16] = [
+    Mistake::PacedUnheeded,
+    Mistake::PacedByLeadersAlone,
+    Mistake::PacedByDoubtAlone,
+    Mistake::NopConfirmsPace,
+    Mistake::NopTellsRecorded,
+    Mistake::NopTellsNothing,
+    Mistake::SilentNopTells,
+    Mistake::SilentNopDoubts,
+    Mistake::MarkedNopTells,
+    Mistake::GroupNopTells,
+    Mistake::EveryReplyTells,
+    Mistake::DeafPaceSpared,
+    Mistake::DeafSpared,
+    Mistake::SilencePaces,
+    Mistake::WaitsAtPowerUps,
+    Mistake::HistoryNopWritesNothing,
+];
 
 /// What is wrong about whom a group's reply confirms for (request 4), in the
 /// record.

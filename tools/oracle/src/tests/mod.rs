@@ -1,5 +1,6 @@
 //! The oracle's own tests.
 
+mod divisors;
 mod drives;
 mod examples;
 mod mistakes;

@@ -18,6 +18,7 @@ fn bench_counts() {
             "document" | "document-unended" => assert_eq!(output.lines().count(), 5),
             "walk-of-31" => assert_eq!(output, "00 00\n".repeat(31)),
             "walk-of-1" => assert_eq!(output, "00 00\n-\n"),
+            "full-speed" => assert_eq!(output, "00 00\n".repeat(2) + &"-\n".repeat(6)),
             "count-alone" | "count-ended" => assert_eq!(output, ""),
             "empty-packet" => assert_eq!(output, "refused 1\n"),
             _ => assert_eq!(output, "refused 6\n", "{name}"),
@@ -73,25 +74,25 @@ fn trials_reads_64_kib() {
 
 #[test]
 fn a_shown_session_can_be_handed_in() {
-    let lines = ["30 02 00 00", "31 06", "36", "37"];
+    let lines = ["30 02 00 00", "31 06 3F", "36", "37"];
     let shown = last_answer(&lines);
     let hand_in = format!("38{}", &shown[2..]);
     assert_eq!(last_answer(&[hand_in.as_str(), "37"]), shown);
-    let unknown_bit = format!("{}7F", &hand_in[..hand_in.len() - 2]);
+    let unknown_bit = format!("{}FF", &hand_in[..hand_in.len() - 2]);
     assert_eq!(last_answer(&[unknown_bit.as_str()]), "FF");
 }
 
 #[test]
 fn no_nodes_and_open_counts_as_ready() {
-    let entries = " 00 00 FF 00 00 00 00 00 00 00 00 00 00 00 3F".repeat(31);
+    let entries = " 00 3F 00 FF 00 00 00 00 00 00 00 00 00 00 00 7F".repeat(31);
     let hand_in = format!("38 01 00 00 00{entries}");
     for (line, answer) in [
-        ("31 00", "09"),
-        ("32 00", "09"),
-        ("33 04 01 80 00 0E", "00 AA 80 0E 8E"),
-        ("33 00 00 01 00 0E", "0A"),
-        ("34 00 01 7F 01", "06"),
-        ("34 00 01 80 01", "0A"),
+        ("31 00 3F", "09"),
+        ("32 00 3F", "09"),
+        ("33 04 3F 01 80 00 0E", "00 AA 80 0E 8E"),
+        ("33 00 3F 00 01 00 0E", "0A"),
+        ("34 00 3F 01 7F 01", "06"),
+        ("34 00 3F 01 80 01", "0A"),
         ("36", "08"),
     ] {
         assert_eq!(last_answer(&[hand_in.as_str(), line]), answer, "{line}");
@@ -105,6 +106,10 @@ fn edges_of_every_kind() {
     for line in [
         "order Set Address, walk and node 02 01:06 00 55 55 55 55 55",
         "order Set Address, walk and node 03 01:0C 00 55 55 55 55 55",
+        "order Set Baud Rate, walk and address 02 FF:06 00 55 55 55 55 55",
+        "order Set Baud Rate, walk and address 03 FF:0C 00 55 55 55 55 55",
+        "order Set Baud Rate, divisor and data 00 0A:06 00 55 55 55 55 55",
+        "build Set Baud Rate, kind and address 01 FF:00 05 AA FF 1A 0A 23",
         "build Nop, kind and address 00 7F:00 04 AA 7F 0E 8D 55",
         "build Nop, kind and address 00 80:06 00 55 55 55 55 55",
         "build Nop, kind and address 01 7F:06 00 55 55 55 55 55",

@@ -3,6 +3,7 @@
 use crate::chain::{deliver, Delivery};
 use crate::command::{Command, COMMAND_BYTES};
 use crate::demand3;
+use crate::divisor::POWER_UP;
 use crate::hex;
 use crate::kind::Kind;
 use crate::make_packets::{any_command, drive_command, followed, off_range_command, packet};
@@ -81,7 +82,7 @@ fn left_over_bytes_are_the_chains() {
         let own = framed.map_or(&bytes[..], |packet| &bytes[..packet.end]);
         assert_eq!(read(RIGHT, &bytes), read(RIGHT, own));
         assert_ne!(read(RIGHT, &bytes).err(), Some(Refusal::TooLong));
-        let delivered = deliver(RIGHT, &mut nodes, &bytes, &mut [0; 19]);
+        let delivered = deliver(RIGHT, &mut nodes, POWER_UP, &bytes, &mut [0; 19]);
         let is_left_over = own.len() < bytes.len();
         assert_eq!(delivered == Err(Refusal::TooLong), is_left_over);
         left_over += usize::from(is_left_over);
@@ -154,7 +155,7 @@ fn a_reply_reads_under_its_mask() {
         let mut nodes = [Node::powered_up(RIGHT, kind)];
         let mut buffer = [0; 19];
         let packet = crate::packet::whole(0x00, 0x2, &[mask]);
-        let delivery = deliver(RIGHT, &mut nodes, &packet, &mut buffer);
+        let delivery = deliver(RIGHT, &mut nodes, POWER_UP, &packet, &mut buffer);
         let Ok(Delivery::Reply(length)) = delivery else {
             panic!("one node replies: {delivery:?}");
         };
@@ -189,7 +190,7 @@ fn keeps_what_was_lent(line: &[u8], answer: &[u8]) -> bool {
             let records = &answer[2 + room..];
             answer[1] == 0
                 && answer[2..2 + room].iter().all(|byte| *byte == 0x55)
-                && *records == bytes[3..3 + records.len()]
+                && *records == bytes[4..4 + records.len()]
         }
         // An import's or export's value says no length.
         Some(0x40 | 0x41) if answer.len() > 1 => {
@@ -221,9 +222,10 @@ fn numbers_keep_to_their_calls() {
                 Some(0x12) => &[0, 1, 3, 4],
                 Some(0x20) => &[0, 1, 2, 3, 5, 6, 13],
                 Some(0x30) => &[0, 6],
-                Some(0x31 | 0x32) => &[0, 5, 7, 9, 12],
-                Some(0x33) => &[0, 5, 6, 7, 9, 10, 12, 17],
-                Some(0x34) => &[0, 5, 6, 7, 9, 10, 11, 12],
+                Some(0x31 | 0x32) => &[0, 5, 7, 9, 12, 18],
+                Some(0x33) => &[0, 5, 6, 7, 9, 10, 12, 17, 18],
+                Some(0x34) => &[0, 5, 6, 7, 9, 10, 11, 12, 18],
+                Some(0x39) => &[0, 5, 6, 7, 9, 12, 18, 19],
                 Some(0x35 | 0x36) => &[0, 8],
                 Some(0x37 | 0x38) => &[0],
                 Some(0x40 | 0x42) => &[0, 5, 6, 14],
@@ -239,7 +241,7 @@ fn numbers_keep_to_their_calls() {
 #[test]
 fn demand_3_holds() {
     for seed in 0..4 {
-        let counts = demand3::run(RIGHT, seed, 20_000);
+        let counts = demand3::run(RIGHT, seed, 40_000);
         let counts = counts.unwrap_or_else(|violation| panic!("{violation}"));
         assert!(counts.ready > 50 && counts.doubts > 1000 && counts.refused > 100);
         assert!(counts.missed > 1000, "{counts}");

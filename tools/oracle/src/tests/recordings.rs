@@ -5,6 +5,7 @@ use super::{answers, last_answer};
 use crate::call::{after_sending, Call};
 use crate::command::{Command, Held};
 use crate::demand3::{stories, Heard};
+use crate::divisor::POWER_UP;
 use crate::drive::{Gains, Motion, Stop};
 use crate::kind::Kind;
 use crate::make_packets::{drive_command, group, off_range_command};
@@ -112,7 +113,7 @@ fn all_calls(prng: &mut Prng) -> Vec<Call> {
 /// The bytes that a call gives with number 0, and the session after it.
 fn given(host: &Session, call: Call) -> Option<(Vec<u8>, Session)> {
     let (mut after, mut buffer) = (host.clone(), [0; 19]);
-    let length = call.make(&mut after, &mut buffer).ok()?;
+    let length = call.make(&mut after, POWER_UP, &mut buffer).ok()?;
     Some((buffer[..length].to_vec(), after))
 }
 
@@ -351,7 +352,7 @@ fn only_differences_of_times_count() {
 /// of gates.
 fn steps(line: &str) -> String {
     let answer = last_answer(&[line]);
-    let state = 3 * (3 + 1 + 31 * 15);
+    let state = 3 * (3 + 1 + 31 * 16);
     match answer.len().checked_sub(state) {
         Some(end) => answer[..end].trim_end().to_string(),
         None => answer,
@@ -397,7 +398,7 @@ fn the_state_is_that_of_the_same_calls() {
     let clear = "02 00 00 00 02 00 00 00 00 00 00 00 00 00";
     for (replies, report) in [(clear, "35 00 00"), ("00 00 00 00", "36")] {
         let line = format!("50 02 00 00 {first} {replies}");
-        let shown = last_answer(&["30 02 00 00", "31 06", report, "37"]);
+        let shown = last_answer(&["30 02 00 00", "31 06 3F", report, "37"]);
         assert!(last_answer(&[&line]).ends_with(&shown[3..]));
         let around = answers(&["30 03 00 00 00", "37", &line, "37"]);
         assert_eq!(around[1], around[3]);

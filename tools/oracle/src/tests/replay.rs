@@ -20,8 +20,8 @@ fn the_document_s_example() {
 4 < 00 00 | clear | node 1: place 01 group FF
 end of the recording
 2 nodes, walk at 1
-node 1: place 01 group FF, mask 00, outputs 0000, PWM 00 00, held 0000 00 00, timer 00
-node 2: place 00 group FF, mask 00, outputs 0000, PWM 00 00, held 0000 00 00, timer 00
+node 1: place 01 group FF, mask 00, divisor 3F, outputs 0000, PWM 00 00, held 0000 00 00, timer 00
+node 2: place 00 group FF, mask 00, divisor 3F, outputs 0000, PWM 00 00, held 0000 00 00, timer 00
 ";
     assert_eq!(written.as_deref(), Ok(expected));
 }
@@ -36,7 +36,7 @@ fn a_lost_reply() {
         "1796 < 00 00 | clear | node 1: outputs 0000",
         "end of the recording",
         "2 nodes, ready",
-        "node 2: place 02 group FF, mask 00, outputs 0000 in doubt, PWM 00 00, \
+        "node 2: place 02 group FF, mask 00, divisor 3F, outputs 0000 in doubt, PWM 00 00, \
          held 0000 00 00, timer 00",
     ] {
         assert!(written.lines().any(|own| own == line), "{line}");
@@ -87,8 +87,8 @@ fn a_carousel() {
          acceleration 00006400",
         "end of the recording",
         "3 nodes, ready",
-        "node 2: place 02 group FF, mask 00, outputs 0001, PWM 00 00, held 0000 00 00, timer 00",
-        "node 3, drive: place 03 group FF, mask 00, gains KP 0000 KD 0000 KI 0000 IL 0000 OL 00 \
+        "node 2: place 02 group FF, mask 00, divisor 3F, outputs 0001, PWM 00 00, held 0000 00 00, timer 00",
+        "node 3, drive: place 03 group FF, mask 00, divisor 3F, gains KP 0000 KD 0000 KI 0000 IL 0000 OL 00 \
          EL 0000 SR 01 DB 00, stop 05, waiting control 11, waiting position 00002800, waiting \
          velocity 00018000, waiting acceleration 00006400, waiting PWM 00, control 11, \
          position 00002800, velocity 00018000, acceleration 00006400, PWM 00",
@@ -145,7 +145,7 @@ fn the_stored_input_says_much() {
         "node 4: stop 11\n",
         "| clear | node 4: control 00 in doubt, position -00004E20, velocity 00000000 in doubt, \
          acceleration 00006400, PWM 40\n",
-        "node 4, drive: place 04 group 91 leader in doubt, mask 00 in doubt, gains",
+        "node 4, drive: place 04 group 91 leader in doubt, mask 00 in doubt, divisor 3F in doubt, gains",
         "\nend of the recording\n4 nodes, closed\n",
     ] {
         assert!(written.contains(words), "{words:?}");
@@ -213,9 +213,22 @@ fn replay_tells() {
             "not-cut-short" | "not-a-gap-inside" => ended("cut short", "ready"),
             "not-no-header" => ended("no header", "ready"),
             "not-left-over" | "not-two-at-once" => ended("bytes left over", "ready"),
-            "not-another" | "not-another-count" | "not-another-to-all" | "not-high-address" => {
-                ended("another command", "ready")
-            }
+            "not-another"
+            | "not-another-count"
+            | "not-another-to-all"
+            | "not-high-address"
+            | "not-a-baud-rate-of-two" => ended("another command", "ready"),
+            "not-a-baud-rate" => ended("Set Baud Rate 0A to group FF", "ready"),
+            "not-a-baud-rate-of-3f" => ended("Set Baud Rate 3F to group 80", "ready"),
+            "not-a-baud-rate-unlisted" => ended("Set Baud Rate 55 to group FF", "ready"),
+            "not-a-baud-rate-to-a-node" => ended("Set Baud Rate 3F to node 1", "ready"),
+            "not-a-baud-rate-for-both" => ended("Set Baud Rate 14 to group FF", "ready"),
+            "not-a-baud-rate-to-a-drive" => ended("Set Baud Rate 0A to node 2", "ready"),
+            "not-a-baud-rate-in-walk" => ended("Set Baud Rate 0A to group FF", "walk at 0"),
+            "not-a-baud-rate-while-waiting" => format!(
+                "Set Baud Rate 0A to group FF | silence before it: \
+                 node 2: outputs 0000 in doubt; {ENDS}; 2 nodes, ready"
+            ),
             "not-a-drive-s"
             | "not-a-drive-s-0c"
             | "not-a-drive-s-address"
@@ -306,6 +319,7 @@ fn made_recordings_tell_everything() {
         "wrong sum",
         "cut short",
         "another command",
+        "Set Baud Rate",
         "longer than 64 KiB",
         "1 to 31",
         "not a run of bytes",

@@ -19,7 +19,7 @@ module _ (κs : Lfts (deliver.ended .signature .lifetimes)) (a : Args (deliver.e
   -- what the contract says of the result r and the parameters e at exit
   abbrev pub Post : Res (deliver.ended .signature) κs → AtExit deliver.ended κs → Type 0
   Post r e =
-      Lending deliveryNumber r (record { nodes = now (e .0); reply = now (e .1 .1 .0) }) (deliverOf (now (a .0)) (now (a .1 .0)) (now (a .1 .1 .0)))
+      Lending deliveryNumber r (record { nodes = now (e .0); reply = now (e .1 .1 .1 .0) }) (deliverOf (now (a .0)) (a .1 .0) (now (a .1 .1 .0)) (now (a .1 .1 .1 .0)))
 
   pub deliver-reads : {M : Type 1} (𝓤 : URA M) (H : Heap 𝓤) (A : Atoms 𝓤) (mem : Memory → SProp 𝓤) (run : Routine → Fun 𝓤)
       (g : deliver.clauses 𝓤 H A mem run κs a .ghost) (r : Res (deliver.ended .signature) κs) (e : AtExit deliver.ended κs)
@@ -28,7 +28,7 @@ module _ (κs : Lfts (deliver.ended .signature .lifetimes)) (a : Args (deliver.e
 
   -- the answer, the table's nodes, and what the reply buffer holds
   pub deliver-unique : (r r′ : Res (deliver.ended .signature) κs) (e e′ : AtExit deliver.ended κs) → Post r e → Post r′ e′
-      → (r ≡ r′) × (now (e .0) ≡ now (e′ .0)) × (now (e .1 .1 .0) ≡ now (e′ .1 .1 .0))
+      → (r ≡ r′) × (now (e .0) ≡ now (e′ .0)) × (now (e .1 .1 .1 .0) ≡ now (e′ .1 .1 .1 .0))
   deliver-unique r r′ e e′ p q =
       let k = p .leaves ∙ sym (q .leaves) in
       (p .answer ∙ sym (q .answer), ap (λ (l : Lent). l .nodes) k, ap (λ (l : Lent). l .reply) k)

@@ -1,5 +1,5 @@
 // The chain as node records side by side in a table that the caller lends.
-// Promised: for every lent table, packet and reply buffer the paper's number, the nodes as the packet leaves them and the one reply; any number but 0 and 13 changes nothing.
+// Promised: for every lent table, divisor, packet and reply buffer the paper's number, the nodes as the packet leaves them and the one reply; any number but 0 and 13 changes nothing.
 // Left to others: who hears, acts and replies (survey), and who keeps the nodes (table).
 mod steps;
 
@@ -53,11 +53,11 @@ fn act_all(table: &mut [Node], decided: Decided)
     }
 }
 
-// A packet to the chain. 6 comes first, then 1, 2 and 3 as the packet is read, then 5, before any node acts.
-pub fn deliver(table: &mut [Node], packet: &[u8], reply: &mut [u8]) -> Delivery
-    ensures { λ r. ⌜ Lending deliveryNumber r (record { nodes = now (table .exit); reply = now (reply .exit) }) (deliverOf (now (table .entry)) (now (packet .entry)) (now (reply .entry))) ⌝ }
+// A packet to the chain, sent at a divisor. 6 comes first, then 1, 2 and 3 as the packet is read, then 5, before any node acts.
+pub fn deliver(table: &mut [Node], at: u8, packet: &[u8], reply: &mut [u8]) -> Delivery
+    ensures { λ r. ⌜ Lending deliveryNumber r (record { nodes = now (table .exit); reply = now (reply .exit) }) (deliverOf (now (table .entry)) at (now (packet .entry)) (now (reply .entry))) ⌝ }
 {
-    let incoming = survey::receive(packet);
+    let incoming = survey::receive(at, packet);
     let surveyed = survey_all(table, incoming);
     let decided = survey::decide(surveyed, reply);
     act_all(table, decided);

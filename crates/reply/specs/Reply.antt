@@ -2,7 +2,7 @@
 use Prim.Native.Nat.{ℕ}
 use mathlib.Core.List.{List}
 use Rattle.command.specs.declared.Role.{Role}
-use Rattle.command.specs.declared.Role.the-variants.{Plain, Places, Masks, Captures, Zeroes, Idles, Resets}
+use Rattle.command.specs.declared.Role.the-variants.{Plain, Places, Paces, Masks, Captures, Zeroes, Idles, Resets}
 use Rattle.command.specs.Role.{roleOf}
 use Rattle.status.specs.Status.{statusPacket}
 use Rattle.node.specs.declared.state.Node.{Node}
@@ -15,6 +15,7 @@ use Rattle.reply.specs.Items.{replyItems}
 abbrev pub ownMask : Role → ℕ → ℕ
 ownMask Plain held = held
 ownMask (Places p) held = held
+ownMask (Paces d) held = held
 ownMask (Masks m) held = m
 ownMask Captures held = held
 ownMask Zeroes held = held

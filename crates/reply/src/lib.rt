@@ -27,6 +27,7 @@ fn own_mask(role: Role, held: u8) -> u8
         Role::Masks(mask) => mask,
         Role::Plain => held,
         Role::Places(_) => held,
+        Role::Paces(_) => held,
         Role::Captures => held,
         Role::Zeroes => held,
         Role::Idles => held,

@@ -19,6 +19,7 @@ use Rattle.text.specs.declared.digits.Decimal.the-variants.{Value, Malformed}
 use Rattle.hex.proofs.Puts.{length-line}
 use Rattle.hex.proofs.Meaning.{read-written}
 use Rattle.status.specs.Status.{mostReply}
+use Rattle.node.specs.Effect.{divisorUp}
 use Rattle.table.specs.declared.Table.{Table}
 use Rattle.survey.specs.declared.decision.Delivery.{Delivery}
 use Rattle.survey.specs.declared.decision.Delivery.the-variants.{Silent, Replied, Collision, Refused}
@@ -46,17 +47,17 @@ long-enough : (p : List ℕ) → 4 ≤ length p → 11 ≤ length (hexText p)
 long-enough p h = omega (arith, length-line p (omega arith), length-append (hexText p) (newline ∷ []))
 
 module _ (t : Table) (l : List ℕ) where
-  brief : (p : List ℕ) → length p < 4 → length (answerStep (tableDeliver t p (replicate mostReply 0)) .line) ≤ 10
+  brief : (p : List ℕ) → length p < 4 → length (answerStep (tableDeliver t divisorUp p (replicate mostReply 0)) .line) ≤ 10
   unfolding numberEnd decimalOf tableDeliver
-  brief p h = deliver-brief (nodesOf t) p (replicate mostReply 0) h (λ (o : Outcome Delivery Lent). length (answerStep (keptBy t o) .line) ≤ 10) (omega arith) (omega arith) (omega arith)
+  brief p h = deliver-brief (nodesOf t) divisorUp p (replicate mostReply 0) h (λ (o : Outcome Delivery Lent). length (answerStep (keptBy t o) .line) ≤ 10) (omega arith) (omega arith) (omega arith)
 
-  any : (p : List ℕ) → length (answerStep (tableDeliver t p (replicate mostReply 0)) .line) ≤ 57
+  any : (p : List ℕ) → length (answerStep (tableDeliver t divisorUp p (replicate mostReply 0)) .line) ≤ 57
   unfolding tableDeliver
   any p =
-      let z : length (tableDeliver t p (replicate mostReply 0) .left) ≡ mostReply = deliver-left (nodesOf t) p (replicate mostReply 0) in
-      answer-short (tableDeliver t p (replicate mostReply 0) .answer .answer) (tableDeliver t p (replicate mostReply 0) .left) (omega arith)
+      let z : length (tableDeliver t divisorUp p (replicate mostReply 0) .left) ≡ mostReply = deliver-left (nodesOf t) divisorUp p (replicate mostReply 0) in
+      answer-short (tableDeliver t divisorUp p (replicate mostReply 0) .answer .answer) (tableDeliver t divisorUp p (replicate mostReply 0) .left) (omega arith)
 
-  by-length : (p : List ℕ) (b : Bool) → ltb (length p) 4 ≡ b → l ≡ hexText p → length (answerStep (tableDeliver t p (replicate mostReply 0)) .line) ≤ 10 * (length l + 1)
+  by-length : (p : List ℕ) (b : Bool) → ltb (length p) 4 ≡ b → l ≡ hexText p → length (answerStep (tableDeliver t divisorUp p (replicate mostReply 0)) .line) ≤ 10 * (length l + 1)
   by-length p true e f = omega (arith, brief p (ltb-true (length p) 4 e))
   by-length p false e f =
       let k : 11 ≤ length l = rw f (long-enough p (ltb-false (length p) 4 e)) in

@@ -17,6 +17,7 @@ use Rattle.text.proofs.Parts.{lines-next}
 use Rattle.hex.proofs.Meaning.{read-written}
 use Rattle.status.specs.Status.{mostReply}
 use Rattle.node.specs.declared.state.Node.{Node}
+use Rattle.node.specs.Effect.{divisorUp}
 use Rattle.node.specs.Node.{powerUp}
 use Rattle.survey.specs.Chain.{zeros}
 use Rattle.table.specs.declared.Table.{Table}
@@ -53,7 +54,7 @@ module _ (t : Table) (l b : List ℕ) (found : Parsed) (e : Lending parsedNumber
       go malformed e = f
       go (bytes p) e = impossible cc
 
-  pub play-good : (n : ℕ) (d : List ℕ) → found ≡ Bytes n → d ≡ take n b → Played (answerStep (tableDeliver t d (replicate mostReply 0))) at o r m → Played (playOf t l) at o r m
+  pub play-good : (n : ℕ) (d : List ℕ) → found ≡ Bytes n → d ≡ take n b → Played (answerStep (tableDeliver t divisorUp d (replicate mostReply 0))) at o r m → Played (playOf t l) at o r m
   unfolding playOf
   play-good n d h g f = go (bytesIn l) (λ p q. read-written l p q .small) (sym h ∙ e .answer) (e .leaves)
     where
@@ -63,7 +64,7 @@ module _ (t : Table) (l b : List ℕ) (found : Parsed) (e : Lending parsedNumber
       go (bytes p) s i j =
           let en : n ≡ length p = cc in
           let ed : d ≡ take (length p) (over p (replicate 20 0)) = g ∙ rw (en, j) in
-          rw (← deliver-kept t p (replicate mostReply 0) (replicate 20 0) refl (byte-at p 2 (s p refl)), ← ed) f
+          rw (← deliver-kept t divisorUp p (replicate mostReply 0) (replicate 20 0) refl (byte-at p 2 (s p refl)), ← ed) f
 
 -- ---- all lines: those from i on are still to be played
 

@@ -1,4 +1,4 @@
--- Document 01, the bench program: "a decimal node count, then per line one packet". What it writes for what it reads.
+-- Document 01, the bench program: "a decimal node count, then per line one packet". What it writes for what it reads; with document 02, request 7.
 use Prim.Native.Nat.{ℕ}
 use mathlib.Core.Bool.{cond}
 use mathlib.Core.List.{List, [], _∷_, _++_}
@@ -9,6 +9,7 @@ use Rattle.wire.specs.Numbers.{mostNodes}
 use Rattle.wire.specs.declared.kind.Kind.the-variants.{Gate}
 use Rattle.wire.specs.declared.refusal.Refusal.the-variants.{Range}
 use Rattle.status.specs.Status.{mostReply}
+use Rattle.node.specs.Effect.{divisorUp}
 use Rattle.node.specs.Node.{powerUp}
 use Rattle.survey.specs.Chain.{zeros}
 use Rattle.table.specs.declared.Table.{Table}
@@ -40,8 +41,9 @@ answerStep o = record { table = o .answer .table; line = answerLine (o .answer .
 abbrev pub refuseStep : Table → Stepped
 refuseStep t = record { table = t; line = refusedLine Range }
 
+-- "sends every line at 0x3F", which is the divisor of power-up
 abbrev pub onContent : Table → Content → Stepped
-onContent t (bytes p) = answerStep (tableDeliver t p (replicate mostReply 0))
+onContent t (bytes p) = answerStep (tableDeliver t divisorUp p (replicate mostReply 0))
 onContent t malformed = refuseStep t
 
 unfoldable pub playOf : Table → List ℕ → Stepped

@@ -1,4 +1,4 @@
--- The bench program's input and whole output, in ASCII codes: document 01's example, and the edges of the text's form.
+-- The bench program's input and whole output, in ASCII codes: document 01's example, a Set Baud Rate, and the edges of the text's form.
 use Prim.Native.Nat.{ℕ}
 use mathlib.Core.List.{List, [], _∷_}
 use Rattle.text.specs.Lines.{newline}
@@ -12,6 +12,13 @@ abbrev pub paper : Rehearsal
 paper = record {
   input = 50 ∷ newline ∷ 65 ∷ 65 ∷ 32 ∷ 48 ∷ 48 ∷ 32 ∷ 50 ∷ 49 ∷ 32 ∷ 48 ∷ 49 ∷ 32 ∷ 70 ∷ 70 ∷ 32 ∷ 50 ∷ 49 ∷ newline ∷ 65 ∷ 65 ∷ 32 ∷ 48 ∷ 48 ∷ 32 ∷ 50 ∷ 49 ∷ 32 ∷ 48 ∷ 50 ∷ 32 ∷ 70 ∷ 70 ∷ 32 ∷ 50 ∷ 50 ∷ newline ∷ 65 ∷ 65 ∷ 32 ∷ 48 ∷ 50 ∷ 32 ∷ 50 ∷ 54 ∷ 32 ∷ 48 ∷ 53 ∷ 32 ∷ 48 ∷ 48 ∷ 32 ∷ 50 ∷ 68 ∷ newline ∷ 65 ∷ 65 ∷ 32 ∷ 48 ∷ 49 ∷ 32 ∷ 48 ∷ 69 ∷ 32 ∷ 49 ∷ 48 ∷ newline ∷ 65 ∷ 65 ∷ 32 ∷ 70 ∷ 70 ∷ 32 ∷ 48 ∷ 69 ∷ 32 ∷ 48 ∷ 68 ∷ newline ∷ [];
   output = 48 ∷ 48 ∷ 32 ∷ 48 ∷ 48 ∷ newline ∷ 48 ∷ 48 ∷ 32 ∷ 48 ∷ 48 ∷ newline ∷ 48 ∷ 48 ∷ 32 ∷ 48 ∷ 48 ∷ newline ∷ 48 ∷ 50 ∷ 32 ∷ 48 ∷ 50 ∷ newline ∷ 45 ∷ newline ∷ [];
+}
+
+-- document 02, request 7: a Set Baud Rate by individual address changes nothing; after one to the group of all, no later line is heard, as each is sent at 0x3F
+abbrev pub paced : Rehearsal
+paced = record {
+  input = 49 ∷ newline ∷ 65 ∷ 65 ∷ 32 ∷ 48 ∷ 48 ∷ 32 ∷ 49 ∷ 65 ∷ 32 ∷ 48 ∷ 65 ∷ 32 ∷ 50 ∷ 52 ∷ newline ∷ 65 ∷ 65 ∷ 32 ∷ 70 ∷ 70 ∷ 32 ∷ 49 ∷ 65 ∷ 32 ∷ 48 ∷ 65 ∷ 32 ∷ 50 ∷ 51 ∷ newline ∷ 65 ∷ 65 ∷ 32 ∷ 48 ∷ 48 ∷ 32 ∷ 48 ∷ 69 ∷ 32 ∷ 48 ∷ 69 ∷ newline ∷ 65 ∷ 65 ∷ 32 ∷ 70 ∷ 70 ∷ 32 ∷ 49 ∷ 65 ∷ 32 ∷ 51 ∷ 70 ∷ 32 ∷ 53 ∷ 56 ∷ newline ∷ [];
+  output = 48 ∷ 48 ∷ 32 ∷ 48 ∷ 48 ∷ newline ∷ 45 ∷ newline ∷ 45 ∷ newline ∷ 45 ∷ newline ∷ [];
 }
 
 abbrev pub edges : List Rehearsal

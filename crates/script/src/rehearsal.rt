@@ -17,6 +17,7 @@ ghost use lib.Dec.{ltb};
 ghost use Rattle.wire.specs.Promise.{Lending};
 ghost use Rattle.buffer.specs.Buffer.{builtNumber, written};
 ghost use Rattle.status.specs.Status.{mostReply};
+ghost use Rattle.node.specs.Effect.{divisorUp};
 ghost use Rattle.table.specs.Table.{tableDeliver};
 ghost use Rattle.text.specs.Lines.{linesOf};
 ghost use Rattle.buffer.specs.Wrote.{Wrote};
@@ -61,13 +62,13 @@ fn start(count: usize) -> Table
     }
 }
 
-// A packet to the chain; its answer as a line.
+// A packet to the chain, as every line at the divisor of power-up; its answer as a line.
 fn answer_step(table: Table, packet: &[u8], out: &mut [u8], at: usize) -> Step
     requires { ⌜ at ≤ far ⌝ }
-    ensures { λ r. ⌜ Played (answerStep (tableDeliver table (now (packet .entry)) (replicate mostReply 0))) at (now (out .entry)) r (now (out .exit)) ⌝ }
+    ensures { λ r. ⌜ Played (answerStep (tableDeliver table divisorUp (now (packet .entry)) (replicate mostReply 0))) at (now (out .entry)) r (now (out .exit)) ⌝ }
 {
     let mut reply = [0; status::MOST_REPLY];
-    let d = table::deliver(table, packet, &mut reply);
+    let d = table::deliver(table, Node::DIVISOR, packet, &mut reply);
     let answer = d.answer;
     let after = d.table;
     let p = put_answer_line(out, at, answer, &reply);

@@ -55,10 +55,10 @@ regroup : (a x y z : ℕ) → z ≡ a + x → z + y ≡ a + (x + y)
 regroup a x y z e = omega (arith, e)
 
 -- one of the sets: it is `of s` when s was seen, and node i joins it if f says so
-module _ (to : Address) (h : Messages) (f : Bool → Node → Bool) (of : Seen → ℕ)
-    (joins : (s : Seen) (n : Node) → of (glanceFor to s n) ≡ joinOf (of s) (s .weight) (f (s .near) n)) where
+module _ (at : ℕ) (to : Address) (h : Messages) (f : Bool → Node → Bool) (of : Seen → ℕ)
+    (joins : (s : Seen) (n : Node) → of (glanceFor at to s n) ≡ joinOf (of s) (s .weight) (f (s .near) n)) where
   seen-from : (s : Seen) (ns : List Node) (i : ℕ) → s .weight ≡ 2 ^ i → of s < s .weight → i + length ns ≤ mostNodes
-      → of (glancesOf (Whole to h) s ns) ≡ of s + setFrom (s .weight) (flagsFrom f (s .near) ns)
+      → of (glancesOf (Whole to at h) s ns) ≡ of s + setFrom (s .weight) (flagsFrom f (s .near) ns)
   unfolding glanceFor
   seen-from s [] i d a b = omega arith
   seen-from s (n ∷ ns) i d a b =
@@ -68,24 +68,24 @@ module _ (to : Address) (h : Messages) (f : Bool → Node → Bool) (of : Seen �
       let r = room w i (length ns) d b in
       let e : (w + w) % 2 ^ 32 ≡ w + w = omega (arith, r .0) in
       let p = joined-plain (of s) w t a (r .0) in
-      let k : of (glanceFor to s n) < (w + w) % 2 ^ 32 = rw (joins s n, e) (p .1) in
-      seen-from (glanceFor to s n) ns (suc i) (e ∙ r .1) k (omega (arith, b))
-      ∙ ap (λ (v : ℕ). of (glanceFor to s n) + setFrom v bs) e
-      ∙ regroup (of s) (cond t w 0) (setFrom (w + w) bs) (of (glanceFor to s n)) (joins s n ∙ p .0)
+      let k : of (glanceFor at to s n) < (w + w) % 2 ^ 32 = rw (joins s n, e) (p .1) in
+      seen-from (glanceFor at to s n) ns (suc i) (e ∙ r .1) k (omega (arith, b))
+      ∙ ap (λ (v : ℕ). of (glanceFor at to s n) + setFrom v bs) e
+      ∙ regroup (of s) (cond t w 0) (setFrom (w + w) bs) (of (glanceFor at to s n)) (joins s n ∙ p .0)
 
-  pub seen-set : (ns : List Node) → of chainStart ≡ 0 → length ns ≤ mostNodes → of (glancesOf (Whole to h) chainStart ns) ≡ setOf (flagsFrom f true ns)
+  pub seen-set : (ns : List Node) → of chainStart ≡ 0 → length ns ≤ mostNodes → of (glancesOf (Whole to at h) chainStart ns) ≡ setOf (flagsFrom f true ns)
   seen-set ns e b =
       let z : of chainStart < 1 = omega (arith, e) in
       let g = seen-from chainStart ns 0 refl z (omega (arith, b)) in
       omega (arith, g, e)
 
-pub seen-acting : (to : Address) (h : Messages) (ns : List Node) → length ns ≤ mostNodes → glancesOf (Whole to h) chainStart ns .acting ≡ setOf (flagsFrom (doesAct to) true ns)
+pub seen-acting : (at : ℕ) (to : Address) (h : Messages) (ns : List Node) → length ns ≤ mostNodes → glancesOf (Whole to at h) chainStart ns .acting ≡ setOf (flagsFrom (doesAct at to) true ns)
 unfolding glanceFor
-seen-acting to h ns b = seen-set to h (doesAct to) (λ (s : Seen). s .acting) (λ s n. refl) ns refl b
+seen-acting at to h ns b = seen-set at to h (doesAct at to) (λ (s : Seen). s .acting) (λ s n. refl) ns refl b
 
-pub seen-replying : (to : Address) (h : Messages) (ns : List Node) → length ns ≤ mostNodes → glancesOf (Whole to h) chainStart ns .replying ≡ setOf (flagsFrom (doesReply to) true ns)
+pub seen-replying : (at : ℕ) (to : Address) (h : Messages) (ns : List Node) → length ns ≤ mostNodes → glancesOf (Whole to at h) chainStart ns .replying ≡ setOf (flagsFrom (doesReply at to) true ns)
 unfolding glanceFor
-seen-replying to h ns b = seen-set to h (doesReply to) (λ (s : Seen). s .replying) (λ s n. refl) ns refl b
+seen-replying at to h ns b = seen-set at to h (doesReply at to) (λ (s : Seen). s .replying) (λ s n. refl) ns refl b
 
 and-assoc : (a b c : Bool) → ((a && b) && c) ≡ (a && (b && c))
 and-assoc true b c = refl
@@ -99,7 +99,7 @@ seen-ranged c s [] = and-true (s .ranged)
     and-true : (b : Bool) → b ≡ (b && true)
     and-true true = refl
     and-true false = refl
-seen-ranged (Whole to h) s (n ∷ ns) = seen-ranged (Whole to h) (glanceFor to s n) ns ∙ and-assoc (s .ranged) (isRanged (n .settings .place)) (allRanged ns)
+seen-ranged (Whole to at h) s (n ∷ ns) = seen-ranged (Whole to at h) (glanceFor at to s n) ns ∙ and-assoc (s .ranged) (isRanged (n .settings .place)) (allRanged ns)
 seen-ranged (Unread why) s (n ∷ ns) = seen-ranged (Unread why) (glancePast s n) ns ∙ and-assoc (s .ranged) (isRanged (n .settings .place)) (allRanged ns)
 
 -- ---- the first node and the others
@@ -123,23 +123,23 @@ member-step : (k i : ℕ) (b : Bool) (x : ℕ) (rest : List ℕ) → x % 2 ≡ c
 member-step k i true x rest e f = rw (e, f)
 member-step k i false x rest e f = rw (e, f)
 
-pub repliers-are : (to : Address) (i : ℕ) (near : Bool) (ns : List Node) → membersFrom (length ns) i (setOf (flagsFrom (doesReply to) near ns)) ≡ repliersFrom to i near ns
-repliers-are to i near [] = refl
-repliers-are to i near (n ∷ ns) =
-    let b = doesReply to near n in
-    let bs = flagsFrom (doesReply to) (n .addressed) ns in
-    member-step (length ns) i b (setOf (b ∷ bs)) (repliersFrom to (suc i) (n .addressed) ns) (low b bs)
-    (ap (λ (x : ℕ). membersFrom (length ns) (suc i) x) (high b bs) ∙ repliers-are to (suc i) (n .addressed) ns)
+pub repliers-are : (at : ℕ) (to : Address) (i : ℕ) (near : Bool) (ns : List Node) → membersFrom (length ns) i (setOf (flagsFrom (doesReply at to) near ns)) ≡ repliersFrom at to i near ns
+repliers-are at to i near [] = refl
+repliers-are at to i near (n ∷ ns) =
+    let b = doesReply at to near n in
+    let bs = flagsFrom (doesReply at to) (n .addressed) ns in
+    member-step (length ns) i b (setOf (b ∷ bs)) (repliersFrom at to (suc i) (n .addressed) ns) (low b bs)
+    (ap (λ (x : ℕ). membersFrom (length ns) (suc i) x) (high b bs) ∙ repliers-are at to (suc i) (n .addressed) ns)
 
 visit-step : (h : Messages) (b : Bool) (x : ℕ) (n : Node) (ns rest : List Node) → x % 2 ≡ cond b 1 0 → actAll h (x / 2) ns ≡ rest → actAll h x (n ∷ ns) ≡ cond b (takeFor h n) n ∷ rest
 visit-step h true x n ns rest e f = rw (e, f)
 visit-step h false x n ns rest e f = rw (e, f)
 
-pub actors-turn : (to : Address) (h : Messages) (near : Bool) (ns : List Node) → actAll h (setOf (flagsFrom (doesAct to) near ns)) ns ≡ turnedFrom to h near ns
+pub actors-turn : (at : ℕ) (to : Address) (h : Messages) (near : Bool) (ns : List Node) → actAll h (setOf (flagsFrom (doesAct at to) near ns)) ns ≡ turnedFrom at to h near ns
 unfolding turned
-actors-turn to h near [] = refl
-actors-turn to h near (n ∷ ns) =
-    let b = doesAct to near n in
-    let bs = flagsFrom (doesAct to) (n .addressed) ns in
-    visit-step h b (setOf (b ∷ bs)) n ns (turnedFrom to h (n .addressed) ns) (low b bs)
-    (ap (λ (x : ℕ). actAll h x ns) (high b bs) ∙ actors-turn to h (n .addressed) ns)
+actors-turn at to h near [] = refl
+actors-turn at to h near (n ∷ ns) =
+    let b = doesAct at to near n in
+    let bs = flagsFrom (doesAct at to) (n .addressed) ns in
+    visit-step h b (setOf (b ∷ bs)) n ns (turnedFrom at to h (n .addressed) ns) (low b bs)
+    (ap (λ (x : ℕ). actAll h x ns) (high b bs) ∙ actors-turn at to h (n .addressed) ns)

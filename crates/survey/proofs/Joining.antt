@@ -55,14 +55,14 @@ getD-any (x ∷ l) (suc i) d e p = getD-any l i d e (le-of-suc-le-suc p)
 refused-all : (why : Refusal) (n : Node) (ns : List Node) (out : List ℕ) → came (decidePlan (Refuse why) n out) ns ≡ refusedDelivery why ns out
 refused-all why n ns out = rw (visit-none (toBoth Other) ns)
 
-module _ (to : Address) (h : Messages) (ns : List Node) (out : List ℕ) (acting : ℕ) (acted : actAll h (touchedOf h acting) ns ≡ after to h ns) where
-  by-built : (b : Built) (left : List ℕ) → came (record { answer = decideBuilt b acting h; left = left }) ns ≡ onBuilt b to h ns left
+module _ (at : ℕ) (to : Address) (h : Messages) (ns : List Node) (out : List ℕ) (acting : ℕ) (acted : actAll h (touchedOf h acting) ns ≡ after at to h ns) where
+  by-built : (b : Built) (left : List ℕ) → came (record { answer = decideBuilt b acting h; left = left }) ns ≡ onBuilt b at to h ns left
   by-built (built.Bytes n) left = rw acted
   by-built (built.Refused why) left = rw (visit-none (toBoth Other) ns)
 
   -- by who replies; the one that does is a node of the chain
   by-replier : (r : Replier) → ((i : ℕ) → r ≡ One i → i < length ns)
-      → came (decideBy r (getD ns (speakerIn r) nobody) acting h out) ns ≡ onSaid (saidBy h ns r) to h ns out
+      → came (decideBy r (getD ns (speakerIn r) nobody) acting h out) ns ≡ onSaid (saidBy h ns r) at to h ns out
   unfolding decideOne
   by-replier None b = rw acted
   by-replier (One i) b = rw (getD-any ns i nobody blankNode (b i refl)) (by-built (written (replyFor h (getD ns i blankNode)) out .answer) (written (replyFor h (getD ns i blankNode)) out .left))
@@ -81,34 +81,34 @@ chosen-below false r n f i e = absurd (none-one i e)
 abbrev planned : Messages → List Node → List ℕ → Replier → ℕ → Outcome Delivery Lent
 planned h ns out r acting = came (decideBy r (getD ns (speakerIn r) nobody) acting h out) ns
 
-replier-is : (to : Address) (h : Messages) (ns : List Node) → replierTo h (setOf (flagsFrom (doesReply to) true ns)) (length ns) ≡ cond (isAnswered (h .gate)) (replierIn to ns) None
+replier-is : (at : ℕ) (to : Address) (h : Messages) (ns : List Node) → replierTo h (setOf (flagsFrom (doesReply at to) true ns)) (length ns) ≡ cond (isAnswered (h .gate)) (replierIn at to ns) None
 unfolding replierTo replierIn
-replier-is to h ns = ap (λ (l : List ℕ). cond (isAnswered (h .gate)) (searchOf l) None) (repliers-are to 0 true ns)
+replier-is at to h ns = ap (λ (l : List ℕ). cond (isAnswered (h .gate)) (searchOf l) None) (repliers-are at to 0 true ns)
 
-said-is : (to : Address) (h : Messages) (ns : List Node) (out : List ℕ) → onSaid (saidBy h ns (cond (isAnswered (h .gate)) (replierIn to ns) None)) to h ns out ≡ deliveredTo to h ns out
+said-is : (at : ℕ) (to : Address) (h : Messages) (ns : List Node) (out : List ℕ) → onSaid (saidBy h ns (cond (isAnswered (h .gate)) (replierIn at to ns) None)) at to h ns out ≡ deliveredTo at to h ns out
 unfolding said deliveredTo
-said-is to h ns out = ap (λ (x : Said). onSaid x to h ns out) (sym (answered h ns (isAnswered (h .gate)) (replierIn to ns)))
+said-is at to h ns out = ap (λ (x : Said). onSaid x at to h ns out) (sym (answered h ns (isAnswered (h .gate)) (replierIn at to ns)))
 
-actors-after : (to : Address) (h : Messages) (ns : List Node) → actAll h (touchedOf h (setOf (flagsFrom (doesAct to) true ns))) ns ≡ after to h ns
+actors-after : (at : ℕ) (to : Address) (h : Messages) (ns : List Node) → actAll h (touchedOf h (setOf (flagsFrom (doesAct at to) true ns))) ns ≡ after at to h ns
 unfolding after
-actors-after to h ns = touched-all h (setOf (flagsFrom (doesAct to) true ns)) ns ∙ actors-turn to h true ns
+actors-after at to h ns = touched-all h (setOf (flagsFrom (doesAct at to) true ns)) ns ∙ actors-turn at to h true ns
 
 -- a packet that was read, to a valid table
-read-plan : (to : Address) (h : Messages) (ns : List Node) (out : List ℕ) → length ns ≤ mostNodes
-    → planned h ns out (replierTo h (glancesOf (Whole to h) chainStart ns .replying) (length ns)) (glancesOf (Whole to h) chainStart ns .acting) ≡ deliveredTo to h ns out
-read-plan to h ns out b =
-    ap (λ (a : ℕ). planned h ns out (replierTo h (glancesOf (Whole to h) chainStart ns .replying) (length ns)) a) (seen-acting to h ns b)
-    ∙ ap (λ (r : Replier). planned h ns out r (setOf (flagsFrom (doesAct to) true ns))) (ap (λ (x : ℕ). replierTo h x (length ns)) (seen-replying to h ns b) ∙ replier-is to h ns)
-    ∙ by-replier to h ns out (setOf (flagsFrom (doesAct to) true ns)) (actors-after to h ns) (cond (isAnswered (h .gate)) (replierIn to ns) None)
-    (chosen-below (isAnswered (h .gate)) (replierIn to ns) (length ns) (replier-below to ns))
-    ∙ said-is to h ns out
+read-plan : (at : ℕ) (to : Address) (h : Messages) (ns : List Node) (out : List ℕ) → length ns ≤ mostNodes
+    → planned h ns out (replierTo h (glancesOf (Whole to at h) chainStart ns .replying) (length ns)) (glancesOf (Whole to at h) chainStart ns .acting) ≡ deliveredTo at to h ns out
+read-plan at to h ns out b =
+    ap (λ (a : ℕ). planned h ns out (replierTo h (glancesOf (Whole to at h) chainStart ns .replying) (length ns)) a) (seen-acting at to h ns b)
+    ∙ ap (λ (r : Replier). planned h ns out r (setOf (flagsFrom (doesAct at to) true ns))) (ap (λ (x : ℕ). replierTo h x (length ns)) (seen-replying at to h ns b) ∙ replier-is at to h ns)
+    ∙ by-replier at to h ns out (setOf (flagsFrom (doesAct at to) true ns)) (actors-after at to h ns) (cond (isAnswered (h .gate)) (replierIn at to ns) None)
+    (chosen-below (isAnswered (h .gate)) (replierIn at to ns) (length ns) (replier-below at to ns))
+    ∙ said-is at to h ns out
 
 -- by the frame
-framed-plan : (f : Framed) (p : List ℕ) (ns : List Node) (out : List ℕ) → length ns ≤ mostNodes
-    → came (decidePlan (planBy (receiveBy f p) (glancesOf (receiveBy f p) chainStart ns) (length ns)) (getD ns (speakerOf (planBy (receiveBy f p) (glancesOf (receiveBy f p) chainStart ns) (length ns))) nobody) out) ns
-    ≡ onFrame f p ns out
-framed-plan (framed.Whole to k n) p ns out b = read-plan to (messagesAs k p) ns out b
-framed-plan (framed.Refused why) p ns out b = refused-all why nobody ns out
+framed-plan : (at : ℕ) (f : Framed) (p : List ℕ) (ns : List Node) (out : List ℕ) → length ns ≤ mostNodes
+    → came (decidePlan (planBy (receiveBy at f p) (glancesOf (receiveBy at f p) chainStart ns) (length ns)) (getD ns (speakerOf (planBy (receiveBy at f p) (glancesOf (receiveBy at f p) chainStart ns) (length ns))) nobody) out) ns
+    ≡ onFrame at f p ns out
+framed-plan at (framed.Whole to k n) p ns out b = read-plan at to (messagesAs to k p) ns out b
+framed-plan at (framed.Refused why) p ns out b = refused-all why nobody ns out
 
 -- by the table
 tabled-plan : (c : Incoming) (t : Bool) (q : Plan) (ns : List Node) (out : List ℕ) (o : Outcome Delivery Lent) → (t ≡ true → came (decidePlan q (getD ns (speakerOf q) nobody) out) ns ≡ o)
@@ -116,16 +116,16 @@ tabled-plan : (c : Incoming) (t : Bool) (q : Plan) (ns : List Node) (out : List 
 tabled-plan c true q ns out o f = f refl
 tabled-plan c false q ns out o f = refused-all Range nobody ns out
 
-pub delivers : (ns : List Node) (p out : List ℕ) → came (decideOf (surveyAll (receiveOf p) ns) out) ns ≡ deliverOf ns p out
+pub delivers : (ns : List Node) (at : ℕ) (p out : List ℕ) → came (decideOf (surveyAll (receiveOf at p) ns) out) ns ≡ deliverOf ns at p out
 unfolding receiveOf planOf surveyAll deliverOf valid
-delivers ns p out =
-    let c = receiveBy (frameAlone p) p in
+delivers ns at p out =
+    let c = receiveBy at (frameAlone p) p in
     rw (seen-ranged c chainStart ns)
-    (tabled-plan c (leb 1 (length ns) && leb (length ns) mostNodes && allRanged ns) (planBy c (glancesOf c chainStart ns) (length ns)) ns out (onFrame (frameAlone p) p ns out)
-    (λ v. framed-plan (frameAlone p) p ns out (leb-true (length ns) mostNodes (both (leb 1 (length ns)) _ (both _ (allRanged ns) v .0) .1))))
+    (tabled-plan c (leb 1 (length ns) && leb (length ns) mostNodes && allRanged ns) (planBy c (glancesOf c chainStart ns) (length ns)) ns out (onFrame at (frameAlone p) p ns out)
+    (λ v. framed-plan at (frameAlone p) p ns out (leb-true (length ns) mostNodes (both (leb 1 (length ns)) _ (both _ (allRanged ns) v .0) .1))))
 
-pub joined : (ns : List Node) (p out : List ℕ) (c : Incoming) (s : Survey) (d : Decided) (left : List ℕ) (zs : List Node)
-    → c ≡ receiveOf p → s ≡ surveyAll c ns → record { answer = d; left = left } ≡ decideOf s out → zs ≡ actAll (d .messages) (d .acting) ns
-    → Lending deliveryNumber (d .answer) (record { nodes = zs; reply = left }) (deliverOf ns p out)
-joined ns p out c s d left zs e f g k =
-    lent (rw k (ap (λ (o : Outcome Decided (List ℕ)). came o ns) (g ∙ ap (λ (x : Survey). decideOf x out) (f ∙ ap (λ (x : Incoming). surveyAll x ns) e)) ∙ delivers ns p out))
+pub joined : (ns : List Node) (at : ℕ) (p out : List ℕ) (c : Incoming) (s : Survey) (d : Decided) (left : List ℕ) (zs : List Node)
+    → c ≡ receiveOf at p → s ≡ surveyAll c ns → record { answer = d; left = left } ≡ decideOf s out → zs ≡ actAll (d .messages) (d .acting) ns
+    → Lending deliveryNumber (d .answer) (record { nodes = zs; reply = left }) (deliverOf ns at p out)
+joined ns at p out c s d left zs e f g k =
+    lent (rw k (ap (λ (o : Outcome Decided (List ℕ)). came o ns) (g ∙ ap (λ (x : Survey). decideOf x out) (f ∙ ap (λ (x : Incoming). surveyAll x ns) e)) ∙ delivers ns at p out))

@@ -43,10 +43,10 @@ unfolding frameAlone
 stands-alone p to k n f h = rw (f, le-ltb n (length p) h)
 
 -- left-over bytes are 3, whatever the sum, whoever is meant, whatever room there is; 6 comes first
-pub left-over : (ns : List Node) (p out : List ℕ) (to : Address) (k n : ℕ) → valid ns ≡ true → frameOf p ≡ framed.Whole to k n → n < length p
-    → deliverOf ns p out ≡ refusedDelivery Long ns out
+pub left-over : (ns : List Node) (at : ℕ) (p out : List ℕ) (to : Address) (k n : ℕ) → valid ns ≡ true → frameOf p ≡ framed.Whole to k n → n < length p
+    → deliverOf ns at p out ≡ refusedDelivery Long ns out
 unfolding deliverOf frameAlone
-left-over ns p out to k n v f h = rw (v, f, lt-ltb n (length p) h)
+left-over ns at p out to k n v f h = rw (v, f, lt-ltb n (length p) h)
 
 -- ---- a packet of 20 bytes or more is refused for what its first 20 are refused for: no packet has more than 19
 
@@ -62,30 +62,30 @@ frame-over p h b =
     go true = refl
     go false = rw (lt-ltb (endOf p) (length p) (omega arith))
 
-on-overlong : (t : Bool) (p q : List ℕ) (ns : List Node) (out : List ℕ)
-    → onFrame (cond t (framed.Refused Header) (framed.Refused Long)) p ns out ≡ onFrame (cond t (framed.Refused Header) (framed.Refused Long)) q ns out
-on-overlong true p q ns out = refl
-on-overlong false p q ns out = refl
+on-overlong : (at : ℕ) (t : Bool) (p q : List ℕ) (ns : List Node) (out : List ℕ)
+    → onFrame at (cond t (framed.Refused Header) (framed.Refused Long)) p ns out ≡ onFrame at (cond t (framed.Refused Header) (framed.Refused Long)) q ns out
+on-overlong at true p q ns out = refl
+on-overlong at false p q ns out = refl
 
-pub deliver-long : (ns : List Node) (p out : List ℕ) → 20 ≤ length p → getD p 2 0 < 256 → deliverOf ns (take 20 p) out ≡ deliverOf ns p out
+pub deliver-long : (ns : List Node) (at : ℕ) (p out : List ℕ) → 20 ≤ length p → getD p 2 0 < 256 → deliverOf ns at (take 20 p) out ≡ deliverOf ns at p out
 unfolding deliverOf
-deliver-long ns p out h b =
+deliver-long ns at p out h b =
     let n : length (take 20 p) ≡ 20 = length-take-le 20 p h in
     let b2 : getD (take 20 p) 2 0 ≡ getD p 2 0 = getD-take 20 p 2 0 (omega arith) in
     let b0 : getD (take 20 p) 0 0 ≡ getD p 0 0 = getD-take 20 p 0 0 (omega arith) in
     let f : frameAlone (take 20 p) ≡ overlong (getD p 0 0) = frame-over (take 20 p) (omega arith) (omega arith) ∙ ap overlong b0 in
-    rw (f, frame-over p h b, on-overlong (not (eqb (getD p 0 0) 0xAA)) (take 20 p) p ns out)
+    rw (f, frame-over p h b, on-overlong at (not (eqb (getD p 0 0) 0xAA)) (take 20 p) p ns out)
 
 -- ---- fewer than 4 bytes are never replied to
 
 -- what holds of the three refusals holds of such a delivery
-pub deliver-brief : (ns : List Node) (p out : List ℕ) → length p < 4 → (Q : Outcome Delivery Lent → Type 0)
-    → Q (refusedDelivery Short ns out) → Q (refusedDelivery Header ns out) → Q (refusedDelivery Range ns out) → Q (deliverOf ns p out)
+pub deliver-brief : (ns : List Node) (at : ℕ) (p out : List ℕ) → length p < 4 → (Q : Outcome Delivery Lent → Type 0)
+    → Q (refusedDelivery Short ns out) → Q (refusedDelivery Header ns out) → Q (refusedDelivery Range ns out) → Q (deliverOf ns at p out)
 unfolding deliverOf frameOf frameAlone
-deliver-brief ns p out h Q short header range =
+deliver-brief ns at p out h Q short header range =
     rw (lt-ltb (length p) 4 h) (go (valid ns) (ltb (length p) 1) (not (eqb (getD p 0 0) 0xAA)))
   where
-    go : (v e n : Bool) → Q (cond v (onFrame (alone p (cond e (framed.Refused Short) (cond n (framed.Refused Header) (framed.Refused Short)))) p ns out) (refusedDelivery Range ns out))
+    go : (v e n : Bool) → Q (cond v (onFrame at (alone p (cond e (framed.Refused Short) (cond n (framed.Refused Header) (framed.Refused Short)))) p ns out) (refusedDelivery Range ns out))
     go false e n = range
     go true true n = short
     go true false true = header
@@ -93,26 +93,26 @@ deliver-brief ns p out h Q short header range =
 
 -- ---- the reply buffer keeps its length
 
-built-left : (b : Built) (to : Address) (h : Messages) (ns : List Node) (out : List ℕ) → onBuilt b to h ns out .left .reply ≡ out
-built-left (built.Bytes n) to h ns out = refl
-built-left (built.Refused why) to h ns out = refl
+built-left : (b : Built) (at : ℕ) (to : Address) (h : Messages) (ns : List Node) (out : List ℕ) → onBuilt b at to h ns out .left .reply ≡ out
+built-left (built.Bytes n) at to h ns out = refl
+built-left (built.Refused why) at to h ns out = refl
 
-said-left : (s : Said) (to : Address) (h : Messages) (ns : List Node) (out : List ℕ) → length (onSaid s to h ns out .left .reply) ≡ length out
-said-left silence to h ns out = refl
-said-left (reply r) to h ns out = ap length (built-left (written r out .answer) to h ns (written r out .left)) ∙ written-long r out
-said-left collided to h ns out = refl
+said-left : (s : Said) (at : ℕ) (to : Address) (h : Messages) (ns : List Node) (out : List ℕ) → length (onSaid s at to h ns out .left .reply) ≡ length out
+said-left silence at to h ns out = refl
+said-left (reply r) at to h ns out = ap length (built-left (written r out .answer) at to h ns (written r out .left)) ∙ written-long r out
+said-left collided at to h ns out = refl
 
-frame-left : (f : Framed) (p : List ℕ) (ns : List Node) (out : List ℕ) → length (onFrame f p ns out .left .reply) ≡ length out
+frame-left : (at : ℕ) (f : Framed) (p : List ℕ) (ns : List Node) (out : List ℕ) → length (onFrame at f p ns out .left .reply) ≡ length out
 unfolding deliveredTo
-frame-left (framed.Whole to k n) p ns out = said-left (said to (messagesAs k p) ns) to (messagesAs k p) ns out
-frame-left (framed.Refused why) p ns out = refl
+frame-left at (framed.Whole to k n) p ns out = said-left (said at to (messagesAs to k p) ns) at to (messagesAs to k p) ns out
+frame-left at (framed.Refused why) p ns out = refl
 
-pub deliver-left : (ns : List Node) (p out : List ℕ) → length (deliverOf ns p out .left .reply) ≡ length out
+pub deliver-left : (ns : List Node) (at : ℕ) (p out : List ℕ) → length (deliverOf ns at p out .left .reply) ≡ length out
 unfolding deliverOf
-deliver-left ns p out = go (valid ns)
+deliver-left ns at p out = go (valid ns)
   where
-    go : (v : Bool) → length (cond v (onFrame (frameAlone p) p ns out) (refusedDelivery Range ns out) .left .reply) ≡ length out
-    go true = frame-left (frameAlone p) p ns out
+    go : (v : Bool) → length (cond v (onFrame at (frameAlone p) p ns out) (refusedDelivery Range ns out) .left .reply) ≡ length out
+    go true = frame-left at (frameAlone p) p ns out
     go false = refl
 
 -- ---- 5 never comes up over a reply buffer as long as the longest reply
@@ -136,32 +136,32 @@ frame-whys p e = by-frame (frameOf p) refl e
     by-frame (framed.Refused why) r e = let z : why ≡ Room = cc in not-room (frame-refuses p why r) z
 
 module _ (ns : List Node) (out : List ℕ) (room : mostReply ≤ length out) where
-  reply-fits : (to : Address) (h : Messages) (r : List ℕ) → said to h ns ≡ reply r → length r ≤ length out
-  reply-fits to h r e =
-      let q = said-says to h ns r e in
+  reply-fits : (at : ℕ) (to : Address) (h : Messages) (r : List ℕ) → said at to h ns ≡ reply r → length r ≤ length out
+  reply-fits at to h r e =
+      let q = said-says at to h ns r e in
       let n = getD ns (q .at) blankNode in
       let own = messageTo (n .kind) h in
       rw (q .bytes) (omega (arith, reply-length own n, size-range (n .kind) (maskFor own n) .1))
 
-  said-roomy : (s : Said) (to : Address) (h : Messages) → said to h ns ≡ s → onSaid s to h ns out .answer ≡ Refused Room → ⊥
+  said-roomy : (s : Said) (at : ℕ) (to : Address) (h : Messages) → said at to h ns ≡ s → onSaid s at to h ns out .answer ≡ Refused Room → ⊥
   unfolding written
-  said-roomy silence to h e x = impossible cc
-  said-roomy (reply r) to h e x =
-      let y : Replied (length r) ≡ Refused Room = rw (le-ltb (length out) (length r) (reply-fits to h r e)) at x in
+  said-roomy silence at to h e x = impossible cc
+  said-roomy (reply r) at to h e x =
+      let y : Replied (length r) ≡ Refused Room = rw (le-ltb (length out) (length r) (reply-fits at to h r e)) at x in
       impossible cc
-  said-roomy collided to h e x = impossible cc
+  said-roomy collided at to h e x = impossible cc
 
-  frame-roomy : (f : Framed) (p : List ℕ) → frameAlone p ≡ f → onFrame f p ns out .answer ≡ Refused Room → ⊥
+  frame-roomy : (at : ℕ) (f : Framed) (p : List ℕ) → frameAlone p ≡ f → onFrame at f p ns out .answer ≡ Refused Room → ⊥
   unfolding deliveredTo
-  frame-roomy (framed.Whole to k n) p e x = said-roomy (said to (messagesAs k p) ns) to (messagesAs k p) refl x
-  frame-roomy (framed.Refused why) p e x =
+  frame-roomy at (framed.Whole to k n) p e x = said-roomy (said at to (messagesAs to k p) ns) at to (messagesAs to k p) refl x
+  frame-roomy at (framed.Refused why) p e x =
       let y : why ≡ Room = cc in
       frame-whys p (e ∙ ap framed.Refused y)
 
-  pub never-five : (p : List ℕ) → deliverOf ns p out .answer ≡ Refused Room → ⊥
+  pub never-five : (at : ℕ) (p : List ℕ) → deliverOf ns at p out .answer ≡ Refused Room → ⊥
   unfolding deliverOf
-  never-five p = go (valid ns)
+  never-five at p = go (valid ns)
     where
-      go : (v : Bool) → cond v (onFrame (frameAlone p) p ns out) (refusedDelivery Range ns out) .answer ≡ Refused Room → ⊥
-      go true x = frame-roomy (frameAlone p) p refl x
+      go : (v : Bool) → cond v (onFrame at (frameAlone p) p ns out) (refusedDelivery Range ns out) .answer ≡ Refused Room → ⊥
+      go true x = frame-roomy at (frameAlone p) p refl x
       go false x = impossible cc

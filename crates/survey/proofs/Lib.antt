@@ -7,6 +7,7 @@ mod Deciding
 pub mod Repliers
 pub mod Meaning
 pub mod Collisions
+pub mod Hearing
 pub mod Flags
 pub mod Joining
 pub mod Refusals

@@ -24,31 +24,31 @@ use Rattle.survey.proofs.Repliers.{behind, Replies, repliers-rise, foun
 
 -- ---- the nodes afterwards
 
-length-from : (to : Address) (h : Messages) (near : Bool) (l : List Node) → length (turnedFrom to h near l) ≡ length l
-length-from to h near [] = refl
-length-from to h near (n ∷ ns) = ap suc (length-from to h (n .addressed) ns)
+length-from : (at : ℕ) (to : Address) (h : Messages) (near : Bool) (l : List Node) → length (turnedFrom at to h near l) ≡ length l
+length-from at to h near [] = refl
+length-from at to h near (n ∷ ns) = ap suc (length-from at to h (n .addressed) ns)
 
-pub length-after : (to : Address) (h : Messages) (l : List Node) → length (after to h l) ≡ length l
+pub length-after : (at : ℕ) (to : Address) (h : Messages) (l : List Node) → length (after at to h l) ≡ length l
 unfolding after
-length-after to h l = length-from to h true l
+length-after at to h l = length-from at to h true l
 
-turned-at : (to : Address) (h : Messages) (near : Bool) (l : List Node) (i : ℕ) → i < length l
-    → getD (turnedFrom to h near l) i blankNode ≡ turned to h (nearAt near l i) (getD l i blankNode)
-turned-at to h near [] i b = absurd (not-suc-le-zero b)
-turned-at to h near (n ∷ ns) zero b = refl
-turned-at to h near (n ∷ ns) (suc zero) b = turned-at to h (n .addressed) ns zero (le-of-suc-le-suc b)
-turned-at to h near (n ∷ ns) (suc (suc i)) b = turned-at to h (n .addressed) ns (suc i) (le-of-suc-le-suc b)
+turned-at : (at : ℕ) (to : Address) (h : Messages) (near : Bool) (l : List Node) (i : ℕ) → i < length l
+    → getD (turnedFrom at to h near l) i blankNode ≡ turned at to h (nearAt near l i) (getD l i blankNode)
+turned-at at to h near [] i b = absurd (not-suc-le-zero b)
+turned-at at to h near (n ∷ ns) zero b = refl
+turned-at at to h near (n ∷ ns) (suc zero) b = turned-at at to h (n .addressed) ns zero (le-of-suc-le-suc b)
+turned-at at to h near (n ∷ ns) (suc (suc i)) b = turned-at at to h (n .addressed) ns (suc i) (le-of-suc-le-suc b)
 
 -- a node that hears and is meant has taken the packet; every other stands as it stood
-pub after-at : (to : Address) (h : Messages) (l : List Node) (i : ℕ) → i < length l
-    → getD (after to h l) i blankNode ≡ cond (hearsAt l i && isMeant to (getD l i blankNode .settings .place)) (takeFor h (getD l i blankNode)) (getD l i blankNode)
+pub after-at : (at : ℕ) (to : Address) (h : Messages) (l : List Node) (i : ℕ) → i < length l
+    → getD (after at to h l) i blankNode ≡ cond (hearsAt at l i && isMeant to (getD l i blankNode .settings .place)) (takeFor h (getD l i blankNode)) (getD l i blankNode)
 unfolding after turned doesAct
-after-at to h l i b = turned-at to h true l i b
+after-at at to h l i b = turned-at at to h true l i b
 
-unmoved : (to : Address) (h : Messages) → ((n : Node) → takeFor h n ≡ n) → (near : Bool) (l : List Node) → turnedFrom to h near l ≡ l
+unmoved : (at : ℕ) (to : Address) (h : Messages) → ((n : Node) → takeFor h n ≡ n) → (near : Bool) (l : List Node) → turnedFrom at to h near l ≡ l
 unfolding turned doesAct
-unmoved to h f near [] = refl
-unmoved to h f near (n ∷ ns) = rw (f n, same (doesHear near (n .addressed) && isMeant to (n .settings .place)) n, unmoved to h f (n .addressed) ns)
+unmoved at to h f near [] = refl
+unmoved at to h f near (n ∷ ns) = rw (f n, same (doesHear at near n && isMeant to (n .settings .place)) n, unmoved at to h f (n .addressed) ns)
 
 -- what is said alike to either kind
 pub said-alike : (h : Message) (k : Kind) → messageTo k (toBoth h) ≡ h
@@ -56,68 +56,68 @@ said-alike h kind.Gate = refl
 said-alike h kind.Drive = refl
 
 -- a wrong sum, and another command, leave all nodes
-pub spoilt-stays : (to : Address) (l : List Node) → after to (toBoth Spoilt) l ≡ l
+pub spoilt-stays : (at : ℕ) (to : Address) (l : List Node) → after at to (toBoth Spoilt) l ≡ l
 unfolding after
-spoilt-stays to l = unmoved to (toBoth Spoilt) (λ n. ap (λ (h : Message). takeOf h n) (said-alike Spoilt (n .kind))) true l
+spoilt-stays at to l = unmoved at to (toBoth Spoilt) (λ n. ap (λ (h : Message). takeOf h n) (said-alike Spoilt (n .kind))) true l
 
-pub other-stays : (to : Address) (l : List Node) → after to (toBoth Other) l ≡ l
+pub other-stays : (at : ℕ) (to : Address) (l : List Node) → after at to (toBoth Other) l ≡ l
 unfolding after
-other-stays to l = unmoved to (toBoth Other) (λ n. ap (λ (h : Message). takeOf h n) (said-alike Other (n .kind))) true l
+other-stays at to l = unmoved at to (toBoth Other) (λ n. ap (λ (h : Message). takeOf h n) (said-alike Other (n .kind))) true l
 
 -- ---- what is said on the line
 
 -- nobody replies
-quiet-from : (to : Address) (i : ℕ) (near : Bool) (l : List Node)
-    → ((j : ℕ) → j < length l → doesReply to (nearAt near l j) (getD l j blankNode) ≡ false) → repliersFrom to i near l ≡ []
-quiet-from to i near [] f = refl
-quiet-from to i near (n ∷ ns) f =
-    rw (f zero (omega arith)) (quiet-from to (suc i) (n .addressed) ns (behind (λ j b m. doesReply to b m ≡ false) near n ns f))
+quiet-from : (at : ℕ) (to : Address) (i : ℕ) (near : Bool) (l : List Node)
+    → ((j : ℕ) → j < length l → doesReply at to (nearAt near l j) (getD l j blankNode) ≡ false) → repliersFrom at to i near l ≡ []
+quiet-from at to i near [] f = refl
+quiet-from at to i near (n ∷ ns) f =
+    rw (f zero (omega arith)) (quiet-from at to (suc i) (n .addressed) ns (behind (λ j b m. doesReply at to b m ≡ false) near n ns f))
 
-at-suc : (to : Address) (near : Bool) (n : Node) (ns : List Node) (j : ℕ)
-    → doesReply to (nearAt near (n ∷ ns) (suc j)) (getD (n ∷ ns) (suc j) blankNode) ≡ true → doesReply to (nearAt (n .addressed) ns j) (getD ns j blankNode) ≡ true
-at-suc to near n ns zero y = y
-at-suc to near n ns (suc j) y = y
+at-suc : (at : ℕ) (to : Address) (near : Bool) (n : Node) (ns : List Node) (j : ℕ)
+    → doesReply at to (nearAt near (n ∷ ns) (suc j)) (getD (n ∷ ns) (suc j) blankNode) ≡ true → doesReply at to (nearAt (n .addressed) ns j) (getD ns j blankNode) ≡ true
+at-suc at to near n ns zero y = y
+at-suc at to near n ns (suc j) y = y
 
 -- node j alone replies
-one-from : (to : Address) (i : ℕ) (near : Bool) (l : List Node) (j : ℕ) → j < length l → doesReply to (nearAt near l j) (getD l j blankNode) ≡ true
-    → ((k : ℕ) → k < length l → (k ≡ j → ⊥) → doesReply to (nearAt near l k) (getD l k blankNode) ≡ false) → repliersFrom to i near l ≡ (i + j) ∷ []
-one-from to i near [] j b y f = absurd (not-suc-le-zero b)
-one-from to i near (n ∷ ns) zero b y f =
-    rw (y, quiet-from to (suc i) (n .addressed) ns (λ k c. behind (λ k b m. (k ≡ 0 → ⊥) → doesReply to b m ≡ false) near n ns f k c (λ e. omega arith)), add-zero i)
-one-from to i near (n ∷ ns) (suc j) b y f =
+one-from : (at : ℕ) (to : Address) (i : ℕ) (near : Bool) (l : List Node) (j : ℕ) → j < length l → doesReply at to (nearAt near l j) (getD l j blankNode) ≡ true
+    → ((k : ℕ) → k < length l → (k ≡ j → ⊥) → doesReply at to (nearAt near l k) (getD l k blankNode) ≡ false) → repliersFrom at to i near l ≡ (i + j) ∷ []
+one-from at to i near [] j b y f = absurd (not-suc-le-zero b)
+one-from at to i near (n ∷ ns) zero b y f =
+    rw (y, quiet-from at to (suc i) (n .addressed) ns (λ k c. behind (λ k b m. (k ≡ 0 → ⊥) → doesReply at to b m ≡ false) near n ns f k c (λ e. omega arith)), add-zero i)
+one-from at to i near (n ∷ ns) (suc j) b y f =
     rw (f zero (omega arith) (λ e. omega arith), add-suc i j, ← (suc-add i j))
-    (one-from to (suc i) (n .addressed) ns j (le-of-suc-le-suc b) (at-suc to near n ns j y)
-    (λ k c d. behind (λ k b m. (k ≡ suc j → ⊥) → doesReply to b m ≡ false) near n ns f k c (λ e. d (omega arith))))
+    (one-from at to (suc i) (n .addressed) ns j (le-of-suc-le-suc b) (at-suc at to near n ns j y)
+    (λ k c d. behind (λ k b m. (k ≡ suc j → ⊥) → doesReply at to b m ≡ false) near n ns f k c (λ e. d (omega arith))))
 
 nothing : (t : Bool) → cond t silence silence ≡ silence
 nothing true = refl
 nothing false = refl
 
 -- if nobody hears and answers, nothing is said; nor after an intact Hard Reset
-pub said-none : (to : Address) (h : Messages) (l : List Node) → ((j : ℕ) → j < length l → repliesAt to l j ≡ false) → said to h l ≡ silence
+pub said-none : (at : ℕ) (to : Address) (h : Messages) (l : List Node) → ((j : ℕ) → j < length l → repliesAt at to l j ≡ false) → said at to h l ≡ silence
 unfolding said replierIn doesReply
-said-none to h l f = rw (quiet-from to 0 true l f) (nothing (isAnswered (h .gate)))
+said-none at to h l f = rw (quiet-from at to 0 true l f) (nothing (isAnswered (h .gate)))
 
-pub said-reset : (to : Address) (h : Messages) (l : List Node) → isAnswered (h .gate) ≡ false → said to h l ≡ silence
+pub said-reset : (at : ℕ) (to : Address) (h : Messages) (l : List Node) → isAnswered (h .gate) ≡ false → said at to h l ≡ silence
 unfolding said
-said-reset to h l n = rw n
+said-reset at to h l n = rw n
 
 -- if one node hears and answers, and no other, its reply is said
-pub said-one : (to : Address) (h : Messages) (l : List Node) (j : ℕ) → isAnswered (h .gate) ≡ true → j < length l → repliesAt to l j ≡ true
-    → ((k : ℕ) → k < length l → (k ≡ j → ⊥) → repliesAt to l k ≡ false) → said to h l ≡ reply (replyFor h (getD l j blankNode))
+pub said-one : (at : ℕ) (to : Address) (h : Messages) (l : List Node) (j : ℕ) → isAnswered (h .gate) ≡ true → j < length l → repliesAt at to l j ≡ true
+    → ((k : ℕ) → k < length l → (k ≡ j → ⊥) → repliesAt at to l k ≡ false) → said at to h l ≡ reply (replyFor h (getD l j blankNode))
 unfolding said replierIn doesReply
-said-one to h l j a b y f = rw (a, one-from to 0 true l j b y f, zero-add j)
+said-one at to h l j a b y f = rw (a, one-from at to 0 true l j b y f, zero-add j)
 
 -- who is found is a node of the chain
 pub none-one : (m : ℕ) → None ≡ One m → ⊥
 none-one m e = impossible cc
 
-pub replier-below : (to : Address) (l : List Node) (i : ℕ) → replierIn to l ≡ One i → i < length l
+pub replier-below : (at : ℕ) (to : Address) (l : List Node) (i : ℕ) → replierIn at to l ≡ One i → i < length l
 unfolding replierIn
-replier-below to l i e = found-is (Replies to l) (repliersFrom to 0 true l) i (repliers-rise to l) e .0
+replier-below at to l i e = found-is (Replies at to l) (repliersFrom at to 0 true l) i (repliers-rise at to l) e .0
 
 -- the one reply is that of a node of the chain that hears and answers
-pub said-says : (to : Address) (h : Messages) (l : List Node) (r : List ℕ) → said to h l ≡ reply r → Speaks (Replies to l) h l r
+pub said-says : (at : ℕ) (to : Address) (h : Messages) (l : List Node) (r : List ℕ) → said at to h l ≡ reply r → Speaks (Replies at to l) h l r
 unfolding said replierIn
-said-says to h l r e =
-    one-speaks (Replies to l) h l (repliersFrom to 0 true l) r (repliers-rise to l) (chose-first (isAnswered (h .gate)) e (λ z. impossible cc) .1)
+said-says at to h l r e =
+    one-speaks (Replies at to l) h l (repliersFrom at to 0 true l) r (repliers-rise at to l) (chose-first (isAnswered (h .gate)) e (λ z. impossible cc) .1)

@@ -1,4 +1,5 @@
 -- One node and a packet, as the code finds them.
+use Prim.Native.Nat.{ℕ}
 use mathlib.Core.Bool.{Bool, _&&_}
 use mathlib.Core.Path.{_≡_, sym, ap, _∙_}
 use Rattle.wire.specs.Address.{individualInRange, groupInRange}
@@ -18,11 +19,11 @@ pub ranged-are : (p : Place) (a g : Bool) → a ≡ individualInRange (p .addres
 unfolding isRanged
 ranged-are p a g e f = rw (e, f)
 
-module _ (to : Address) (near : Bool) (n : Node) (h x : Bool) (q : h ≡ doesHear near (n .addressed)) where
-  pub acts-are : x ≡ isMeant to (n .settings .place) → (h && x) ≡ doesAct to near n
+module _ (at : ℕ) (to : Address) (near : Bool) (n : Node) (h x : Bool) (q : h ≡ doesHear at near n) where
+  pub acts-are : x ≡ isMeant to (n .settings .place) → (h && x) ≡ doesAct at to near n
   unfolding doesAct
   acts-are p = rw (q, p)
 
-  pub replies-are : x ≡ isAnswering to (n .settings .place) → (h && x) ≡ doesReply to near n
+  pub replies-are : x ≡ isAnswering to (n .settings .place) → (h && x) ≡ doesReply at to near n
   unfolding doesReply
   replies-are p = rw (q, p)

@@ -25,25 +25,25 @@ abbrev pub Spares : List Node → List ℕ → Outcome Delivery Lent → Type 0
 Spares ns out o =
     (deliveryNumber (o .answer) ≡ done → ⊥) → (deliveryNumber (o .answer) ≡ collision → ⊥) → (o .left .nodes ≡ ns) × (o .left .reply ≡ out)
 
-built-spares : (to : Address) (h : Messages) (ns : List Node) (out left : List ℕ) (b : Built) → ((builtNumber b ≡ done → ⊥) → left ≡ out)
-    → Spares ns out (onBuilt b to h ns left)
-built-spares to h ns out left (built.Bytes n) f d k = absurd (d refl)
-built-spares to h ns out left (built.Refused why) f d k = (refl, f d)
+built-spares : (at : ℕ) (to : Address) (h : Messages) (ns : List Node) (out left : List ℕ) (b : Built) → ((builtNumber b ≡ done → ⊥) → left ≡ out)
+    → Spares ns out (onBuilt b at to h ns left)
+built-spares at to h ns out left (built.Bytes n) f d k = absurd (d refl)
+built-spares at to h ns out left (built.Refused why) f d k = (refl, f d)
 
-said-spares : (to : Address) (h : Messages) (ns : List Node) (out : List ℕ) (s : Said) → Spares ns out (onSaid s to h ns out)
-said-spares to h ns out silence d k = absurd (d refl)
-said-spares to h ns out (reply r) d k = built-spares to h ns out (written r out .left) (written r out .answer) (wire.written-spares r out) d k
-said-spares to h ns out collided d k = absurd (k refl)
+said-spares : (at : ℕ) (to : Address) (h : Messages) (ns : List Node) (out : List ℕ) (s : Said) → Spares ns out (onSaid s at to h ns out)
+said-spares at to h ns out silence d k = absurd (d refl)
+said-spares at to h ns out (reply r) d k = built-spares at to h ns out (written r out .left) (written r out .answer) (wire.written-spares r out) d k
+said-spares at to h ns out collided d k = absurd (k refl)
 
-frame-spares : (ns : List Node) (p out : List ℕ) (f : Framed) → Spares ns out (onFrame f p ns out)
+frame-spares : (ns : List Node) (at : ℕ) (p out : List ℕ) (f : Framed) → Spares ns out (onFrame at f p ns out)
 unfolding deliveredTo
-frame-spares ns p out (framed.Whole to c n) = said-spares to (messagesAs c p) ns out (said to (messagesAs c p) ns)
-frame-spares ns p out (framed.Refused why) = λ d k. (refl, refl)
+frame-spares ns at p out (framed.Whole to c n) = said-spares at to (messagesAs to c p) ns out (said at to (messagesAs to c p) ns)
+frame-spares ns at p out (framed.Refused why) = λ d k. (refl, refl)
 
-valid-spares : (v : Bool) (ns : List Node) (p out : List ℕ) → Spares ns out (cond v (onFrame (frameAlone p) p ns out) (refusedDelivery Range ns out))
-valid-spares true ns p out = frame-spares ns p out (frameAlone p)
-valid-spares false ns p out = λ d k. (refl, refl)
+valid-spares : (v : Bool) (ns : List Node) (at : ℕ) (p out : List ℕ) → Spares ns out (cond v (onFrame at (frameAlone p) p ns out) (refusedDelivery Range ns out))
+valid-spares true ns at p out = frame-spares ns at p out (frameAlone p)
+valid-spares false ns at p out = λ d k. (refl, refl)
 
-pub deliver-spares : (ns : List Node) (p out : List ℕ) → Spares ns out (deliverOf ns p out)
+pub deliver-spares : (ns : List Node) (at : ℕ) (p out : List ℕ) → Spares ns out (deliverOf ns at p out)
 unfolding deliverOf
-deliver-spares ns p out = valid-spares (valid ns) ns p out
+deliver-spares ns at p out = valid-spares (valid ns) ns at p out

@@ -31,25 +31,25 @@ pub lower : (P : ℕ → Type 0) (low high : ℕ) (ms : List ℕ) → low ≤ hi
 lower P low high [] h u = tt
 lower P low high (m ∷ ms) h u = (omega (arith, u .0), u .1, u .2)
 
-rise-from : (P : ℕ → Type 0) (to : Address) (i : ℕ) (near : Bool) (l : List Node)
-    → ((j : ℕ) → j < length l → doesReply to (nearAt near l j) (getD l j blankNode) ≡ true → P (i + j)) → Rising P i (repliersFrom to i near l)
-rise-from P to i near [] f = tt
-rise-from P to i near (n ∷ ns) f =
-    go (doesReply to near n) refl
-    (rise-from P to (suc i) (n .addressed) ns (λ j b y. subst P (omega arith) (behind (λ j b m. doesReply to b m ≡ true → P (i + j)) near n ns f j b y)))
+rise-from : (P : ℕ → Type 0) (at : ℕ) (to : Address) (i : ℕ) (near : Bool) (l : List Node)
+    → ((j : ℕ) → j < length l → doesReply at to (nearAt near l j) (getD l j blankNode) ≡ true → P (i + j)) → Rising P i (repliersFrom at to i near l)
+rise-from P at to i near [] f = tt
+rise-from P at to i near (n ∷ ns) f =
+    go (doesReply at to near n) refl
+    (rise-from P at to (suc i) (n .addressed) ns (λ j b y. subst P (omega arith) (behind (λ j b m. doesReply at to b m ≡ true → P (i + j)) near n ns f j b y)))
   where
-    go : (t : Bool) → doesReply to near n ≡ t → Rising P (suc i) (repliersFrom to (suc i) (n .addressed) ns)
-        → Rising P i (cond t (i ∷ repliersFrom to (suc i) (n .addressed) ns) (repliersFrom to (suc i) (n .addressed) ns))
+    go : (t : Bool) → doesReply at to near n ≡ t → Rising P (suc i) (repliersFrom at to (suc i) (n .addressed) ns)
+        → Rising P i (cond t (i ∷ repliersFrom at to (suc i) (n .addressed) ns) (repliersFrom at to (suc i) (n .addressed) ns))
     go true y rest = (omega arith, subst P (omega arith) (f 0 (omega arith) y), rest)
-    go false y rest = lower P i (suc i) (repliersFrom to (suc i) (n .addressed) ns) (omega arith) rest
+    go false y rest = lower P i (suc i) (repliersFrom at to (suc i) (n .addressed) ns) (omega arith) rest
 
 -- a node of the chain that hears and answers
-abbrev pub Replies : Address → List Node → ℕ → Type 0
-Replies to l m = (m < length l) × (repliesAt to l m ≡ true)
+abbrev pub Replies : ℕ → Address → List Node → ℕ → Type 0
+Replies at to l m = (m < length l) × (repliesAt at to l m ≡ true)
 
-pub repliers-rise : (to : Address) (l : List Node) → Rising (Replies to l) 0 (repliersFrom to 0 true l)
+pub repliers-rise : (at : ℕ) (to : Address) (l : List Node) → Rising (Replies at to l) 0 (repliersFrom at to 0 true l)
 unfolding doesReply
-repliers-rise to l = rise-from (Replies to l) to 0 true l (λ j b y. rw (zero-add j) (b, y))
+repliers-rise at to l = rise-from (Replies at to l) at to 0 true l (λ j b y. rw (zero-add j) (b, y))
 
 -- who is found, whose the one reply is, and of which two several are
 pub found-is : (P : ℕ → Type 0) (ms : List ℕ) (m : ℕ) → Rising P 0 ms → searchOf ms ≡ One m → P m

@@ -36,21 +36,21 @@ use Rattle.survey.specs.Survey.{receiveOf, isStillRanged, glanceFor, gla
 use Rattle.survey.proofs.Lengths.{stands-alone}
 
 -- ---- a packet as it comes in
-module _ (p : List ℕ) (f : Framed) (e : Promise framedNumber f (frameOf p)) where
+module _ (at : ℕ) (p : List ℕ) (f : Framed) (e : Promise framedNumber f (frameOf p)) where
   module _ (to : Address) (k n : ℕ) (q : f ≡ framed.Whole to k n) where
-    pub came-long : n < length p → Unread Long ≡ receiveOf p
+    pub came-long : n < length p → Unread Long ≡ receiveOf at p
     unfolding receiveOf frameAlone
     came-long l = rw (← (e .answer), q, lt-ltb n (length p) l)
 
     pub came-whole : (d : List ℕ) (r : Readings) (ok : Bool) (h : Messages) → length p ≤ n
-        → d ≡ dataPart p → r ≡ readingsOf k d → ok ≡ isIntact p → h ≡ messagesOf (r .gate) (r .drive) ok → Whole to h ≡ receiveOf p
+        → d ≡ dataPart p → r ≡ readingsOf k d → ok ≡ isIntact p → h ≡ messagesOf (r .gate) (r .drive) to ok → Whole to at h ≡ receiveOf at p
     unfolding receiveOf
     came-whole d r ok h l a b c i =
         let read = b ∙ ap (readingsOf k) a in
-        let told = i ∙ ap (λ (x : Readings). messagesOf (x .gate) (x .drive) ok) read ∙ ap (messagesOf (codecRead Gate k (dataPart p)) (codecRead Drive k (dataPart p))) c in
-        rw (stands-alone p to k n (sym (e .answer) ∙ q) l) (ap (Whole to) told)
+        let told = i ∙ ap (λ (x : Readings). messagesOf (x .gate) (x .drive) to ok) read ∙ ap (messagesOf (codecRead Gate k (dataPart p)) (codecRead Drive k (dataPart p)) to) c in
+        rw (stands-alone p to k n (sym (e .answer) ∙ q) l) (ap (Whole to at) told)
 
-  pub came-unread : (why : Refusal) → f ≡ framed.Refused why → Unread why ≡ receiveOf p
+  pub came-unread : (why : Refusal) → f ≡ framed.Refused why → Unread why ≡ receiveOf at p
   unfolding receiveOf frameAlone
   came-unread why q = rw (← (e .answer), q)
 
@@ -58,11 +58,11 @@ module _ (p : List ℕ) (f : Framed) (e : Promise framedNumber f (frameOf p)) wh
 pub still-ranged : (b x : Bool) (p : Place) → x ≡ isRanged p → (b && x) ≡ isStillRanged b p
 still-ranged b x p e = rw e
 
-pub glanced-for : (to : Address) (s r : Seen) (n : Node) (w a b : ℕ) (x y z : Bool) → x ≡ doesAct to (s .near) n → y ≡ doesReply to (s .near) n → z ≡ isStillRanged (s .ranged) (n .settings .place)
+pub glanced-for : (at : ℕ) (to : Address) (s r : Seen) (n : Node) (w a b : ℕ) (x y z : Bool) → x ≡ doesAct at to (s .near) n → y ≡ doesReply at to (s .near) n → z ≡ isStillRanged (s .ranged) (n .settings .place)
     → w ≡ (s .weight + s .weight) % 2 ^ 32 → a ≡ joinOf (s .acting) (s .weight) x → b ≡ joinOf (s .replying) (s .weight) y
-    → record { near = n .addressed; weight = w; acting = a; replying = b; ranged = z } ≡ glanceFor to s n
+    → record { near = n .addressed; weight = w; acting = a; replying = b; ranged = z } ≡ glanceFor at to s n
 unfolding glanceFor
-glanced-for to s r n w a b x y z p q u v f g = rw (v, f, g, p, q, u)
+glanced-for at to s r n w a b x y z p q u v f g = rw (v, f, g, p, q, u)
 
 pub glanced-past : (s : Seen) (n : Node) (z : Bool) → z ≡ isStillRanged (s .ranged) (n .settings .place)
     → record { near = s .near; weight = s .weight; acting = s .acting; replying = s .replying; ranged = z } ≡ glancePast s n

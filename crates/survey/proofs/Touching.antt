@@ -9,7 +9,7 @@ use Rattle.wire.specs.declared.kind.Kind.{Kind}
 use Rattle.wire.specs.declared.kind.Kind.the-variants as kind
 use Rattle.wire.proofs.Choice.{same}
 use Rattle.command.specs.declared.Command.{Command}
-use Rattle.command.specs.declared.Command.the-variants.{SetAddress, DefineStatus, ReadStatus, SetPwm, SynchOutput, SetOutputs, SetSynchOutput, SetTimerMode, SynchInput, Nop, HardReset, ResetPosition, LoadTrajectory, StartMotion, SetGain, StopMotor}
+use Rattle.command.specs.declared.Command.the-variants.{SetAddress, DefineStatus, ReadStatus, SetPwm, SynchOutput, SetOutputs, SetSynchOutput, SetTimerMode, SetBaudRate, SynchInput, Nop, HardReset, ResetPosition, LoadTrajectory, StartMotion, SetGain, StopMotor}
 use Rattle.command.specs.Role.{roleOf}
 use Rattle.message.specs.declared.Message.{Message}
 use Rattle.message.specs.declared.Message.the-variants.{Intact, Other, Spoilt}
@@ -34,6 +34,7 @@ idle-keeps SynchOutput e k n = absurd (false≢true e)
 idle-keeps (SetOutputs w) e k n = absurd (false≢true e)
 idle-keeps (SetSynchOutput h) e k n = absurd (false≢true e)
 idle-keeps (SetTimerMode m) e k n = absurd (false≢true e)
+idle-keeps (SetBaudRate d) e k n = absurd (false≢true e)
 idle-keeps SynchInput e k n = absurd (false≢true e)
 idle-keeps Nop e k n = nop-keeps k n
 idle-keeps HardReset e k n = absurd (false≢true e)

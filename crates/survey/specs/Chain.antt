@@ -1,4 +1,4 @@
--- Document 01, "The chain": what a packet does to a list of nodes, and what is then said on the line.
+-- Document 01, "The chain": what a packet, sent at a divisor, does to a list of nodes, and what is then said on the line.
 use Prim.Native.Nat.{ℕ, zero, suc}
 use mathlib.Core.Bool.{Bool, true, false, cond, _&&_}
 use mathlib.Core.List.{List, [], _∷_}
@@ -17,19 +17,19 @@ use Rattle.survey.specs.declared.sets.Replier.the-variants.{None, One, S
 use Rattle.survey.specs.One.{doesHear, isAnswering, doesReply, turned, isRanged}
 
 -- each node after the packet; "Who hears is fixed before the packet acts", "Places are those before the packet acts"
-abbrev pub turnedFrom : Address → Messages → Bool → List Node → List Node
-turnedFrom to h near [] = []
-turnedFrom to h near (n ∷ ns) = turned to h near n ∷ turnedFrom to h (n .addressed) ns
+abbrev pub turnedFrom : ℕ → Address → Messages → Bool → List Node → List Node
+turnedFrom at to h near [] = []
+turnedFrom at to h near (n ∷ ns) = turned at to h near n ∷ turnedFrom at to h (n .addressed) ns
 
 -- the nodes after a packet
-unfoldable pub after : Address → Messages → List Node → List Node
-after to h ns = turnedFrom to h true ns
+unfoldable pub after : ℕ → Address → Messages → List Node → List Node
+after at to h ns = turnedFrom at to h true ns
 
 -- the indices of those that reply, in order, from index i on
-abbrev pub repliersFrom : Address → ℕ → Bool → List Node → List ℕ
-repliersFrom to i near [] = []
-repliersFrom to i near (n ∷ ns) =
-    cond (doesReply to near n) (i ∷ repliersFrom to (suc i) (n .addressed) ns) (repliersFrom to (suc i) (n .addressed) ns)
+abbrev pub repliersFrom : ℕ → Address → ℕ → Bool → List Node → List ℕ
+repliersFrom at to i near [] = []
+repliersFrom at to i near (n ∷ ns) =
+    cond (doesReply at to near n) (i ∷ repliersFrom at to (suc i) (n .addressed) ns) (repliersFrom at to (suc i) (n .addressed) ns)
 
 -- "the chain is searched in order and left at the second replier"
 abbrev pub searchOf : List ℕ → Replier
@@ -38,8 +38,8 @@ searchOf (i ∷ []) = One i
 searchOf (i ∷ j ∷ is) = Several
 
 -- who replies to a packet that is answered
-unfoldable pub replierIn : Address → List Node → Replier
-replierIn to ns = searchOf (repliersFrom to 0 true ns)
+unfoldable pub replierIn : ℕ → Address → List Node → Replier
+replierIn at to ns = searchOf (repliersFrom at to 0 true ns)
 
 -- what is said on the line: nothing, one reply, several at once
 pub data Said : Type 0 where
@@ -73,22 +73,22 @@ saidBy h ns (One i) = reply (replyFor h (getD ns i blankNode))
 saidBy h ns Several = collided
 
 -- "and the command isn't an intact Hard Reset of count 0": a shared command, which reads alike to either kind
-unfoldable pub said : Address → Messages → List Node → Said
-said to h ns = cond (isAnswered (h .gate)) (saidBy h ns (replierIn to ns)) silence
+unfoldable pub said : ℕ → Address → Messages → List Node → Said
+said at to h ns = cond (isAnswered (h .gate)) (saidBy h ns (replierIn at to ns)) silence
 
 -- each record is in range
 abbrev pub allRanged : List Node → Bool
 allRanged [] = true
 allRanged (n ∷ ns) = isRanged (n .settings .place) && allRanged ns
 
--- a node by its index: "addressed, is first, or the node before it is addressed"
+-- a node by its index: "is first, or the node before it is addressed"
 abbrev pub nearAt : Bool → List Node → ℕ → Bool
 nearAt near ns zero = near
 nearAt near ns (suc i) = getD ns i blankNode .addressed
 
-abbrev pub hearsAt : List Node → ℕ → Bool
-hearsAt ns i = doesHear (nearAt true ns i) (getD ns i blankNode .addressed)
+abbrev pub hearsAt : ℕ → List Node → ℕ → Bool
+hearsAt at ns i = doesHear at (nearAt true ns i) (getD ns i blankNode)
 
 -- it replies, if the packet is answered at all
-abbrev pub repliesAt : Address → List Node → ℕ → Bool
-repliesAt to ns i = hearsAt ns i && isAnswering to (getD ns i blankNode .settings .place)
+abbrev pub repliesAt : ℕ → Address → List Node → ℕ → Bool
+repliesAt at to ns i = hearsAt at ns i && isAnswering to (getD ns i blankNode .settings .place)

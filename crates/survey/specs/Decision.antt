@@ -31,6 +31,7 @@ use Rattle.survey.specs.Sets.{setWidth}
 abbrev pub isIdle : Role → Bool
 isIdle Plain = false
 isIdle (Places p) = false
+isIdle (Paces d) = false
 isIdle (Masks m) = true
 isIdle Captures = false
 isIdle Zeroes = false

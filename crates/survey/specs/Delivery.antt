@@ -1,4 +1,4 @@
--- Document 01, "The chain" and "Numbers returned", with document 02, request 2: a packet delivered to a lent table of nodes.
+-- Document 01, "The chain" and "Numbers returned", with document 02, requests 2 and 7: a packet delivered, at the divisor `at`, to a lent table of nodes.
 use Prim.Native.Nat.{ℕ}
 use mathlib.Core.Bool.{Bool, cond, _&&_}
 use mathlib.Core.List.{List}
@@ -35,22 +35,22 @@ valid ns = leb 1 (length ns) && leb (length ns) mostNodes && allRanged ns
 abbrev pub refusedDelivery : Refusal → List Node → List ℕ → Outcome Delivery Lent
 refusedDelivery why ns out = record { answer = Refused why; left = record { nodes = ns; reply = out } }
 
-abbrev pub acted : Delivery → Address → Messages → List Node → List ℕ → Outcome Delivery Lent
-acted answer to h ns out = record { answer = answer; left = record { nodes = after to h ns; reply = out } }
+abbrev pub acted : Delivery → ℕ → Address → Messages → List Node → List ℕ → Outcome Delivery Lent
+acted answer at to h ns out = record { answer = answer; left = record { nodes = after at to h ns; reply = out } }
 
 -- the one reply "goes to the start of the reply buffer, the rest of the buffer stays"; 5 where it has no room, "tested .. before any node acts"
-abbrev pub onBuilt : Built → Address → Messages → List Node → List ℕ → Outcome Delivery Lent
-onBuilt (built.Bytes n) to h ns out = acted (Replied n) to h ns out
-onBuilt (built.Refused why) to h ns out = refusedDelivery why ns out
+abbrev pub onBuilt : Built → ℕ → Address → Messages → List Node → List ℕ → Outcome Delivery Lent
+onBuilt (built.Bytes n) at to h ns out = acted (Replied n) at to h ns out
+onBuilt (built.Refused why) at to h ns out = refusedDelivery why ns out
 
 -- "None: nothing is written. Two or more: they act, nothing is written, and 13 is returned"
-abbrev pub onSaid : Said → Address → Messages → List Node → List ℕ → Outcome Delivery Lent
-onSaid silence to h ns out = acted Silent to h ns out
-onSaid (reply r) to h ns out = onBuilt (written r out .answer) to h ns (written r out .left)
-onSaid collided to h ns out = acted Collision to h ns out
+abbrev pub onSaid : Said → ℕ → Address → Messages → List Node → List ℕ → Outcome Delivery Lent
+onSaid silence at to h ns out = acted Silent at to h ns out
+onSaid (reply r) at to h ns out = onBuilt (written r out .answer) at to h ns (written r out .left)
+onSaid collided at to h ns out = acted Collision at to h ns out
 
-unfoldable pub deliveredTo : Address → Messages → List Node → List ℕ → Outcome Delivery Lent
-deliveredTo to h ns out = onSaid (said to h ns) to h ns out
+unfoldable pub deliveredTo : ℕ → Address → Messages → List Node → List ℕ → Outcome Delivery Lent
+deliveredTo at to h ns out = onSaid (said at to h ns) at to h ns out
 
 -- "the chain and bench program then refuse left-over bytes with 3 themselves": 3, unless what reading finds ends where the bytes do
 abbrev pub alone : List ℕ → Framed → Framed
@@ -62,13 +62,13 @@ unfoldable pub frameAlone : List ℕ → Framed
 frameAlone p = alone p (frameOf p)
 
 -- "Wrong sum isn't refused by the chain"
-abbrev pub onFrame : Framed → List ℕ → List Node → List ℕ → Outcome Delivery Lent
-onFrame (framed.Whole to k n) p ns out = deliveredTo to (messagesAs k p) ns out
-onFrame (framed.Refused why) p ns out = refusedDelivery why ns out
+abbrev pub onFrame : ℕ → Framed → List ℕ → List Node → List ℕ → Outcome Delivery Lent
+onFrame at (framed.Whole to k n) p ns out = deliveredTo at to (messagesAs to k p) ns out
+onFrame at (framed.Refused why) p ns out = refusedDelivery why ns out
 
 -- "For the chain 6 comes first"
-unfoldable pub deliverOf : List Node → List ℕ → List ℕ → Outcome Delivery Lent
-deliverOf ns p out = cond (valid ns) (onFrame (frameAlone p) p ns out) (refusedDelivery Range ns out)
+unfoldable pub deliverOf : List Node → ℕ → List ℕ → List ℕ → Outcome Delivery Lent
+deliverOf ns at p out = cond (valid ns) (onFrame at (frameAlone p) p ns out) (refusedDelivery Range ns out)
 
 -- the number of a delivery
 abbrev pub deliveryNumber : Delivery → ℕ

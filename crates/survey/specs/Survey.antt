@@ -28,17 +28,17 @@ use Rattle.survey.specs.Chain.{searchOf, zeros}
 use Rattle.survey.specs.Delivery.{frameAlone}
 use Rattle.survey.specs.Sets.{setWidth, joinOf, members}
 
--- a packet as it comes in
-abbrev pub receiveBy : Framed → List ℕ → Incoming
-receiveBy (framed.Whole to k n) p = Whole to (messagesAs k p)
-receiveBy (framed.Refused why) p = Unread why
+-- a packet as it comes in, at a divisor
+abbrev pub receiveBy : ℕ → Framed → List ℕ → Incoming
+receiveBy at (framed.Whole to k n) p = Whole to at (messagesAs to k p)
+receiveBy at (framed.Refused why) p = Unread why
 
-unfoldable pub receiveOf : List ℕ → Incoming
-receiveOf p = receiveBy (frameAlone p) p
+unfoldable pub receiveOf : ℕ → List ℕ → Incoming
+receiveOf at p = receiveBy at (frameAlone p) p
 
 -- the number that a packet is refused with before it comes to the nodes
 abbrev pub incomingNumber : Incoming → ℕ
-incomingNumber (Whole to m) = done
+incomingNumber (Whole to at m) = done
 incomingNumber (Unread why) = numberOf why
 
 -- nothing seen yet: the first node is near
@@ -50,12 +50,12 @@ abbrev pub isStillRanged : Bool → Place → Bool
 isStillRanged b p = b && isRanged p
 
 -- one node more
-unfoldable pub glanceFor : Address → Seen → Node → Seen
-glanceFor to s n = record {
+unfoldable pub glanceFor : ℕ → Address → Seen → Node → Seen
+glanceFor at to s n = record {
   near = n .addressed;
   weight = (s .weight + s .weight) % 2 ^ setWidth;
-  acting = joinOf (s .acting) (s .weight) (doesAct to (s .near) n);
-  replying = joinOf (s .replying) (s .weight) (doesReply to (s .near) n);
+  acting = joinOf (s .acting) (s .weight) (doesAct at to (s .near) n);
+  replying = joinOf (s .replying) (s .weight) (doesReply at to (s .near) n);
   ranged = isStillRanged (s .ranged) (n .settings .place);
 }
 
@@ -63,7 +63,7 @@ unfoldable pub glancePast : Seen → Node → Seen
 glancePast s n = record { near = s .near; weight = s .weight; acting = s .acting; replying = s .replying; ranged = isStillRanged (s .ranged) (n .settings .place) }
 
 abbrev pub glanceOf : Incoming → Seen → Node → Seen
-glanceOf (Whole to h) s n = glanceFor to s n
+glanceOf (Whole to at h) s n = glanceFor at to s n
 glanceOf (Unread why) s n = glancePast s n
 
 -- all of them
@@ -80,7 +80,7 @@ abbrev pub planFor : Messages → Seen → ℕ → Plan
 planFor h s n = Deliver (replierTo h (s .replying) n) (s .acting) h
 
 abbrev pub planBy : Incoming → Seen → ℕ → Plan
-planBy (Whole to h) s n = planFor h s n
+planBy (Whole to at h) s n = planFor h s n
 planBy (Unread why) s n = Refuse why
 
 -- the number of a plan: of one that delivers, it is the delivery's

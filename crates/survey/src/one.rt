@@ -1,4 +1,4 @@
-// One node of the chain and a packet, by what every node has: its place and whether it is addressed.
+// One node of the chain and a packet, by what every node has: its place, its divisor and whether it is addressed.
 // Tests are joined by & and |, so that a look at a node does not branch.
 use command::Place;
 use node::Node;
@@ -6,11 +6,11 @@ use wire::Address;
 ghost use mathlib.Core.Path.{_≡_};
 ghost use Rattle.survey.specs.One.{doesHear, isMeant, isAnswering, doesAct, doesReply, isRanged};
 
-// Near: the node is first, or the node before it is addressed.
-fn does_hear(addressed: bool, near: bool) -> bool
-    ensures { λ r. ⌜ r ≡ doesHear near addressed ⌝ }
+// Near: the node is first, or the node before it is addressed. At: the divisor that the packet is sent at.
+fn does_hear(n: Node, near: bool, at: u8) -> bool
+    ensures { λ r. ⌜ r ≡ doesHear at near n ⌝ }
 {
-    near | addressed
+    (near | n.addressed) & (n.settings.divisor == at)
 }
 
 // The address is the node's individual one, or its group.
@@ -43,15 +43,15 @@ pub(crate) fn is_ranged(place: Place) -> bool
 }
 
 // Whether the node acts on a packet.
-pub(crate) fn does_act(n: Node, near: bool, to: Address) -> bool
-    ensures { λ r. ⌜ r ≡ doesAct to near n ⌝ }
+pub(crate) fn does_act(n: Node, near: bool, at: u8, to: Address) -> bool
+    ensures { λ r. ⌜ r ≡ doesAct at to near n ⌝ }
 {
-    does_hear(n.addressed, near) & is_meant(n.settings.place, to)
+    does_hear(n, near, at) & is_meant(n.settings.place, to)
 }
 
 // Whether the node replies to a packet that is answered.
-pub(crate) fn does_reply(n: Node, near: bool, to: Address) -> bool
-    ensures { λ r. ⌜ r ≡ doesReply to near n ⌝ }
+pub(crate) fn does_reply(n: Node, near: bool, at: u8, to: Address) -> bool
+    ensures { λ r. ⌜ r ≡ doesReply at to near n ⌝ }
 {
-    does_hear(n.addressed, near) & is_answering(n.settings.place, to)
+    does_hear(n, near, at) & is_answering(n.settings.place, to)
 }

@@ -16,9 +16,13 @@ use wire::Refusal;
 ghost use mathlib.Core.Path.{_≡_};
 ghost use Rattle.survey.specs.Survey.{receiveOf, isStillRanged, glanceFor, glancePast, glanceOf, replierTo, planFor, planOf, speakerIn, speakerOf};
 
-// A packet as it comes in: whom it is for and what it says to either kind of node, or why it is refused.
+// A packet as it comes in: whom it is for, the divisor that it is sent at and what it says to either kind of node, or why it is refused.
 pub enum Incoming {
-    Whole { to: Address, messages: Messages },
+    Whole {
+        to: Address,
+        at: u8,
+        messages: Messages,
+    },
     Unread(Refusal),
 }
 
@@ -48,9 +52,9 @@ pub struct Survey {
     pub speaker: Node,
 }
 
-// A packet as it comes in.
-pub fn receive(p: &[u8]) -> Incoming
-    ensures { λ r. ⌜ r ≡ receiveOf (now (p .entry)) ⌝ }
+// A packet as it comes in, at a divisor.
+pub fn receive(at: u8, p: &[u8]) -> Incoming
+    ensures { λ r. ⌜ r ≡ receiveOf at (now (p .entry)) ⌝ }
 {
     match packet::frame(p) {
         Framed::Whole {
@@ -65,9 +69,10 @@ pub fn receive(p: &[u8]) -> Incoming
             let readings = Readings::of(command, packet::data_part(p));
             let gate = readings.gate;
             let drive = readings.drive;
-            let messages = Messages::of(gate, drive, packet::is_intact(p));
+            let messages = Messages::of(gate, drive, address, packet::is_intact(p));
             Incoming::Whole {
                 to: address,
+                at,
                 messages,
             }
         }
@@ -82,12 +87,12 @@ fn is_still_ranged(ranged: bool, place: Place) -> bool
     ranged & is_ranged(place)
 }
 
-// One node more, of a packet for `to`.
-fn glance_for(seen: Seen, n: Node, to: Address) -> Seen
-    ensures { λ r. ⌜ r ≡ glanceFor to seen n ⌝ }
+// One node more, of a packet for `to`, at a divisor.
+fn glance_for(seen: Seen, n: Node, at: u8, to: Address) -> Seen
+    ensures { λ r. ⌜ r ≡ glanceFor at to seen n ⌝ }
 {
-    let acts = does_act(n, seen.near, to);
-    let replies = does_reply(n, seen.near, to);
+    let acts = does_act(n, seen.near, at, to);
+    let replies = does_reply(n, seen.near, at, to);
     Seen {
         near: n.addressed,
         weight: std::num::wrapping_add_u32(seen.weight, seen.weight),
@@ -111,7 +116,11 @@ pub fn glance(seen: Seen, n: Node, incoming: Incoming) -> Seen
     ensures { λ r. ⌜ r ≡ glanceOf incoming seen n ⌝ }
 {
     match incoming {
-        Incoming::Whole { to, messages: _ } => glance_for(seen, n, to),
+        Incoming::Whole {
+            to,
+            at,
+            messages: _,
+        } => glance_for(seen, n, at, to),
         Incoming::Unread(_) => glance_past(seen, n),
     }
 }
@@ -151,7 +160,11 @@ pub fn plan_of(incoming: Incoming, seen: Seen, n: usize) -> Plan
     }
     if seen.ranged {
         return match incoming {
-            Incoming::Whole { to: _, messages } => plan_for(messages, seen, n),
+            Incoming::Whole {
+                to: _,
+                at: _,
+                messages,
+            } => plan_for(messages, seen, n),
             Incoming::Unread(why) => Plan::Refuse(why),
         };
     }

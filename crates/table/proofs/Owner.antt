@@ -19,11 +19,11 @@ use Rattle.table.specs.Table.{tableRoom, keptBy, deliveredNumber, tableD
 use Rattle.table.specs.Lending.{tableLeast, deliveredWith}
 
 -- the records that were lent, and those behind them
-pub together : (xs : List Node) (n : ℕ) (p out : List ℕ) (r : Delivery) (zs : List Node) (ws : List ℕ) (d : Delivered)
-    → Lending deliveryNumber r (record { nodes = zs; reply = ws }) (deliverOf (take n xs) p out) → d ≡ deliveredWith (zs ++ drop n xs) n r
-    → Lending deliveredNumber d ws (tableDeliver (record { nodes = xs; count = n }) p out)
+pub together : (xs : List Node) (n at : ℕ) (p out : List ℕ) (r : Delivery) (zs : List Node) (ws : List ℕ) (d : Delivered)
+    → Lending deliveryNumber r (record { nodes = zs; reply = ws }) (deliverOf (take n xs) at p out) → d ≡ deliveredWith (zs ++ drop n xs) n r
+    → Lending deliveredNumber d ws (tableDeliver (record { nodes = xs; count = n }) at p out)
 unfolding tableDeliver
-together xs n p out r zs ws d e is =
+together xs n at p out r zs ws d e is =
     lent ((λ i. record { answer = is i; left = ws })
     ∙ (λ i. keptBy (record { nodes = xs; count = n }) (record { answer = e .answer i; left = e .leaves i })))
 
@@ -53,15 +53,15 @@ pub long : (t : Table) → length (map (the-field .into) (t .nodes)) ≡ tableRo
 long t e = sym (length-map (t .nodes) (the-field .into)) ∙ e
 
 -- the count that was handed in is handed back
-pub recounted : (t : Table) (p out : List ℕ) (n : ℕ) (d r : Delivered) (ws : List ℕ) → length (t .nodes) ≡ tableRoom → n ≡ tableLeast (t .count)
-    → Lending deliveredNumber d ws (tableDeliver (record { nodes = t .nodes; count = n }) p out) → r ≡ deliveredWith (d .table .nodes) (t .count) (d .answer)
-    → Lending deliveredNumber r ws (tableDeliver t p out)
+pub recounted : (t : Table) (at : ℕ) (p out : List ℕ) (n : ℕ) (d r : Delivered) (ws : List ℕ) → length (t .nodes) ≡ tableRoom → n ≡ tableLeast (t .count)
+    → Lending deliveredNumber d ws (tableDeliver (record { nodes = t .nodes; count = n }) at p out) → r ≡ deliveredWith (d .table .nodes) (t .count) (d .answer)
+    → Lending deliveredNumber r ws (tableDeliver t at p out)
 unfolding tableDeliver
-recounted t p out n d r ws long e given is =
+recounted t at p out n d r ws long e given is =
     lent ((λ i. record { answer = is i; left = ws })
     ∙ (λ i. record { answer = deliveredWith (given .answer i .table .nodes) (t .count) (given .answer i .answer); left = given .leaves i })
     ∙ (λ i. glued (same-taken (t .nodes) n (t .count) long e i) (same-left (t .nodes) n (t .count) long e i)))
   where
     glued : List Node → List Node → Outcome Delivered (List ℕ)
     glued fs rs =
-        record { answer = deliveredWith (deliverOf fs p out .left .nodes ++ rs) (t .count) (deliverOf fs p out .answer); left = deliverOf fs p out .left .reply }
+        record { answer = deliveredWith (deliverOf fs at p out .left .nodes ++ rs) (t .count) (deliverOf fs at p out .answer); left = deliverOf fs at p out .left .reply }

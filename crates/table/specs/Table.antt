@@ -26,9 +26,9 @@ withNodes t ns = record { nodes = ns ++ drop (t .count) (t .nodes); count = t .c
 abbrev pub keptBy : Table → Outcome Delivery Lent → Outcome Delivered (List ℕ)
 keptBy t o = record { answer = record { answer = o .answer; table = withNodes t (o .left .nodes) }; left = o .left .reply }
 
--- a packet to the chain that the table holds
-unfoldable pub tableDeliver : Table → List ℕ → List ℕ → Outcome Delivered (List ℕ)
-tableDeliver t p out = keptBy t (deliverOf (nodesOf t) p out)
+-- a packet to the chain that the table holds, sent at a divisor
+unfoldable pub tableDeliver : Table → ℕ → List ℕ → List ℕ → Outcome Delivered (List ℕ)
+tableDeliver t at p out = keptBy t (deliverOf (nodesOf t) at p out)
 
 -- the number of a delivery
 abbrev pub deliveredNumber : Delivered → ℕ

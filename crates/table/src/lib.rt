@@ -46,22 +46,22 @@ fn delivered_with(nodes: [Node; ROOM], count: usize, answer: Delivery) -> Delive
 }
 
 // The first n records are lent to the chain, and come back.
-fn lend(nodes: [Node; ROOM], n: usize, packet: &[u8], reply: &mut [u8]) -> Delivered
+fn lend(nodes: [Node; ROOM], n: usize, at: u8, packet: &[u8], reply: &mut [u8]) -> Delivered
     requires { ⌜ n ≤ tableRoom ⌝ }
-    ensures { λ r. ⌜ Lending deliveredNumber r (now (reply .exit)) (tableDeliver (record { nodes = nodes; count = n }) (now (packet .entry)) (now (reply .entry))) ⌝ }
+    ensures { λ r. ⌜ Lending deliveredNumber r (now (reply .exit)) (tableDeliver (record { nodes = nodes; count = n }) at (now (packet .entry)) (now (reply .entry))) ⌝ }
 {
     let mut held = nodes;
-    let answer = chain::deliver(&mut held[..n], packet, reply);
+    let answer = chain::deliver(&mut held[..n], at, packet, reply);
     delivered_with(held, n, answer)
 }
 
-// A packet to the chain that the table holds. Where the count is more than there is room for, all records are lent, and refused; the count stays.
-pub fn deliver(t: Table, packet: &[u8], reply: &mut [u8]) -> Delivered
-    ensures { λ r. ⌜ Lending deliveredNumber r (now (reply .exit)) (tableDeliver t (now (packet .entry)) (now (reply .entry))) ⌝ }
+// A packet to the chain that the table holds, sent at a divisor. Where the count is more than there is room for, all records are lent, and refused; the count stays.
+pub fn deliver(t: Table, at: u8, packet: &[u8], reply: &mut [u8]) -> Delivered
+    ensures { λ r. ⌜ Lending deliveredNumber r (now (reply .exit)) (tableDeliver t at (now (packet .entry)) (now (reply .entry))) ⌝ }
 {
     let nodes = t.nodes;
     let count = t.count;
-    let lent = lend(nodes, least(count), packet, reply);
+    let lent = lend(nodes, least(count), at, packet, reply);
     let answer = lent.answer;
     let table = lent.table;
     let left = table.nodes;

@@ -23,12 +23,13 @@ use Rattle.command.specs.declared.Command.{Command}
 use Rattle.command.specs.declared.Reading.{Reading}
 use Rattle.command.specs.declared.Reading.the-variants as reading
 use Rattle.command.specs.declared.Role.{Role}
-use Rattle.command.specs.declared.Role.the-variants.{Plain, Places, Masks, Captures, Zeroes, Idles, Resets}
+use Rattle.command.specs.declared.Role.the-variants.{Plain, Places, Paces, Masks, Captures, Zeroes, Idles, Resets}
 use Rattle.command.specs.Role.{roleOf, isPlacing}
 use Rattle.command.specs.Owner.{has}
 use Rattle.codec.specs.Reading.{codecRead}
 use Rattle.codec.specs.Build.{typedBy, Typed, packetFor}
 use Rattle.codec.proofs.Commands.{built-few, reads-in-range}
+use Rattle.node.specs.Effect.{divisorUp}
 use Rattle.session.specs.declared.Session.{Session}
 use Rattle.session.specs.declared.End.{End}
 use Rattle.session.specs.declared.End.the-variants as end
@@ -39,13 +40,13 @@ use Rattle.walk.proofs.Passing.{next-says, ask-says}
 use Rattle.host.proofs.Sent.{order-went, regroup-went}
 use Rattle.host.proofs.Passing.{order-says, regroup-says}
 use Rattle.calls.specs.declared.Call.{Call}
-use Rattle.calls.specs.declared.Call.the-variants.{Next, Ask, Order, Regroup}
+use Rattle.calls.specs.declared.Call.the-variants.{Next, Ask, Order, Regroup, SetBaudRate}
 use Rattle.calls.specs.declared.Spoken.{Spoken}
 use Rattle.calls.specs.declared.Spoken.the-variants as spoken
 use Rattle.calls.specs.declared.Sought.{Sought}
 use Rattle.calls.specs.declared.Source.{Source}
 use Rattle.calls.specs.declared.Source.the-variants.{Found, Missing}
-use Rattle.calls.specs.Calls.{callPerform, TypedCall, Gives, sessionAfter, Unsendable}
+use Rattle.calls.specs.Calls.{callPerform, TypedCall, setsRate, Gives, sessionAfter, Unsendable}
 use Rattle.calls.specs.Understanding.{understandOf, spokenAs, spokenTo}
 use Rattle.calls.specs.Finding.{missedOf, soughtBy, soughtOf, tryCall, earlyCall, lateBy, lateCall, bySource, seekOf, findBy, findAs, findOf}
 use Rattle.calls.specs.Alike.{Alike}
@@ -72,7 +73,7 @@ sent-found s k p left after n e = rw (e, same-self p)
 abbrev FoundBy : {s : Session} {k : Call} {p : List ℕ} → Gives s k p → Sought → Type 0
 FoundBy {s} {k} g x = x ≡ record { source = Found k; session = sessionAfter g }
 
-module _ {s : Session} {k : Call} {p : List ℕ} (g : Gives s k p) (w : CallWent k s (g .out)) where
+module _ {s : Session} {k : Call} {p : List ℕ} (g : Gives s k p) (w : CallWent k s divisorUp (g .out)) where
   abbrev packet : List ℕ
   packet = packetFor (w .called) (w .command)
 
@@ -80,10 +81,10 @@ module _ {s : Session} {k : Call} {p : List ℕ} (g : Gives s k p) (w : CallWent
   tried : tryCall s k p ≡ record { source = Found k; session = sessionAfter g }
   unfolding tryCall
   tried =
-      let e : callPerform k s (replicate 19 0) ≡ sending s (w .called) (w .to) (w .command) (replicate 19 0) = w .sends (replicate 19 0) .room (omega (arith, built-few (w .called) (w .command), length-replicate {A = ℕ} 19 0)) in
+      let e : callPerform k s divisorUp (replicate 19 0) ≡ sending s divisorUp (w .called) (w .to) (w .command) (replicate 19 0) = w .sends (replicate 19 0) .room (omega (arith, built-few (w .called) (w .command), length-replicate {A = ℕ} 19 0)) in
       let f : take (length packet) (packet ++ drop (length packet) (replicate 19 0)) ≡ p = take-at packet (drop (length packet) (replicate 19 0)) _ refl ∙ sym (packet-is g w) in
       ap (soughtOf s k p) e
-      ∙ sent-found s k p (packet ++ drop (length packet) (replicate 19 0)) (openExchange s (w .to) (w .command)) (length packet) f
+      ∙ sent-found s k p (packet ++ drop (length packet) (replicate 19 0)) (openExchange s divisorUp (w .to) (w .command)) (length packet) f
       ∙ ap (λ (t : Session). record { source = Found k; session = t }) (sym (after-is g w))
 
   module _ (kind : Kind) (h : has kind (w .command) ≡ true) where
@@ -113,21 +114,22 @@ by-end (end.Sent n) s k p left after h = absurd (h n refl)
 by-end end.Done s k p left after h = refl
 by-end (end.Refused why) s k p left after h = refl
 
-unsent : (s : Session) (k : Call) (p : List ℕ) → ((n : ℕ) → callPerform k s (replicate 19 0) .answer .end ≡ end.Sent n → ⊥) → tryCall s k p ≡ missedOf s
+unsent : (s : Session) (k : Call) (p : List ℕ) → ((n : ℕ) → callPerform k s divisorUp (replicate 19 0) .answer .end ≡ end.Sent n → ⊥) → tryCall s k p ≡ missedOf s
 unfolding tryCall
 unsent s k p h = by-end _ s k p _ _ h
 
 -- a session whose walk has ended sends none of the walk's calls
 ended-early : (b : Bool) (s : Session) (p : List ℕ) → s .walk ≡ s .n → tryCall s (cond b Next Ask) p ≡ missedOf s
 ended-early true s p e =
-    unsent s Next p (λ n h. let w = next-says s (next-went s (replicate 19 0) (sent-done n h) .passed) .walking in omega arith)
+    unsent s Next p (λ n h. let w = next-says s divisorUp (next-went s divisorUp (replicate 19 0) (sent-done n h) .passed) .walking in omega arith)
 ended-early false s p e =
-    unsent s Ask p (λ n h. let w = ask-says s (ask-went s (replicate 19 0) (sent-done n h) .passed) .walking in omega arith)
+    unsent s Ask p (λ n h. let w = ask-says s divisorUp (ask-went s divisorUp (replicate 19 0) (sent-done n h) .passed) .walking in omega arith)
 
 -- a command that gives no place is an order of a ready session
 late-order : (to : Address) (c : Command) (r : Role) → isPlacing r ≡ false → lateBy to c r ≡ Order to c
 late-order to c Plain h = refl
 late-order to c (Places p) h = absurd (true≢false h)
+late-order to c (Paces d) h = refl
 late-order to c (Masks m) h = refl
 late-order to c Captures h = refl
 late-order to c Zeroes h = refl
@@ -139,11 +141,12 @@ unfolding call-went
 found-had s Next p g kind h = found-early g (went-by g) kind h refl
 found-had s Ask p g kind h = found-early g (went-by g) kind h refl
 found-had s (Order to c) p g kind h =
-    let t = order-says s to c (order-went s (g .out) to c (sent-done (g .count) (g .sent)) .passed) in
+    let t = order-says s divisorUp to c (order-went s divisorUp (g .out) to c (sent-done (g .count) (g .sent)) .passed) in
     found-late g (went-by g) kind h (ended-early (isPlacing (roleOf c)) s p (t .ended)) (late-order to c (roleOf c) (t .ordinary))
 found-had s (Regroup i j leader) p g kind h =
-    let t = regroup-says s i j leader (regroup-went s (g .out) i j leader (sent-done (g .count) (g .sent)) .passed) in
+    let t = regroup-says s divisorUp i j leader (regroup-went s divisorUp (g .out) i j leader (sent-done (g .count) (g .sent)) .passed) in
     found-late g (went-by g) kind h (ended-early true s p (t .ended)) refl
+found-had s (SetBaudRate j d) p g kind h = absurd (true≢false (g .unpaced))
 
 -- where none is found, none is found by either reading
 missing-by : (x : Source) (y z : Sought) → y .source ≡ x → bySource x y z .source ≡ Missing → (y .source ≡ Missing) × (z .source ≡ Missing)
@@ -172,24 +175,24 @@ pub record Made (s : Session) (k : Call) (p : List ℕ) (after : Session) : Type
 abbrev FoundAs : Session → List ℕ → Call → Sought → Type 0
 FoundAs s p j x = x .source ≡ Found j → Made s j p (x .session)
 
-module _ (s : Session) (k : Call) (p : List ℕ) (typed : TypedCall k) (j : Call) where
-  by-same : (b : Bool) (n : ℕ) → callPerform k s (replicate 19 0) .answer .end ≡ end.Sent n → isSame (take n (callPerform k s (replicate 19 0) .left)) p ≡ b
-      → FoundAs s p j (cond b (record { source = Found k; session = callPerform k s (replicate 19 0) .answer .session }) (missedOf s))
+module _ (s : Session) (k : Call) (p : List ℕ) (typed : TypedCall k) (unpaced : setsRate k ≡ false) (j : Call) where
+  by-same : (b : Bool) (n : ℕ) → callPerform k s divisorUp (replicate 19 0) .answer .end ≡ end.Sent n → isSame (take n (callPerform k s divisorUp (replicate 19 0) .left)) p ≡ b
+      → FoundAs s p j (cond b (record { source = Found k; session = callPerform k s divisorUp (replicate 19 0) .answer .session }) (missedOf s))
   by-same true n e h f =
-      let g : Gives s k p = record { typed = typed; out = replicate 19 0; count = n; sent = e; bytes = same-says _ p h } in
+      let g : Gives s k p = record { typed = typed; unpaced = unpaced; out = replicate 19 0; count = n; sent = e; bytes = same-says _ p h } in
       let i : k ≡ j = found-call f in
-      subst (λ (m : Call). Made s m p (callPerform k s (replicate 19 0) .answer .session)) i (record { gives = g; session = refl })
+      subst (λ (m : Call). Made s m p (callPerform k s divisorUp (replicate 19 0) .answer .session)) i (record { gives = g; session = refl })
   by-same false n e h f = absurd (found-not (sym f))
 
-  by-sent : (e : End) → callPerform k s (replicate 19 0) .answer .end ≡ e
-      → FoundAs s p j (soughtBy s k p (callPerform k s (replicate 19 0) .answer .session) (callPerform k s (replicate 19 0) .left) e)
+  by-sent : (e : End) → callPerform k s divisorUp (replicate 19 0) .answer .end ≡ e
+      → FoundAs s p j (soughtBy s k p (callPerform k s divisorUp (replicate 19 0) .answer .session) (callPerform k s divisorUp (replicate 19 0) .left) e)
   by-sent (end.Sent n) e = by-same _ n e refl
   by-sent end.Done e = λ f. absurd (found-not (sym f))
   by-sent (end.Refused why) e = λ f. absurd (found-not (sym f))
 
   tried-gives : FoundAs s p j (tryCall s k p)
   unfolding tryCall
-  tried-gives = by-sent (callPerform k s (replicate 19 0) .answer .end) refl
+  tried-gives = by-sent (callPerform k s divisorUp (replicate 19 0) .answer .end) refl
 
 -- what is read is of its types, so the calls that are tried for it are
 early-typed : (b : Bool) → TypedCall (cond b Next Ask)
@@ -199,11 +202,27 @@ early-typed false = tt
 late-typed : (to : Address) (c : Command) (r : Role) → typedBy r → TypedCall (lateBy to c r)
 late-typed to c Plain t = tt
 late-typed to c (Places p) t = t
+late-typed to c (Paces d) t = tt
 late-typed to c (Masks m) t = tt
 late-typed to c Captures t = tt
 late-typed to c Zeroes t = tt
 late-typed to c Idles t = tt
 late-typed to c Resets t = tt
+
+-- none of them is a Set Baud Rate
+early-unpaced : (b : Bool) → setsRate (cond b Next Ask) ≡ false
+early-unpaced true = refl
+early-unpaced false = refl
+
+late-unpaced : (to : Address) (c : Command) (r : Role) → setsRate (lateBy to c r) ≡ false
+late-unpaced to c Plain = refl
+late-unpaced to c (Places p) = refl
+late-unpaced to c (Paces d) = refl
+late-unpaced to c (Masks m) = refl
+late-unpaced to c Captures = refl
+late-unpaced to c Zeroes = refl
+late-unpaced to c Idles = refl
+late-unpaced to c Resets = refl
 
 module _ (kind : Kind) (p : List ℕ) (to : Address) (c : Command) where
   by-reading : (r : Reading) (a : Address) (k n : ℕ) → readOf p ≡ framed.Whole a k n → codecRead kind k (dataPart p) ≡ r
@@ -230,8 +249,8 @@ by-first Missing s p j y z f g = g
 by-spoken : (kind : Kind) (x : Spoken) (s : Session) (p : List ℕ) (j : Call) → understandOf kind p ≡ x → FoundAs s p j (findBy s p x)
 unfolding seekOf
 by-spoken kind (spoken.Command to c) s p j e =
-    by-first (tryCall s (earlyCall c) p .source) s p j _ _ (tried-gives s (earlyCall c) p (early-typed (isPlacing (roleOf c))) j)
-    (tried-gives s (lateCall to c) p (late-typed to c (roleOf c) (spoken-typed kind p to c e)) j)
+    by-first (tryCall s (earlyCall c) p .source) s p j _ _ (tried-gives s (earlyCall c) p (early-typed (isPlacing (roleOf c))) (early-unpaced (isPlacing (roleOf c))) j)
+    (tried-gives s (lateCall to c) p (late-typed to c (roleOf c) (spoken-typed kind p to c e)) (late-unpaced to c (roleOf c)) j)
 by-spoken kind spoken.Other s p j e = λ f. absurd (found-not (sym f))
 by-spoken kind (spoken.Refused why) s p j e = λ f. absurd (found-not (sym f))
 

@@ -22,17 +22,18 @@ use Rattle.command.specs.declared.Place.{Place}
 use Rattle.command.specs.declared.Reading.{Reading}
 use Rattle.command.specs.declared.Reading.the-variants as reading
 use Rattle.command.specs.declared.Role.{Role}
-use Rattle.command.specs.declared.Role.the-variants.{Plain, Places, Masks, Captures, Zeroes, Idles, Resets}
+use Rattle.command.specs.declared.Role.the-variants.{Plain, Places, Paces, Masks, Captures, Zeroes, Idles, Resets}
 use Rattle.command.specs.Role.{roleOf}
 use Rattle.codec.specs.Reading.{codecRead}
+use Rattle.node.specs.Effect.{divisorUp}
 use Rattle.session.specs.declared.Session.{Session}
 use Rattle.session.specs.declared.Step.{Step}
 use Rattle.session.specs.declared.End.the-variants as end
 use Rattle.session.specs.Session.{stepNumber}
 use Rattle.walk.specs.Walk.{nextOf, askOf}
-use Rattle.host.specs.Calls.{orderOf, regroupOf}
+use Rattle.host.specs.Calls.{orderOf, regroupOf, setBaudRateOf}
 use Rattle.calls.specs.declared.Call.{Call}
-use Rattle.calls.specs.declared.Call.the-variants.{Next, Ask, Order, Regroup}
+use Rattle.calls.specs.declared.Call.the-variants.{Next, Ask, Order, Regroup, SetBaudRate}
 use Rattle.calls.specs.declared.Spoken.{Spoken}
 use Rattle.calls.specs.declared.Spoken.the-variants as spoken
 use Rattle.calls.specs.declared.Sought.{Sought}
@@ -43,19 +44,22 @@ use Rattle.calls.specs.Finding.{missedOf, tryCall, earlyCall, lateCall, 
 
 -- ---- perform: as the one call
 
-module _ (k : Call) (s : Session) (out o : List ℕ) (r : Step) where
-  pub performs-next : k ≡ Next → Lending stepNumber r o (nextOf s out) → Lending stepNumber r o (callPerform k s out)
+module _ (k : Call) (s : Session) (at : ℕ) (out o : List ℕ) (r : Step) where
+  pub performs-next : k ≡ Next → Lending stepNumber r o (nextOf s at out) → Lending stepNumber r o (callPerform k s at out)
   performs-next e l = rw e l
 
-  pub performs-ask : k ≡ Ask → Lending stepNumber r o (askOf s out) → Lending stepNumber r o (callPerform k s out)
+  pub performs-ask : k ≡ Ask → Lending stepNumber r o (askOf s at out) → Lending stepNumber r o (callPerform k s at out)
   performs-ask e l = rw e l
 
-  pub performs-order : (to : Address) (c : Command) → k ≡ Order to c → Lending stepNumber r o (orderOf s to c out) → Lending stepNumber r o (callPerform k s out)
+  pub performs-order : (to : Address) (c : Command) → k ≡ Order to c → Lending stepNumber r o (orderOf s at to c out) → Lending stepNumber r o (callPerform k s at out)
   performs-order to c e l = rw e l
 
-  pub performs-regroup : (i : Individual) (g : Group) (leader : Bool) → k ≡ Regroup i g leader → Lending stepNumber r o (regroupOf s i g leader out)
-      → Lending stepNumber r o (callPerform k s out)
+  pub performs-regroup : (i : Individual) (g : Group) (leader : Bool) → k ≡ Regroup i g leader → Lending stepNumber r o (regroupOf s at i g leader out)
+      → Lending stepNumber r o (callPerform k s at out)
   performs-regroup i g leader e l = rw e l
+
+  pub performs-baud-rate : (g : Group) (d : ℕ) → k ≡ SetBaudRate g d → Lending stepNumber r o (setBaudRateOf s at g d out) → Lending stepNumber r o (callPerform k s at out)
+  performs-baud-rate g d e l = rw e l
 
 -- ---- understand
 
@@ -88,6 +92,9 @@ module _ (to : Address) (c : Command) (r : Role) (by : r ≡ roleOf c) where
   pub late-plain : r ≡ Plain → Order to c ≡ lateCall to c
   late-plain e = rw (← by, e)
 
+  pub late-paces : (d : ℕ) → r ≡ Paces d → Order to c ≡ lateCall to c
+  late-paces d e = rw (← by, e)
+
   pub late-masks : (m : ℕ) → r ≡ Masks m → Order to c ≡ lateCall to c
   late-masks m e = rw (← by, e)
 
@@ -105,7 +112,7 @@ module _ (to : Address) (c : Command) (r : Role) (by : r ≡ roleOf c) where
 
 -- ---- try_call, seek, find_as, find
 
-module _ (s : Session) (c : Call) (p o : List ℕ) (r : Step) (by : Lending stepNumber r o (callPerform c s (replicate 19 0))) where
+module _ (s : Session) (c : Call) (p o : List ℕ) (r : Step) (by : Lending stepNumber r o (callPerform c s divisorUp (replicate 19 0))) where
   pub tried-same : (n : ℕ) (d : List ℕ) (g : Bool) → r .end ≡ end.Sent n → d ≡ take n o → g ≡ isSame d p → g ≡ true
       → record { source = Found c; session = r .session } ≡ tryCall s c p
   unfolding tryCall

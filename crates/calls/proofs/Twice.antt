@@ -22,6 +22,7 @@ use Rattle.command.proofs.Roles.{only-reset}
 use Rattle.codec.specs.Reading.{codecRead, ReadsAs}
 use Rattle.codec.specs.Build.{packetFor}
 use Rattle.codec.proofs.Commands.{built-reads}
+use Rattle.node.specs.Effect.{divisorUp}
 use Rattle.session.specs.declared.Session.{Session}
 use Rattle.session.specs.declared.Step.{Step}
 use Rattle.session.specs.declared.End.{End}
@@ -69,10 +70,10 @@ sent-done n h = ap endNumber h
 sent-count : {n m : ℕ} → end.Sent n ≡ end.Sent m → n ≡ m
 sent-count e = cc
 
-abbrev pub went-by : {s : Session} {k : Call} {p : List ℕ} (g : Gives s k p) → CallWent k s (g .out)
-went-by {s} {k} g = call-went k s (g .out) (sent-done (g .count) (g .sent))
+abbrev pub went-by : {s : Session} {k : Call} {p : List ℕ} (g : Gives s k p) → CallWent k s divisorUp (g .out)
+went-by {s} {k} g = call-went k s divisorUp (g .out) (sent-done (g .count) (g .sent))
 
-module _ {s : Session} {k : Call} {p : List ℕ} (g : Gives s k p) (w : CallWent k s (g .out)) where
+module _ {s : Session} {k : Call} {p : List ℕ} (g : Gives s k p) (w : CallWent k s divisorUp (g .out)) where
   abbrev packet : List ℕ
   packet = packetFor (w .called) (w .command)
 
@@ -82,7 +83,7 @@ module _ {s : Session} {k : Call} {p : List ℕ} (g : Gives s k p) (w : CallWent
       let e : g .count ≡ length packet = sent-count (sym (g .sent) ∙ ap (λ (o : Outcome Step (List ℕ)). o .answer .end) (w .result)) in
       sym (g .bytes) ∙ ap (λ (o : Outcome Step (List ℕ)). take (g .count) (o .left)) (w .result) ∙ take-at packet (drop (length packet) (g .out)) (g .count) (sym e)
 
-  pub after-is : sessionAfter g ≡ openExchange s (w .to) (w .command)
+  pub after-is : sessionAfter g ≡ openExchange s divisorUp (w .to) (w .command)
   after-is = ap (λ (o : Outcome Step (List ℕ)). o .answer .session) (w .result)
 
   -- which reads back for a kind of node that has it
@@ -103,7 +104,7 @@ known-command e = cc
 one-address : {x y : Kind} {p : List ℕ} {a b : Address} {c d : Command} {n m : ℕ} → ReadsAs x p a c n → ReadsAs y p b d m → a ≡ b
 one-address r q = whole-parts (sym (r .whole) ∙ q .whole) .0
 
-one-command : {x : Kind} {p : List ℕ} {a b : Address} {c d : Command} {n m : ℕ} → ReadsAs x p a c n → ReadsAs x p b d m → c ≡ d
+pub one-command : {x : Kind} {p : List ℕ} {a b : Address} {c d : Command} {n m : ℕ} → ReadsAs x p a c n → ReadsAs x p b d m → c ≡ d
 one-command {x} {p} r q =
     known-command (sym (r .known) ∙ ap (λ (k : ℕ). codecRead x k (dataPart p)) (whole-parts (sym (r .whole) ∙ q .whole) .1) ∙ q .known)
 
@@ -116,19 +117,19 @@ own-waits : (kind : Kind) (c : Command) → has kind c ≡ false → isReset (ro
 own-waits kind c h = waits-by (isReset (roleOf c)) kind c h refl
 
 -- a free session that sends to a node or group is open still
-sent-open : (s : Session) (to : Address) (c : Command) → Free s → offChain (s .n) to ≡ false → isClosed (awaiting s to c) ≡ false
-sent-open s to c f e = open-is (awaiting s to c) (valid-from (awaiting s to c) (f .valid .few) (f .valid .walked) e) (f .started)
+sent-open : (s : Session) (to : Address) (c : Command) → Free s → offChain (s .n) to ≡ false → isClosed (awaiting s divisorUp to c) ≡ false
+sent-open s to c f e = open-is (awaiting s divisorUp to c) (valid-from (awaiting s divisorUp to c) (f .valid .few) (f .valid .walked) e) (f .started)
 
-module _ {s : Session} {j k : Call} {p : List ℕ} (g : Gives s j p) (h : Gives s k p) (w : CallWent j s (g .out)) (v : CallWent k s (h .out)) where
+module _ {s : Session} {j k : Call} {p : List ℕ} (g : Gives s j p) (h : Gives s k p) (w : CallWent j s divisorUp (g .out)) (v : CallWent k s divisorUp (h .out)) where
   -- one command
   alike-same : (kind : Kind) → has kind (w .command) ≡ true → has kind (v .command) ≡ true → Alike (sessionAfter g) (sessionAfter h)
   alike-same kind a b =
       let r = reads-back g w kind a in
       let q = reads-back h v kind b in
-      let e : sessionAfter g ≡ openExchange s (aboutOf s (w .called)) (w .command) = after-is g w ∙ ap (λ (x : Address). openExchange s x (w .command)) (w .about) in
-      let f : sessionAfter h ≡ openExchange s (aboutOf s (v .called)) (v .command) = after-is h v ∙ ap (λ (x : Address). openExchange s x (v .command)) (v .about) in
-      let i : openExchange s (aboutOf s (w .called)) (w .command) ≡ openExchange s (aboutOf s (v .called)) (v .command) =
-      ap (λ (x : Address). openExchange s (aboutOf s x) (w .command)) (one-address r q) ∙ ap (openExchange s (aboutOf s (v .called))) (one-command r q) in
+      let e : sessionAfter g ≡ openExchange s divisorUp (aboutOf s (w .called)) (w .command) = after-is g w ∙ ap (λ (x : Address). openExchange s divisorUp x (w .command)) (w .about) in
+      let f : sessionAfter h ≡ openExchange s divisorUp (aboutOf s (v .called)) (v .command) = after-is h v ∙ ap (λ (x : Address). openExchange s divisorUp x (v .command)) (v .about) in
+      let i : openExchange s divisorUp (aboutOf s (w .called)) (w .command) ≡ openExchange s divisorUp (aboutOf s (v .called)) (v .command) =
+      ap (λ (x : Address). openExchange s divisorUp (aboutOf s x) (w .command)) (one-address r q) ∙ ap (openExchange s divisorUp (aboutOf s (v .called))) (one-command r q) in
       subst (Alike (sessionAfter g)) (e ∙ i ∙ sym f) (same (sessionAfter g))
 
   -- two, each of which a kind lacks, where no node may be reached
@@ -136,11 +137,11 @@ module _ {s : Session} {j k : Call} {p : List ℕ} (g : Gives s j p) (h : Gives 
       → Alike (sessionAfter g) (sessionAfter h)
   alike-apart x y a b e u =
       let c = w .own x a in
-      let i : sessionAfter g ≡ awaiting s (w .called) (w .command) =
-      after-is g w ∙ ap (λ (z : Address). openExchange s z (w .command)) (c .0) ∙ opened-waits s (w .called) (w .command) (own-waits x (w .command) a) in
-      let j : sessionAfter h ≡ awaiting s (w .called) (v .command) =
-      after-is h v ∙ ap (λ (z : Address). openExchange s z (v .command)) (v .own y b .0 ∙ sym e) ∙ opened-waits s (w .called) (v .command) (own-waits y (v .command) b) in
-      rw (i, j) (unreached s (w .called) (w .command) (v .command) (sent-open s (w .called) (w .command) (w .free) (c .1 .node)) (c .1 .ended) u)
+      let i : sessionAfter g ≡ awaiting s divisorUp (w .called) (w .command) =
+      after-is g w ∙ ap (λ (z : Address). openExchange s divisorUp z (w .command)) (c .0) ∙ opened-waits s divisorUp (w .called) (w .command) (own-waits x (w .command) a) in
+      let j : sessionAfter h ≡ awaiting s divisorUp (w .called) (v .command) =
+      after-is h v ∙ ap (λ (z : Address). openExchange s divisorUp z (v .command)) (v .own y b .0 ∙ sym e) ∙ opened-waits s divisorUp (w .called) (v .command) (own-waits y (v .command) b) in
+      rw (i, j) (unreached s divisorUp (w .called) (w .command) (v .command) (sent-open s (w .called) (w .command) (w .free) (c .1 .node)) (c .1 .ended) u)
 
   -- the first is an LS-773's, the second not: an LS-173AP has both, or 17 refuses neither
   by-drive : (t : Bool) → has Drive (w .command) ≡ t → has Gate (w .command) ≡ true → has Gate (v .command) ≡ false → Alike (sessionAfter g) (sessionAfter h)
@@ -154,7 +155,7 @@ module _ {s : Session} {j k : Call} {p : List ℕ} (g : Gives s j p) (h : Gives 
 alike-back : {s t : Session} → Alike s t → Alike t s
 unfolding isClosed isValid
 alike-back (same s) = same s
-alike-back (unreached s to c d o e u) = unreached s to d c o e u
+alike-back (unreached s at to c d o e u) = unreached s at to d c o e u
 
 module _ {s : Session} {j k : Call} {p : List ℕ} (g : Gives s j p) (h : Gives s k p) where
   by-gates : (t u : Bool) → has Gate (went-by g .command) ≡ t → has Gate (went-by h .command) ≡ u → Alike (sessionAfter g) (sessionAfter h)

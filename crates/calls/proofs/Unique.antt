@@ -9,7 +9,7 @@ use Rattle.calls.proofs.find.Reads as find
 
 -- the result, and what the lent buffer holds
 pub call-perform-unique : (κs : _) (a : _) (r r′ : _) (s s′ : _) → perform.Post κs a r s → perform.Post κs a r′ s′
-    → (r ≡ r′) × (now (s .1 .1 .0) ≡ now (s′ .1 .1 .0))
+    → (r ≡ r′) × (now (s .1 .1 .1 .0) ≡ now (s′ .1 .1 .1 .0))
 call-perform-unique κs a r r′ s s′ p q = (p .answer ∙ sym (q .answer), p .leaves ∙ sym (q .leaves))
 
 pub spoken-number-unique : OneResult number.Post

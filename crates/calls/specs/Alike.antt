@@ -12,8 +12,8 @@ use Rattle.session.specs.declared.Session.{Session}
 use Rattle.session.specs.Session.{isClosed}
 
 -- a session that waits for the answer to this command
-abbrev pub awaiting : Session → Address → Command → Session
-awaiting s to c = record { started = s .started; n = s .n; walk = s .walk; exchange = Waiting to c; entries = s .entries }
+abbrev pub awaiting : Session → ℕ → Address → Command → Session
+awaiting s at to c = record { started = s .started; n = s .n; walk = s .walk; exchange = Waiting at to c; entries = s .entries }
 
 -- "node k; for a group, known members and nodes with place in doubt"
 abbrev pub doesReach : Address → ℕ → Entry → Bool
@@ -23,8 +23,8 @@ doesReach to k e = mayReach (reachOf to k e)
 abbrev pub isReaching : Session → Address → Bool
 isReaching s to = anyFrom (doesReach to) 1 (ledgerLeast (s .n)) (s .entries)
 
--- the same session; or ready ones that wait for two commands to one address, where no node may be reached
+-- the same session; or ready ones that wait for two commands sent alike to one address, where no node may be reached
 pub data Alike : Session → Session → Type 0 where
   same : (s : Session) → Alike s s
-  unreached : (s : Session) (to : Address) (c d : Command) → isClosed (awaiting s to c) ≡ false → s .walk ≡ s .n → isReaching s to ≡ false
-      → Alike (awaiting s to c) (awaiting s to d)
+  unreached : (s : Session) (at : ℕ) (to : Address) (c d : Command) → isClosed (awaiting s at to c) ≡ false → s .walk ≡ s .n → isReaching s to ≡ false
+      → Alike (awaiting s at to c) (awaiting s at to d)

@@ -12,6 +12,7 @@ use Rattle.command.specs.declared.Command.{Command}
 use Rattle.command.specs.declared.Role.{Role}
 use Rattle.command.specs.declared.Role.the-variants.{Plain, Places, Paces, Masks, Captures, Zeroes, Idles, Resets}
 use Rattle.command.specs.Role.{roleOf, isPlacing}
+use Rattle.node.specs.Effect.{divisorUp}
 use Rattle.session.specs.declared.Session.{Session}
 use Rattle.session.specs.declared.Step.{Step}
 use Rattle.session.specs.declared.End.{End}
@@ -40,18 +41,19 @@ soughtBy s c p after left (end.Refused why) = missedOf s
 abbrev pub soughtOf : Session → Call → List ℕ → Outcome Step (List ℕ) → Sought
 soughtOf s c p o = soughtBy s c p (o .answer .session) (o .left) (o .answer .end)
 
--- a call tried with room for the longest packet, "4 + 15" bytes
+-- a call tried at power-up's divisor, with room for the longest packet, "4 + 15" bytes
 unfoldable pub tryCall : Session → Call → List ℕ → Sought
-tryCall s c p = soughtOf s c p (callPerform c s (replicate 19 0))
+tryCall s c p = soughtOf s c p (callPerform c s divisorUp (replicate 19 0))
 
 -- the call of the walk that sends such a command
 abbrev pub earlyCall : Command → Call
 earlyCall c = cond (isPlacing (roleOf c)) Next Ask
 
--- the call of a ready session that sends this command to an address, by the command's role
+-- the call of a ready session that sends this command to an address, by the command's role; a Set Baud Rate is refused as an order, and so none gives it
 abbrev pub lateBy : Address → Command → Role → Call
 lateBy to c Plain = Order to c
 lateBy to c (Places p) = Regroup (p .address) (p .group) (p .leader)
+lateBy to c (Paces d) = Order to c
 lateBy to c (Masks m) = Order to c
 lateBy to c Captures = Order to c
 lateBy to c Zeroes = Order to c

@@ -1,10 +1,12 @@
 // The host's calls that send, as one type: made, and found again by the bytes that they put on the line.
 // Promised: a call that is made is the one of walk or host; the call found for some bytes gives them in that session with number 0, and where none is found none does.
+// Bytes are looked for as a recording has them: sent at the divisor of power-up, and by any call but Set Baud Rate.
 // The two kinds of node read some bytes as two commands: found is the one that the nodes it may reach have, and where it reaches nobody it makes no difference.
 // Left to others: what each call does (walk, host), and which bytes came after which (recording).
 use command::Command;
 use command::Reading;
 use command::Role;
+use node::Node;
 use packet::Framed;
 use session::End;
 use session::Session;
@@ -34,22 +36,29 @@ pub enum Call {
         group: Group,
         leader: bool,
     },
+    SetBaudRate {
+        group: Group,
+        divisor: u8,
+    },
 }
 
 impl Call {
-    // Makes the call: what `walk` or `host` makes of it.
-    pub fn perform(self, s: Session, out: &mut [u8]) -> Step
-        ensures { λ r. ⌜ Lending stepNumber r (now (out .exit)) (callPerform self s (now (out .entry))) ⌝ }
+    // Makes the call at a divisor: what `walk` or `host` makes of it.
+    pub fn perform(self, s: Session, at: u8, out: &mut [u8]) -> Step
+        ensures { λ r. ⌜ Lending stepNumber r (now (out .exit)) (callPerform self s at (now (out .entry))) ⌝ }
     {
         match self {
-            Call::Next => walk::next(s, out),
-            Call::Ask => walk::ask(s, out),
-            Call::Order { to, command } => host::order(s, to, command, out),
+            Call::Next => walk::next(s, at, out),
+            Call::Ask => walk::ask(s, at, out),
+            Call::Order { to, command } => host::order(s, at, to, command, out),
             Call::Regroup {
                 node,
                 group,
                 leader,
-            } => host::regroup(s, node, group, leader, out),
+            } => host::regroup(s, at, node, group, leader, out),
+            Call::SetBaudRate { group, divisor } => {
+                host::set_baud_rate(s, at, group, divisor, out)
+            }
         }
     }
 }
@@ -128,12 +137,12 @@ fn missed(s: Session) -> Sought
     }
 }
 
-// Whether a call, made in this session, gives these bytes. The longest packet has 19.
+// Whether a call, made in this session at the divisor of power-up, gives these bytes. The longest packet has 19.
 fn try_call(s: Session, call: Call, bytes: &[u8]) -> Sought
     ensures { λ r. ⌜ r ≡ tryCall s call (now (bytes .entry)) ⌝ }
 {
     let mut out = [0; 19];
-    let step = call.perform(s, &mut out);
+    let step = call.perform(s, Node::DIVISOR, &mut out);
     let end = step.end;
     let session = step.session;
     match end {
@@ -176,6 +185,8 @@ fn late_call(to: Address, c: Command) -> Call
             }
         }
         Role::Plain => Call::Order { to, command: c },
+        // No call that is looked for sends a Set Baud Rate: as an order it is refused.
+        Role::Paces(_) => Call::Order { to, command: c },
         Role::Masks(_) => Call::Order { to, command: c },
         Role::Captures => Call::Order { to, command: c },
         Role::Zeroes => Call::Order { to, command: c },

@@ -6,7 +6,7 @@ use Rattle.command.specs.declared.Command.{Command}
 use Rattle.command.specs.declared.Command.the-variants.{SetAddress, DefineStatus, ReadStatus, SetPwm, SynchOutput, SetOutputs, SetSynchOutput, SetTimerMode, SetBaudRate, SynchInput, Nop, HardReset, ResetPosition, LoadTrajectory, StartMotion, SetGain, StopMotor}
 use Rattle.command.specs.declared.Role.{Role}
 use Rattle.command.specs.declared.Role.the-variants.{Plain, Places, Paces, Masks, Captures, Zeroes, Idles, Resets}
-use Rattle.command.specs.Role.{roleOf, isPlacing, isReset}
+use Rattle.command.specs.Role.{roleOf, isPlacing, isNop, isReset}
 
 -- every role but Plain is that of one command
 abbrev Belongs : Role → Command → Type 0
@@ -70,3 +70,17 @@ places-belongs Resets c b h = absurd (false≢true h)
 -- only Set Address gives a place
 pub only-places : (c : Command) → isPlacing (roleOf c) ≡ true → PlacedBy c
 only-places c = places-belongs (roleOf c) c (belongs c)
+
+idles-belongs : (r : Role) (c : Command) → Belongs r c → isNop r ≡ true → c ≡ Nop
+idles-belongs Plain c b h = absurd (false≢true h)
+idles-belongs (Places p) c b h = absurd (false≢true h)
+idles-belongs (Paces d) c b h = absurd (false≢true h)
+idles-belongs (Masks m) c b h = absurd (false≢true h)
+idles-belongs Captures c b h = absurd (false≢true h)
+idles-belongs Zeroes c b h = absurd (false≢true h)
+idles-belongs Idles c b h = b
+idles-belongs Resets c b h = absurd (false≢true h)
+
+-- only Nop does nothing but be answered
+pub only-nop : (c : Command) → isNop (roleOf c) ≡ true → c ≡ Nop
+only-nop c = idles-belongs (roleOf c) c (belongs c)

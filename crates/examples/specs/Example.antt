@@ -19,7 +19,7 @@ use Rattle.codec.specs.Reading.{ReadsAs}
 use Rattle.codec.specs.Build.{codeOf, ownData, codecBuild}
 use Rattle.status.specs.declared.Answer.the-variants.{Silent}
 use Rattle.node.specs.declared.state.Settings.{Settings}
-use Rattle.node.specs.Effect.{settingsPowerUp}
+use Rattle.node.specs.Effect.{settingsPowerUp, divisorUp}
 use Rattle.entry.specs.declared.Known.{Known}
 use Rattle.entry.specs.declared.Entry.{Entry}
 use Rattle.entry.specs.Entry.{entryPowerUp}
@@ -44,12 +44,12 @@ pub data Event : Type 0 where
 abbrev pub buffer : List ℕ
 buffer = replicate 19 0
 
--- what an event makes of a session
+-- what an event makes of a session; every command goes at power-up's divisor
 abbrev pub stepOf : Event → Session → Step
-stepOf next s = nextOf s buffer .answer
-stepOf ask s = askOf s buffer .answer
-stepOf (order to c) s = orderOf s to c buffer .answer
-stepOf (regroup i g leader) s = regroupOf s i g leader buffer .answer
+stepOf next s = nextOf s divisorUp buffer .answer
+stepOf ask s = askOf s divisorUp buffer .answer
+stepOf (order to c) s = orderOf s divisorUp to c buffer .answer
+stepOf (regroup i g leader) s = regroupOf s divisorUp i g leader buffer .answer
 stepOf silence s = finishOf s Silent
 stepOf (reply bytes) s = reportOf s bytes
 
@@ -60,7 +60,7 @@ ran (e ∷ es) s = record { answer = stepNumber (stepOf e s) ∷ ran es (stepOf 
 
 -- a gate's settings known, but for outputs, PWM pair and held set as given
 abbrev pub knownBut : Bool → Bool → Bool → Known
-knownBut outputs pwm held = record { place = true; mask = true; gate = record { outputs = outputs; pwm = pwm; held = held; timer = true }; drive = entryPowerUp Gate .known .drive }
+knownBut outputs pwm held = record { place = true; mask = true; divisor = true; gate = record { outputs = outputs; pwm = pwm; held = held; timer = true }; drive = entryPowerUp Gate .known .drive }
 
 -- a node's settings: its place, its outputs; all else as power-up has it
 abbrev pub settingsWith : Place → ℕ → Settings
@@ -69,6 +69,7 @@ settingsWith written outputs = record {
   gate = record { outputs = outputs; held = settingsPowerUp .gate .held; pwm = settingsPowerUp .gate .pwm; timer = 0 };
   place = written;
   mask = 0;
+  divisor = divisorUp;
 }
 
 -- and its entry, with what is known
@@ -77,7 +78,7 @@ entryWith written outputs known = record { settings = settingsWith written outpu
 
 -- a node at power-up whose place, and nothing else, is in doubt
 abbrev pub placeInDoubt : Entry
-placeInDoubt = entryWith (settingsPowerUp .place) 0 (record { place = false; mask = true; gate = entryPowerUp Gate .known .gate; drive = entryPowerUp Gate .known .drive })
+placeInDoubt = entryWith (settingsPowerUp .place) 0 (record { place = false; mask = true; divisor = true; gate = entryPowerUp Gate .known .gate; drive = entryPowerUp Gate .known .drive })
 
 -- a node that was given its address and nothing else
 abbrev pub addressed : ℕ → Entry

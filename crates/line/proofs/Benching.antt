@@ -51,7 +51,7 @@ module _ (ns : List Node) (j : ℕ) (b : Bench) (p : ℕ) where
     kind = λ i l. kind-same i l (eqb j i) refl;
   }
 
-pub benched-exchange : {called : Address} {c : Command} {ls ns ms : List Node} {a : Answer} → Benched ns ms → Exchanged called c ls ns a → Exchanged called c ls ms a
+pub benched-exchange : {v : ℕ} {called : Address} {c : Command} {ls ns ms : List Node} {a : Answer} → Benched ns ms → Exchanged v called c ls ns a → Exchanged v called c ls ms a
 benched-exchange b x = record {
   did = x .did;
   acting = x .acting;

@@ -38,26 +38,26 @@ record Does (o : Outcome Delivery Lent) (ns : List Node) (s : Said) : Type 0 whe
   nodes : o .left .nodes ≡ ns
   says : saidIn (o .answer) (o .left .reply) ≡ s
 
-module _ (ns : List Node) (out : List ℕ) (room : T + 2 ≤ length out) where
-  does : (to : Address) (h : Messages) (s : Said) → said to h ns ≡ s → Does (onSaid s to h ns out) (after to h ns) s
+module _ (ns : List Node) (v : ℕ) (out : List ℕ) (room : T + 2 ≤ length out) where
+  does : (to : Address) (h : Messages) (s : Said) → said v to h ns ≡ s → Does (onSaid s v to h ns out) (after v to h ns) s
   unfolding written
   does to h silence e = record { nodes = refl; says = refl }
   does to h (reply r) e =
-      let p = said-says to h ns r e in
+      let p = said-says v to h ns r e in
       let m = messageTo (at ns (p .at) .kind) h in
       let n : length r ≤ T + 2 = omega (arith, ap length (p .bytes), reply-length m (at ns (p .at)), size-range (at ns (p .at) .kind) (maskFor m (at ns (p .at))) .1) in
       rw (le-ltb (length out) (length r) (omega arith)) (record { nodes = refl; says = ap reply (take-append-seam r (drop (length r) out)) })
   does to h collided e = record { nodes = refl; says = refl }
 
   -- where all nodes get the packet
-  does-frame : (f : Framed) (q : List ℕ) → Does (onFrame f q ns out) (parted (λ i. true) ns (takenBy f q ns)) (spokenBy (λ i. true) f q ns)
+  does-frame : (f : Framed) (q : List ℕ) → Does (onFrame v f q ns out) (parted (λ i. true) ns (takenBy v f q ns)) (spokenBy (λ i. true) v f q ns)
   unfolding deliveredTo
   does-frame (framed.Whole to k n) q =
-      rw (parted-all ns (after to (messagesAs k q) ns) (length-after to (messagesAs k q) ns), among-all to (messagesAs k q) ns)
-      (does to (messagesAs k q) (said to (messagesAs k q) ns) refl)
+      rw (parted-all ns (after v to (messagesAs to k q) ns) (length-after v to (messagesAs to k q) ns), among-all v to (messagesAs to k q) ns)
+      (does to (messagesAs to k q) (said v to (messagesAs to k q) ns) refl)
   does-frame (framed.Refused why) q = record { nodes = sym (parted-same (λ i. true) ns); says = refl }
 
-  pub delivers : 1 ≤ length ns → length ns ≤ 31 → ((i : ℕ) → i < length ns → isRanged (at ns i .settings .place) ≡ true) → (q : List ℕ) → Delivers ns q out
+  pub delivers : 1 ≤ length ns → length ns ≤ 31 → ((i : ℕ) → i < length ns → isRanged (at ns i .settings .place) ≡ true) → (q : List ℕ) → Delivers ns v q out
   unfolding deliverOf valid
   delivers least few f q =
       let d = does-frame (frameAlone q) q in

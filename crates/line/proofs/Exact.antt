@@ -9,7 +9,7 @@ use Rattle.wire.specs.declared.address.Address.the-variants as address
 use Rattle.command.specs.declared.Place.{Place}
 use Rattle.command.specs.declared.Command.{Command}
 use Rattle.command.specs.declared.Role.{Role}
-use Rattle.command.specs.declared.Role.the-variants.{Plain, Places, Masks, Captures, Zeroes, Idles, Resets}
+use Rattle.command.specs.declared.Role.the-variants.{Plain, Places, Paces, Masks, Captures, Zeroes, Idles, Resets}
 use Rattle.command.specs.Role.{roleOf}
 use Rattle.status.specs.declared.Answer.{Answer}
 use Rattle.status.specs.declared.Answer.the-variants.{Clear, Marked, Silent}
@@ -89,6 +89,7 @@ way (address.Group g) k e past x = way-group (g .0) e (lastPlace past k) (inDoub
 copies-by : (r : Role) → copied (placeEffect r) (λ t. true) ≡ false
 copies-by Plain = refl
 copies-by (Places p) = refl
+copies-by (Paces d) = refl
 copies-by (Masks m) = refl
 copies-by Captures = refl
 copies-by Zeroes = refl

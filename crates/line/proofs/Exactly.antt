@@ -1,6 +1,6 @@
 -- The host's whole record against what was sent and answered. It needs no premise about the line: it is the host's own.
 use Prim.Native.Nat.{ℕ, suc, _<_}
-use mathlib.Core.Bool.{false}
+use mathlib.Core.Bool.{true, false}
 use mathlib.Core.List.{List, _∷_}
 use mathlib.Core.Path.{_≡_, refl}
 use native.Mathlib.Omega.{arith}
@@ -17,10 +17,18 @@ use Rattle.entry.specs.Entry.{noteOf}
 use Rattle.entry.proofs.Entries.{quiet-noted}
 use Rattle.ledger.specs.Ledger.{reachOf}
 use Rattle.session.specs.declared.Session.{Session}
-use Rattle.line.specs.History.{Sending, sends, Counted, count}
+use Rattle.line.specs.History.{Sending, gives, asks, sends, Counted, countsAs}
 use Rattle.line.proofs.Exact.{Exact, isClear, Counts, Sendable, exact-step}
-use Rattle.line.proofs.Due.{Due, next, ask, order, regroup}
+use Rattle.line.proofs.Due.{Due, next, ask, order, regroup, paces}
 use Rattle.line.proofs.Closing.{entryAt, Concluded, settles, walkOn}
+
+-- what counts of a command and its answer, but for the divisor that a Nop tells (Telling)
+abbrev pub noted : Sending → Answer → List Counted → List Counted
+noted what Clear past = countsAs what true ∷ past
+noted what Marked past = past
+noted (gives k) Silent past = countsAs (gives k) false ∷ past
+noted (asks k) Silent past = past
+noted (sends to c) Silent past = countsAs (sends to c) false ∷ past
 
 abbrev pub Exactly : Session → List Counted → Type 0
 Exactly h past = (i : ℕ) → i < h .n → Exact (entryAt h i) past (suc i)
@@ -37,7 +45,7 @@ module _ (h t : Session) (past : List Counted) (x : Exactly h past) (to : Addres
       let m : i < h .n = omega (arith, k .nodes) in
       rw (k .entry i m, s i) (x i m)
 
-  answered : (a : Answer) → Sendable to c → Concluded h a to c w t → Exactly t (count (sends to c) a past)
+  answered : (a : Answer) → Sendable to c → Concluded h a to c w t → Exactly t (noted (sends to c) a past)
   answered Clear s k = counts Clear tt s k
   answered Marked s k = unsent Marked (λ i. refl) k
   answered Silent s k = counts Silent tt s k
@@ -48,12 +56,13 @@ sendable (address.Group g) c e = e
 
 pub exactly-step : {h : Session} {what : Sending} {called to : Address} {c : Command} → Due h what called to c
     → (t : Session) (past : List Counted) → Exactly h past → (a : Answer) → Concluded h a to (settles what a c) (walkOn what a (h .walk)) t
-    → Exactly t (count what a past)
+    → Exactly t (noted what a past)
 exactly-step {h} (next l n) t past x Clear k = counts h t past x _ _ _ Clear tt tt k
 exactly-step {h} (next l n) t past x Marked k = unsent h t past x _ _ _ Marked (λ i. refl) k
 exactly-step {h} (next l n) t past x Silent k = counts h t past x _ _ _ Silent tt tt k
 exactly-step {h} (ask l n) t past x Clear k = counts h t past x _ _ _ Clear tt tt k
 exactly-step {h} (ask l n) t past x Marked k = unsent h t past x _ _ _ Marked (λ i. refl) k
 exactly-step {h} {to = to} (ask l n) t past x Silent k = unsent h t past x to Nop _ Silent (λ i. quiet-noted Nop nop-writes Silent (reachOf to (suc i) (entryAt h i)) (entryAt h i)) k
-exactly-step {h} {to = to} {c = c} (order w o e y) t past x a k = answered h t past x to c (h .walk) a (sendable to c e) k
+exactly-step {h} {to = to} {c = c} (order w o e y z) t past x a k = answered h t past x to c (h .walk) a (sendable to c e) k
 exactly-step {h} {to = to} {c = c} (regroup w o f) t past x a k = answered h t past x to c (h .walk) a tt k
+exactly-step {h} {to = to} {c = c} (paces w f) t past x a k = answered h t past x to c (h .walk) a refl k

@@ -78,30 +78,30 @@ pub record Invariant (h : Session) (ns : List Node) : Type 0 where
   -- the kinds told are the nodes' own
   pub kinds : (i : ℕ) → i < h .n → entryAt h i .kind ≡ at ns i .kind
 
--- the node of index i acts on a command to this address, if it comes to it whole
-abbrev pub acts : Address → List Node → ℕ → Bool
-acts to ns i = hearsAt ns i && isMeant to (at ns i .settings .place)
+-- the node of index i acts on a command sent at divisor v to this address, if it comes to it whole
+abbrev pub acts : ℕ → Address → List Node → ℕ → Bool
+acts v to ns i = hearsAt v ns i && isMeant to (at ns i .settings .place)
 
 -- of two neighbours that are not addressed the second doesn't hear
-pub deaf : (ns : List Node) (i : ℕ) → at ns i .addressed ≡ false → at ns (suc i) .addressed ≡ false → hearsAt ns (suc i) ≡ false
-deaf ns i u v = rw (u, v) refl
+pub deaf : (v : ℕ) (ns : List Node) (i : ℕ) → at ns i .addressed ≡ false → at ns (suc i) .addressed ≡ false → hearsAt v ns (suc i) ≡ false
+deaf v ns i u w = rw (u, w) refl
 
 -- the node of index i replies to this address, and acted on the command
-pub record Answered (called : Address) (ns : List Node) (did : ℕ → Bool) : Type 0 where
+pub record Answered (v : ℕ) (called : Address) (ns : List Node) (did : ℕ → Bool) : Type 0 where
   pub index : ℕ
   pub inside : index < length ns
-  pub replies : repliesAt called ns index ≡ true
+  pub replies : repliesAt v called ns index ≡ true
   pub acted : did index ≡ true
 
 -- what the line and the nodes make of a command, from its sending to the report
-pub record Exchanged (called : Address) (c : Command) (ns ms : List Node) (a : Answer) : Type 0 where
+pub record Exchanged (v : ℕ) (called : Address) (c : Command) (ns ms : List Node) (a : Answer) : Type 0 where
   -- the command came whole to the node of index i, which acted on it
   pub did : ℕ → Bool
-  pub acting : (i : ℕ) → did i ≡ true → acts called ns i ≡ true
+  pub acting : (i : ℕ) → did i ≡ true → acts v called ns i ≡ true
   pub long : length ms ≡ length ns
   pub settings : (i : ℕ) → i < length ns → at ms i .settings ≡ cond (did i) (settingsAfter c (at ns i .settings)) (at ns i .settings)
   pub addressed : (i : ℕ) → i < length ns → at ms i .addressed ≡ cond (did i) (addressedAfter (roleOf c) (at ns i .addressed)) (at ns i .addressed)
   pub kind : (i : ℕ) → i < length ns → at ms i .kind ≡ at ns i .kind
   -- what the answer tells
   pub marked : a ≡ Marked → (i : ℕ) → did i ≡ false
-  pub clear : a ≡ Clear → Answered called ns did
+  pub clear : a ≡ Clear → Answered v called ns did

@@ -15,6 +15,7 @@ mod Ready
 mod Suits
 mod Walk
 mod Exchange
+mod Telling
 mod Benching
 pub mod Powering
 mod Course
@@ -23,5 +24,6 @@ pub mod Demand3
 mod Rounds
 mod Passes
 mod Rides
+mod Paces
 pub mod Courses
 pub mod Missed

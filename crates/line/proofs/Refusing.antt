@@ -26,8 +26,8 @@ refused-not-done t why e f = not-done why (sym (ap endNumber e) ∙ f)
 pub refused-power : (s : Session) (n : ℕ) (ks : List Kind) (why : Refusal) → startPowerUp s n ks .end ≡ Refused why → startPowerUp s n ks .session ≡ s
 refused-power s n ks why e = power-up-stays s n ks (refused-not-done (startPowerUp s n ks) why e)
 
-pub refused-call : (k : Call) (s : Session) (out : List ℕ) (why : Refusal) → callPerform k s out .answer .end ≡ Refused why → callPerform k s out .answer .session ≡ s
-refused-call k s out why e = call-stays k s out (refused-not-done (callPerform k s out .answer) why e)
+pub refused-call : (k : Call) (s : Session) (v : ℕ) (out : List ℕ) (why : Refusal) → callPerform k s v out .answer .end ≡ Refused why → callPerform k s v out .answer .session ≡ s
+refused-call k s v out why e = call-stays k s v out (refused-not-done (callPerform k s v out .answer) why e)
 
 pub refused-report : (s : Session) (r : Option (List ℕ)) (why : Refusal) → reportedOf s r .end ≡ Refused why → reportedOf s r .session ≡ s
 refused-report s none why e = finished-stays s Silent (refused-not-done (reportedOf s none) why e)

@@ -13,6 +13,7 @@ use Rattle.wire.specs.declared.kind.Kind.{Kind}
 use Rattle.wire.specs.declared.kind.Kind.the-variants.{Gate}
 use Rattle.command.specs.declared.Command.the-variants.{SetAddress, SetOutputs}
 use Rattle.codec.specs.Reading.{sharedRows, gateRows, driveRows, motionOf, codecRead}
+use Rattle.command.specs.Divisors.{isListed}
 use Rattle.codec.specs.Build.{buildFor, codecBuild}
 use Rattle.status.specs.Status.{counts, judgeOf}
 use Rattle.status.specs.declared.Answer.{Answer}
@@ -22,18 +23,19 @@ use Rattle.node.specs.Node.{actAs}
 use Rattle.reply.specs.Items.{replyItems}
 use Rattle.reply.specs.Reply.{replyOf}
 use Rattle.survey.specs.One.{doesAct, doesReply, turned}
-use Rattle.survey.specs.Chain.{zeros, reply, after}
+use Rattle.survey.specs.Chain.{zeros, Said, silence, reply, after}
 use Rattle.survey.specs.Delivery.{frameAlone}
+use Rattle.node.specs.Effect.{divisorUp}
 use Rattle.entry.specs.declared.Entry.{Entry}
 use Rattle.entry.specs.Entry.{entryPowerUp}
-use Rattle.ledger.specs.Ledger.{allGates, telling, ledgerPowerUp, ledgerLeast, eachFrom, settleOf}
+use Rattle.ledger.specs.Ledger.{allGates, telling, ledgerPowerUp, ledgerLeast, eachFrom, settleOf, anyFrom, isUnlisted, isOffList}
 use Rattle.session.specs.declared.Exchange.the-variants.{Idle, Waiting}
 use Rattle.session.specs.declared.Session.{Session}
 use Rattle.session.specs.Session.{isValid, isClosed, isAskDue, nodeAt, givenPlace}
 use Rattle.start.specs.Start.{startPowerUp}
-use Rattle.sending.specs.Sending.{isWaiting, freeCheck, openExchange, transmitOf}
+use Rattle.sending.specs.Sending.{isWaiting, testOf, openExchange, transmitOf}
 use Rattle.walk.specs.Walk.{nextCheck, nextOf}
-use Rattle.reports.specs.Report.{isGiving, isAsking, concludeOf, finishOf, reportOf}
+use Rattle.reports.specs.Report.{isGiving, isAsking, notedOf, concludeOf, finishOf, reportOf}
 use Rattle.calls.specs.declared.Call.{Call}
 use Rattle.calls.specs.declared.Call.the-variants.{Next}
 use Rattle.calls.specs.Calls.{TypedCall}
@@ -65,35 +67,43 @@ worldAt s ns l past = record { host = s; nodes = ns; line = l; past = past; up =
 abbrev pub good : List ℕ
 good = 0x00 ∷ 0x00 ∷ []
 
--- a call that puts the packet p on the line, the nodes that get it, whole; what the nodes are then, and what they say
-pub record Round (k : Call) (what : Sending) (p : List ℕ) (gets : ℕ → Bool) (s opened : Session) (ns ms : List Node) : Type 0 where
+-- a call at divisor v that puts the packet p on the line, the nodes that get it, whole; what the nodes are then, and what they say
+pub record Turn (k : Call) (what : Sending) (v : ℕ) (p : List ℕ) (gets : ℕ → Bool) (said : Said) (s opened : Session) (ns ms : List Node) : Type 0 where
   pub typed : TypedCall k
-  pub sends : (past : List Sent) → callMade k buffer (worldAt s ns quiet past) ≡ worldAt opened ns (going what p) past
-  pub nodes : nodesAfter (record { bytes = p; gets = gets }) ns ≡ ms
-  pub says : saidAfter (record { bytes = p; gets = gets }) ns ≡ reply good
+  pub sends : (past : List Sent) → callMade k v buffer (worldAt s ns quiet past) ≡ worldAt opened ns (going what v p) past
+  pub nodes : nodesAfter (record { at = v; bytes = p; gets = gets }) ns ≡ ms
+  pub says : saidAfter (record { at = v; bytes = p; gets = gets }) ns ≡ said
 
-pub record Reported (opened : Session) (r : Option (List ℕ)) (a : Answer) (t : Session) : Type 0 where
-  pub comes : Returns (reply good) r
+-- one at power-up's divisor, which a node replies to
+abbrev pub Round : Call → Sending → List ℕ → (ℕ → Bool) → Session → Session → List Node → List Node → Type 0
+Round k what p gets s opened ns ms = Turn k what divisorUp p gets (reply good) s opened ns ms
+
+pub record Reported (said : Said) (opened : Session) (r : Option (List ℕ)) (a : Answer) (t : Session) : Type 0 where
+  pub comes : Returns said r
   pub session : reportedOf opened r .session ≡ t
   pub answer : answerIn r ≡ a
 
-pub round : {k : Call} {what : Sending} {p : List ℕ} {gets : ℕ → Bool} {s opened t : Session} {ns ms : List Node} {r : Option (List ℕ)} {a : Answer} {past : List Sent}
-    → Comes (worldAt s ns quiet past) → Round k what p gets s opened ns ms → Reported opened r a t
-    → Comes (worldAt t ms quiet (record { what = what; answer = a } ∷ past))
-round {k} {what} {p} {gets} {r = r} {past = past} c x y =
+pub round : {k : Call} {what : Sending} {v : ℕ} {p : List ℕ} {gets : ℕ → Bool} {said : Said} {s opened t : Session} {ns ms : List Node} {r : Option (List ℕ)} {a : Answer} {past : List Sent}
+    → Comes (worldAt s ns quiet past) → Turn k what v p gets said s opened ns ms → Reported said opened r a t
+    → Comes (worldAt t ms quiet (record { what = what; at = v; answer = a } ∷ past))
+round {k} {what} {v} {p} {gets} {r = r} {past = past} c x y =
     rw (← (x .nodes), ← (y .session), ← (y .answer))
-    (report (deliver (rw (x .sends past) at (call c k (x .typed) buffer)) what p refl (record { bytes = p; gets = gets }) r line.Arrives.whole (rw (x .says) (y .comes))) what r refl)
+    (report (deliver (rw (x .sends past) at (call c k (x .typed) v buffer)) what v p refl (record { at = v; bytes = p; gets = gets }) r line.Arrives.whole (rw (x .says) (y .comes))) what v r refl)
 
 -- what comes back: the reply, or nothing
 judged-good : judgeOf good ≡ Clear
 unfolding judgeOf endsInSum total
 judged-good = refl
 
-pub replied : {opened t : Session} → reportedOf opened (some good) .session ≡ t → Reported opened (some good) Clear t
+pub replied : {opened t : Session} → reportedOf opened (some good) .session ≡ t → Reported (reply good) opened (some good) Clear t
 replied e = record { comes = line.Returns.whole; session = e; answer = judged-good }
 
-pub unheard : {opened t : Session} → reportedOf opened none .session ≡ t → Reported opened none Silent t
+pub unheard : {opened t : Session} → reportedOf opened none .session ≡ t → Reported (reply good) opened none Silent t
 unheard e = record { comes = line.Returns.lost line.absent; session = e; answer = refl }
+
+-- nobody replies
+pub unanswered : {opened t : Session} → reportedOf opened none .session ≡ t → Reported silence opened none Silent t
+unanswered e = record { comes = line.Returns.quietly line.absent; session = e; answer = refl }
 
 -- two gates power up, and the host is told so
 abbrev pub gates : List Kind
@@ -117,24 +127,24 @@ abbrev pub given : ℕ → List ℕ
 given k = 0xAA ∷ 0x00 ∷ 0x21 ∷ k ∷ 0xFF ∷ (k + 0x20) ∷ []
 
 abbrev pub opened1 : Session
-opened1 = pair 0 (Waiting (nodeAt 1) (SetAddress (givenPlace 1))) gateUp gateUp rest
+opened1 = pair 0 (Waiting divisorUp (nodeAt 1) (SetAddress (givenPlace 1))) gateUp gateUp rest
 
 pub next-1 : Round Next (gives 1) (given 1) (λ i. true) (pair 0 Idle gateUp gateUp rest) opened1 (up ∷ up ∷ []) (placed 1 0 ∷ up ∷ [])
-unfolding nextOf nextCheck freeCheck isClosed isValid isWaiting isAskDue transmitOf openExchange codecBuild buildFor written total
+unfolding nextOf nextCheck anyFrom ledgerLeast isListed isUnlisted isOffList testOf isClosed isValid isWaiting isAskDue transmitOf openExchange codecBuild buildFor written total
     frameOf frameAlone dataPart isIntact endsInSum codecRead sharedRows gateRows driveRows motionOf after turned doesAct doesReply replyOf replyItems counts
 next-1 = record { typed = tt; sends = λ past. refl; nodes = refl; says = refl }
 
-first : Comes (worldAt (pair 1 Idle (addressed 1) gateUp rest) (placed 1 0 ∷ up ∷ []) quiet (record { what = gives 1; answer = Clear } ∷ []))
-unfolding reportOf finishOf isClosed isValid concludeOf isGiving isAsking settleOf eachFrom ledgerLeast judgeOf endsInSum total
+first : Comes (worldAt (pair 1 Idle (addressed 1) gateUp rest) (placed 1 0 ∷ up ∷ []) quiet (record { what = gives 1; at = divisorUp; answer = Clear } ∷ []))
+unfolding reportOf finishOf isClosed isValid notedOf concludeOf isGiving isAsking settleOf eachFrom ledgerLeast judgeOf endsInSum total
 first = round powers next-1 (replied refl)
 
 next-2 : Round Next (gives 2) (given 2) (λ i. true) (pair 1 Idle (addressed 1) gateUp rest)
-    (pair 1 (Waiting (nodeAt 2) (SetAddress (givenPlace 2))) (addressed 1) gateUp rest) (placed 1 0 ∷ up ∷ []) (placed 1 0 ∷ placed 2 0 ∷ [])
-unfolding nextOf nextCheck freeCheck isClosed isValid isWaiting isAskDue transmitOf openExchange codecBuild buildFor written total
+    (pair 1 (Waiting divisorUp (nodeAt 2) (SetAddress (givenPlace 2))) (addressed 1) gateUp rest) (placed 1 0 ∷ up ∷ []) (placed 1 0 ∷ placed 2 0 ∷ [])
+unfolding nextOf nextCheck anyFrom ledgerLeast isListed isUnlisted isOffList testOf isClosed isValid isWaiting isAskDue transmitOf openExchange codecBuild buildFor written total
     frameOf frameAlone dataPart isIntact endsInSum codecRead sharedRows gateRows driveRows motionOf after turned doesAct doesReply replyOf replyItems counts
 next-2 = record { typed = tt; sends = λ past. refl; nodes = refl; says = refl }
 
 -- the walk, each step of it replied to
 pub walks : Comes (worldAt (pair 2 Idle (addressed 1) (addressed 2) rest) (placed 1 0 ∷ placed 2 0 ∷ []) quiet walked)
-unfolding reportOf finishOf isClosed isValid concludeOf isGiving isAsking settleOf eachFrom ledgerLeast judgeOf endsInSum total
+unfolding reportOf finishOf isClosed isValid notedOf concludeOf isGiving isAsking settleOf eachFrom ledgerLeast judgeOf endsInSum total
 walks = round first next-2 (replied refl)

@@ -22,7 +22,7 @@ use Rattle.line.proofs.Closing.{entryAt, Concluded}
 use Rattle.line.proofs.Sound.{Sound, Fits, told, noted-sound}
 use Rattle.line.proofs.Invariant.{at, PlacedAt, UnplacedAt, EdgeAt, leads, Alone, Invariant, Exchanged}
 
-module _ (h : Session) (ns ms : List Node) (inv : Invariant h ns) (called : Address) (c : Command) (a : Answer) (x : Exchanged called c ns ms a) where
+module _ (h : Session) (ns ms : List Node) (inv : Invariant h ns) (v : ℕ) (called : Address) (c : Command) (a : Answer) (x : Exchanged v called c ns ms a) where
   -- what is known is held, also afterwards: whom the host counts as missed has not acted, whom it counts as reached has, if the answer is clear
   pub held-step : (to : Address) (i : ℕ) → i < h .n → Fits (reachOf to (suc i) (entryAt h i)) (x .did i)
       → (a ≡ Clear → reachOf to (suc i) (entryAt h i) ≡ Hits → x .did i ≡ true)

@@ -40,7 +40,7 @@ abbrev given : Session → Command
 given h = SetAddress (givenPlace (h .walk + 1))
 
 -- nothing was learnt and nothing changed
-module _ (h t : Session) (ns ms : List Node) (inv : Invariant h ns) (called to : Address) (c : Command) (a : Answer) (x : Exchanged called c ns ms a)
+module _ (h t : Session) (ns ms : List Node) (inv : Invariant h ns) (v : ℕ) (called to : Address) (c : Command) (a : Answer) (x : Exchanged v called c ns ms a)
     (k : Concluded h a to c (h .walk) t)
     (learnt : (i : ℕ) → noteOf a (reachOf to (suc i) (entryAt h i)) c (entryAt h i) ≡ entryAt h i)
     (settings : (i : ℕ) → i < h .n → at ms i .settings ≡ at ns i .settings)
@@ -48,7 +48,7 @@ module _ (h t : Session) (ns ms : List Node) (inv : Invariant h ns) (called to :
   still-step : fitsOf c ≡ true → Invariant t ms
   still-step fits =
       let w = inv .walked in
-      stepped h ns ms inv called c a x t to c (h .walk) k fits w
+      stepped h ns ms inv v called c a x t to c (h .walk) k fits w
       (λ i l. rw (learnt i, settings i l) (inv .held i l))
       (λ i l. rw (settings i (omega arith), addressed i (omega arith)) (inv .front i l))
       (λ i l m. rw (settings i m, addressed i m) (inv .back i l m))
@@ -62,28 +62,28 @@ module _ (h : Session) (ns : List Node) (inv : Invariant h ns) (l : h .walk < h 
   unplaced i m p false e = let d = eqb-false (h .walk) i e in inv .back i (omega arith) p
 
   -- it is the last that hears
-  last : (i : ℕ) → h .walk < i → i < h .n → hearsAt ns i ≡ false
-  last zero m p = absurd (omega arith)
-  last (suc j) m p =
-      deaf ns j (unplaced j (omega arith) (omega arith) (eqb (h .walk) j) refl .0) (unplaced (suc j) (omega arith) p (eqb (h .walk) (suc j)) refl .0)
+  last : (v i : ℕ) → h .walk < i → i < h .n → hearsAt v ns i ≡ false
+  last v zero m p = absurd (omega arith)
+  last v (suc j) m p =
+      deaf v ns j (unplaced j (omega arith) (omega arith) (eqb (h .walk) j) refl .0) (unplaced (suc j) (omega arith) p (eqb (h .walk) (suc j)) refl .0)
 
   -- so nobody else acts on "next": those before it have their addresses
-  only : (i : ℕ) → i < h .n → acts (nodeAt addressUp) ns i ≡ true → h .walk ≡ i
-  only i p e = go (ltb i (h .walk)) (eqb (h .walk) i) refl refl
+  only : (v i : ℕ) → i < h .n → acts v (nodeAt addressUp) ns i ≡ true → h .walk ≡ i
+  only v i p e = go (ltb i (h .walk)) (eqb (h .walk) i) refl refl
     where
-      hears-and-meant : (hearsAt ns i ≡ true) × (isMeant (nodeAt addressUp) (at ns i .settings .place) ≡ true)
-      hears-and-meant = both (hearsAt ns i) (isMeant (nodeAt addressUp) (at ns i .settings .place)) e
+      hears-and-meant : (hearsAt v ns i ≡ true) × (isMeant (nodeAt addressUp) (at ns i .settings .place) ≡ true)
+      hears-and-meant = both (hearsAt v ns i) (isMeant (nodeAt addressUp) (at ns i .settings .place)) e
 
       go : (b c : Bool) → ltb i (h .walk) ≡ b → eqb (h .walk) i ≡ c → h .walk ≡ i
       go true c f k = absurd (omega (arith, inv .front i (ltb-true i (h .walk) f) .1, eqb-true 0 (at ns i .settings .place .address .0) (hears-and-meant .1)))
       go false true f k = eqb-true (h .walk) i k
       go false false f k =
           let d = eqb-false (h .walk) i k in
-          absurd (false≢true (sym (last i (omega (arith, ltb-false i (h .walk) f)) p) ∙ hears-and-meant .0))
+          absurd (false≢true (sym (last v i (omega (arith, ltb-false i (h .walk) f)) p) ∙ hears-and-meant .0))
 
-  module _ (ms : List Node) (t : Session) (a : Answer) (x : Exchanged (nodeAt addressUp) (given h) ns ms a) where
+  module _ (ms : List Node) (t : Session) (a : Answer) (v : ℕ) (x : Exchanged v (nodeAt addressUp) (given h) ns ms a) where
     at-walk : (i : ℕ) → i < h .n → x .did i ≡ true → h .walk ≡ i
-    at-walk i p e = only i p (x .acting i e)
+    at-walk i p e = only v i p (x .acting i e)
 
     -- every other node is as it was
     undone : (i : ℕ) → i < h .n → (h .walk ≡ i → ⊥) → x .did i ≡ false
@@ -112,11 +112,11 @@ module _ (h : Session) (ns : List Node) (inv : Invariant h ns) (l : h .walk < h 
 
     -- nobody comes to lead
     alone-next : Alone (h .n) ms
-    alone-next = shrinks h ns ms inv (nodeAt addressUp) (given h) a x (λ g i e. absurd (false≢true e))
+    alone-next = shrinks h ns ms inv v (nodeAt addressUp) (given h) a x (λ g i e. absurd (false≢true e))
 
     held-next : (i : ℕ) → i < h .n → Sound (noteOf a (reachOf (nodeAt (h .walk + 1)) (suc i) (entryAt h i)) (given h) (entryAt h i)) (at ms i .settings)
     held-next i p =
-        held-step h ns ms inv (nodeAt addressUp) (given h) a x (nodeAt (h .walk + 1)) i p
+        held-step h ns ms inv v (nodeAt addressUp) (given h) a x (nodeAt (h .walk + 1)) i p
         (fits-test (eqb (h .walk + 1) (suc i)) (x .did i) (λ e. eq-eqb (h .walk + 1) (suc i) (omega (arith, at-walk i p e))))
         (λ e r. let j : i ≡ h .walk = omega (arith, eqb-true (h .walk + 1) (suc i) (hits-test (eqb (h .walk + 1) (suc i)) r)) in ap (x .did) j ∙ did-walk e)
 
@@ -131,7 +131,7 @@ module _ (h : Session) (ns : List Node) (inv : Invariant h ns) (l : h .walk < h 
 
     next-clear : a ≡ Clear → fitsOf (given h) ≡ true → Concluded h a (nodeAt (h .walk + 1)) (given h) (h .walk + 1) t → Invariant t ms
     next-clear e fits k =
-        stepped h ns ms inv (nodeAt addressUp) (given h) a x t (nodeAt (h .walk + 1)) (given h) (h .walk + 1) k fits (omega arith) held-next
+        stepped h ns ms inv v (nodeAt addressUp) (given h) a x t (nodeAt (h .walk + 1)) (given h) (h .walk + 1) k fits (omega arith) held-next
         (λ i p. front-next e i p (eqb (h .walk) i) refl)
         (λ i p q. rw (settings-other i q (λ z. omega arith), addressed-other i q (λ z. omega arith)) (inv .back i (omega arith) q))
         (λ p. inl (rw (settings-other (h .walk + 1) p (λ z. omega arith), addressed-other (h .walk + 1) p (λ z. omega arith)) (inv .back (h .walk + 1) (omega arith) p)))
@@ -139,7 +139,7 @@ module _ (h : Session) (ns : List Node) (inv : Invariant h ns) (l : h .walk < h 
 
     next-marked : a ≡ Marked → fitsOf (given h) ≡ true → Concluded h a (nodeAt (h .walk + 1)) (given h) (h .walk) t → Invariant t ms
     next-marked e fits k =
-        still-step h t ns ms inv (nodeAt addressUp) (nodeAt (h .walk + 1)) (given h) a x k (λ i. rw e refl)
+        still-step h t ns ms inv v (nodeAt addressUp) (nodeAt (h .walk + 1)) (given h) a x k (λ i. rw e refl)
         (λ i p. rw (x .settings i (omega (arith, inv .long)), x .marked e i) refl) (λ i p. rw (x .addressed i (omega (arith, inv .long)), x .marked e i) refl) fits
 
     -- unconfirmed: it may have it, and the host is in doubt
@@ -149,7 +149,7 @@ module _ (h : Session) (ns : List Node) (inv : Invariant h ns) (l : h .walk < h 
 
     next-silent : a ≡ Silent → fitsOf (given h) ≡ true → Concluded h a (nodeAt (h .walk + 1)) (given h) (h .walk) t → Invariant t ms
     next-silent e fits k =
-        stepped h ns ms inv (nodeAt addressUp) (given h) a x t (nodeAt (h .walk + 1)) (given h) (h .walk) k fits (inv .walked) held-next
+        stepped h ns ms inv v (nodeAt addressUp) (given h) a x t (nodeAt (h .walk + 1)) (given h) (h .walk) k fits (inv .walked) held-next
         (λ i p. rw (settings-other i (omega arith) (λ z. omega arith), addressed-other i (omega arith) (λ z. omega arith)) (inv .front i p))
         (λ i p q. rw (settings-other i q (λ z. omega arith), addressed-other i q (λ z. omega arith)) (inv .back i p q))
         (λ p. rw (e, eq-eqb (h .walk + 1) (suc (h .walk)) (omega arith)) (edge-if (x .did (h .walk)) refl))
@@ -161,37 +161,37 @@ not-come e x b n (inl u) k = u
 not-come e x b n (inr p) k = absurd (false≢true (sym (p .0) ∙ k))
 
 pub next-step : (h t : Session) (ns ms : List Node) (inv : Invariant h ns) → (l : h .walk < h .n) → knows (entryAt h (h .walk)) place ≡ true
-    → (a : Answer) → Exchanged (nodeAt addressUp) (given h) ns ms a → fitsOf (given h) ≡ true
+    → (a : Answer) (v : ℕ) → Exchanged v (nodeAt addressUp) (given h) ns ms a → fitsOf (given h) ≡ true
     → Concluded h a (nodeAt (h .walk + 1)) (given h) (walkOn (gives (h .walk + 1)) a (h .walk)) t → Invariant t ms
-next-step h t ns ms inv l known a x fits k = go a x k
+next-step h t ns ms inv l known a v x fits k = go a x k
   where
     u : UnplacedAt ns (h .walk)
     u = not-come (entryAt h (h .walk)) (at ns (h .walk) .settings) (at ns (h .walk) .addressed) (h .walk + 1) (inv .edge l) known
 
-    go : (a : Answer) → Exchanged (nodeAt addressUp) (given h) ns ms a
+    go : (a : Answer) → Exchanged v (nodeAt addressUp) (given h) ns ms a
         → Concluded h a (nodeAt (h .walk + 1)) (given h) (walkOn (gives (h .walk + 1)) a (h .walk)) t → Invariant t ms
-    go Clear x k = next-clear h ns inv l u ms t Clear x refl fits k
-    go Marked x k = next-marked h ns inv l u ms t Marked x refl fits k
-    go Silent x k = next-silent h ns inv l u ms t Silent x refl fits k
+    go Clear x k = next-clear h ns inv l u ms t Clear v x refl fits k
+    go Marked x k = next-marked h ns inv l u ms t Marked v x refl fits k
+    go Silent x k = next-silent h ns inv l u ms t Silent v x refl fits k
 
 -- ---- "ask"
 
 -- before the node that the walk is at has its new address nobody has it, and so nobody answers
 pub nobody-answers : (h : Session) (ns : List Node) (inv : Invariant h ns) → h .walk < h .n → UnplacedAt ns (h .walk)
-    → {did : ℕ → Bool} → Answered (nodeAt (h .walk + 1)) ns did → ⊥
-nobody-answers h ns inv l u o = go (ltb (o .index) (h .walk)) refl
+    → {v : ℕ} {did : ℕ → Bool} → Answered v (nodeAt (h .walk + 1)) ns did → ⊥
+nobody-answers h ns inv l u {v} o = go (ltb (o .index) (h .walk)) refl
   where
     inside : o .index < h .n
     inside = omega (arith, o .inside, inv .long)
 
     at-it : h .walk + 1 ≡ at ns (o .index) .settings .place .address .0
-    at-it = eqb-true (h .walk + 1) _ (both (hearsAt ns (o .index)) (isAnswering (nodeAt (h .walk + 1)) (at ns (o .index) .settings .place)) (o .replies) .1)
+    at-it = eqb-true (h .walk + 1) _ (both (hearsAt v ns (o .index)) (isAnswering (nodeAt (h .walk + 1)) (at ns (o .index) .settings .place)) (o .replies) .1)
 
     go : (b : Bool) → ltb (o .index) (h .walk) ≡ b → ⊥
     go true f = let q = ltb-true (o .index) (h .walk) f in omega (arith, at-it, inv .front (o .index) q .1)
     go false f = let q = ltb-false (o .index) (h .walk) f in omega (arith, at-it, unplaced h ns inv l u (o .index) q inside (eqb (h .walk) (o .index)) refl .1)
 
-module _ (h t : Session) (ns ms : List Node) (inv : Invariant h ns) (l : h .walk < h .n) (a : Answer) (x : Exchanged (nodeAt (h .walk + 1)) Nop ns ms a) where
+module _ (h t : Session) (ns ms : List Node) (inv : Invariant h ns) (l : h .walk < h .n) (a : Answer) (v : ℕ) (x : Exchanged v (nodeAt (h .walk + 1)) Nop ns ms a) where
   settings-ask : (i : ℕ) → i < h .n → at ms i .settings ≡ at ns i .settings
   settings-ask i p = x .settings i (omega (arith, inv .long)) ∙ same (x .did i) (at ns i .settings)
 
@@ -229,7 +229,7 @@ module _ (h t : Session) (ns ms : List Node) (inv : Invariant h ns) (l : h .walk
 
     ask-clear : a ≡ Clear → Concluded h a (nodeAt (h .walk + 1)) (given h) (h .walk + 1) t → Invariant t ms
     ask-clear e k =
-        stepped h ns ms inv (nodeAt (h .walk + 1)) Nop a x t (nodeAt (h .walk + 1)) (given h) (h .walk + 1) k refl (omega arith)
+        stepped h ns ms inv v (nodeAt (h .walk + 1)) Nop a x t (nodeAt (h .walk + 1)) (given h) (h .walk + 1) k refl (omega arith)
         (rw e held-found)
         (λ i p. rw (settings-ask i (omega arith), addressed-ask i (omega arith)) (front-found i p (eqb (h .walk) i) refl))
         (λ i p q. rw (settings-ask i q, addressed-ask i q) (inv .back i (omega arith) q))
@@ -238,11 +238,11 @@ module _ (h t : Session) (ns ms : List Node) (inv : Invariant h ns) (l : h .walk
 
   ask-still : ((i : ℕ) → noteOf a (reachOf (nodeAt (h .walk + 1)) (suc i) (entryAt h i)) Nop (entryAt h i) ≡ entryAt h i)
       → Concluded h a (nodeAt (h .walk + 1)) Nop (h .walk) t → Invariant t ms
-  ask-still learnt k = still-step h t ns ms inv (nodeAt (h .walk + 1)) (nodeAt (h .walk + 1)) Nop a x k learnt settings-ask addressed-ask refl
+  ask-still learnt k = still-step h t ns ms inv v (nodeAt (h .walk + 1)) (nodeAt (h .walk + 1)) Nop a x k learnt settings-ask addressed-ask refl
 
-pub ask-step : (h t : Session) (ns ms : List Node) (inv : Invariant h ns) → h .walk < h .n → (a : Answer) → Exchanged (nodeAt (h .walk + 1)) Nop ns ms a
+pub ask-step : (h t : Session) (ns ms : List Node) (inv : Invariant h ns) → h .walk < h .n → (a : Answer) (v : ℕ) → Exchanged v (nodeAt (h .walk + 1)) Nop ns ms a
     → Concluded h a (nodeAt (h .walk + 1)) (settles (asks (h .walk + 1)) a Nop) (walkOn (asks (h .walk + 1)) a (h .walk)) t → Invariant t ms
-ask-step h t ns ms inv l Clear x k = ask-clear h t ns ms inv l Clear x (found h t ns ms inv l Clear x refl (inv .edge l)) refl k
-ask-step h t ns ms inv l Marked x k = ask-still h t ns ms inv l Marked x (λ i. refl) k
-ask-step h t ns ms inv l Silent x k =
-    ask-still h t ns ms inv l Silent x (λ i. quiet-noted Nop nop-writes Silent (reachOf (nodeAt (h .walk + 1)) (suc i) (entryAt h i)) (entryAt h i)) k
+ask-step h t ns ms inv l Clear v x k = ask-clear h t ns ms inv l Clear v x (found h t ns ms inv l Clear v x refl (inv .edge l)) refl k
+ask-step h t ns ms inv l Marked v x k = ask-still h t ns ms inv l Marked v x (λ i. refl) k
+ask-step h t ns ms inv l Silent v x k =
+    ask-still h t ns ms inv l Silent v x (λ i. quiet-noted Nop nop-writes Silent (reachOf (nodeAt (h .walk + 1)) (suc i) (entryAt h i)) (entryAt h i)) k

@@ -1,12 +1,13 @@
 -- Demand 3, and what else the premises give.
 use Prim.Native.Nat.{ℕ, _+_, _-_, _≤_}
-use mathlib.Core.Bool.{true, false}
+use mathlib.Core.Bool.{Bool, true, false}
 use mathlib.Core.List.{List}
 use mathlib.Core.Logic.{_↔_}
 use mathlib.Core.Path.{_≡_}
 use lib.ListN.{length, getD, take}
 use Rattle.wire.specs.declared.address.Group.{Group}
 use Rattle.wire.specs.declared.address.Address.the-variants as address
+use Rattle.command.specs.declared.Command.the-variants.{SetBaudRate}
 use Rattle.status.specs.Status.{T}
 use Rattle.node.specs.declared.state.Node.{Node}
 use Rattle.node.specs.Setting.{Setting, get}
@@ -18,7 +19,7 @@ use Rattle.survey.specs.Delivery.{valid, deliverOf}
 use Rattle.entry.specs.Entry.{knows, shows}
 use Rattle.session.specs.declared.Exchange.the-variants.{Idle}
 use Rattle.session.specs.Session.{entryOf}
-use Rattle.line.specs.History.{counted, Doubtful}
+use Rattle.line.specs.History.{Sending, sends, counted, Doubtful}
 use Rattle.line.specs.Line.{OnItsWay, Arrival, toAll, Arrives, nodesAfter, saidAfter}
 use Rattle.line.specs.World.{World, Comes}
 
@@ -48,7 +49,13 @@ OneLeader = (w : World) → Comes w → w .up ≡ true → (g : Group) (j k : �
 
 -- so no two nodes reply at once to a packet sent in that time, whatever becomes of it on its way and whichever nodes get it
 abbrev pub NoCollision : Type 0
-NoCollision = (w : World) → Comes w → w .up ≡ true → (p : List ℕ) → OnItsWay p (w .line) → (q : Arrival) → Arrives p q → saidAfter q (w .nodes) ≡ collided → ⊥
+NoCollision = (w : World) → Comes w → w .up ≡ true → (what : Sending) (at : ℕ) (p : List ℕ) → OnItsWay what at p (w .line) → (q : Arrival) → Arrives at p q
+    → saidAfter q (w .nodes) ≡ collided → ⊥
+
+-- document 02, request 7: "A leader would reply as ever, but 19 leaves none, so nobody replies to it intact": a Set Baud Rate that comes whole, whichever nodes get it
+abbrev pub Unanswered : Type 0
+Unanswered = (w : World) → Comes w → w .up ≡ true → (g : Group) (d at : ℕ) (p : List ℕ) → OnItsWay (sends (address.Group g) (SetBaudRate d)) at p (w .line)
+    → (gets : ℕ → Bool) → saidAfter (record { at = at; bytes = p; gets = gets }) (w .nodes) ≡ silence
 
 -- what a delivery to a table says on the line
 abbrev pub saidIn : Delivery → List ℕ → Said
@@ -58,10 +65,10 @@ saidIn Collision left = collided
 saidIn (Refused why) left = silence
 
 -- the chain's call over these nodes, with room for a reply, isn't refused for the table, and does to nodes and line what is said of the list where all nodes get the packet
-pub record Delivers (ns : List Node) (q out : List ℕ) : Type 0 where
+pub record Delivers (ns : List Node) (at : ℕ) (q out : List ℕ) : Type 0 where
   pub taken : valid ns ≡ true
-  pub nodes : deliverOf ns q out .left .nodes ≡ nodesAfter (toAll q) ns
-  pub says : saidIn (deliverOf ns q out .answer) (deliverOf ns q out .left .reply) ≡ saidAfter (toAll q) ns
+  pub nodes : deliverOf ns at q out .left .nodes ≡ nodesAfter (toAll at q) ns
+  pub says : saidIn (deliverOf ns at q out .answer) (deliverOf ns at q out .left .reply) ≡ saidAfter (toAll at q) ns
 
 abbrev pub ByCall : Type 0
-ByCall = (w : World) → Comes w → w .up ≡ true → (q out : List ℕ) → T + 2 ≤ length out → Delivers (w .nodes) q out
+ByCall = (w : World) → Comes w → w .up ≡ true → (at : ℕ) (q out : List ℕ) → T + 2 ≤ length out → Delivers (w .nodes) at q out

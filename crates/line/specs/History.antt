@@ -1,4 +1,4 @@
--- Demand 3, with document 02, request 4: when a setting is in doubt, said over what was sent and answered since power-up. The host's record is not looked at.
+-- Demand 3, with document 02, requests 4 and 7: when a setting is in doubt, said over what was sent and answered since power-up. The host's record is not looked at.
 use Prim.Native.Nat.{ℕ}
 use mathlib.Core.Bool.{Bool, true, false, cond, not, _&&_, _||_}
 use mathlib.Core.List.{List, [], _∷_}
@@ -9,7 +9,8 @@ use Rattle.wire.specs.declared.address.Address.{Address}
 use Rattle.wire.specs.declared.address.Address.the-variants as address
 use Rattle.command.specs.declared.Place.{Place}
 use Rattle.command.specs.declared.Command.{Command}
-use Rattle.command.specs.declared.Command.the-variants.{SetAddress}
+use Rattle.command.specs.declared.Command.the-variants.{SetAddress, SetBaudRate}
+use Rattle.command.specs.Role.{roleOf, isNop}
 use Rattle.status.specs.declared.Answer.{Answer}
 use Rattle.status.specs.declared.Answer.the-variants.{Clear, Marked, Silent}
 use Rattle.node.specs.Setting.{Setting, place}
@@ -22,9 +23,10 @@ pub data Sending : Type 0 where
   asks : ℕ → Sending
   sends : Address → Command → Sending
 
--- and what it was answered
+-- at which divisor, and what it was answered
 pub record Sent : Type 0 where
   pub what : Sending
+  pub at : ℕ
   pub answer : Answer
 
 -- a command that counts, and whether a good clear reply came to it
@@ -39,19 +41,31 @@ countsAs (gives k) b = record { to = nodeAt k; command = SetAddress (givenPlace 
 countsAs (asks k) b = record { to = nodeAt k; command = SetAddress (givenPlace k); clear = b }
 countsAs (sends to c) b = record { to = to; command = c; clear = b }
 
+-- node k heard at a divisor: as a Set Baud Rate of it, confirmed there
+abbrev pub tells : ℕ → ℕ → Counted
+tells k at = record { to = nodeAt k; command = SetBaudRate at; clear = true }
+
+-- "a Nop to a node at a divisor, with a good clear reply, makes it known, and demand 3 counts it as confirming": the Nop is then the last command that could have written
+-- the node's divisor, with the one that it was sent at. An "ask" is such a Nop; a Nop to a group is none
+abbrev pub learnt : Sending → ℕ → List Counted → List Counted
+learnt (gives k) at past = past
+learnt (asks k) at past = tells k at ∷ past
+learnt (sends (address.Individual i) c) at past = cond (isNop (roleOf c)) (tells (i .0) at ∷ past) past
+learnt (sends (address.Group g) c) at past = past
+
 -- a good clear reply confirms, an "ask"'s "confirms that Set Address"; "A reply with the checksum bit set makes its command count as unsent";
 -- silence leaves a command unconfirmed, and an "ask" tells nothing by it
-abbrev pub count : Sending → Answer → List Counted → List Counted
-count what Clear past = countsAs what true ∷ past
-count what Marked past = past
-count (gives k) Silent past = countsAs (gives k) false ∷ past
-count (asks k) Silent past = past
-count (sends to c) Silent past = countsAs (sends to c) false ∷ past
+abbrev pub count : Sending → ℕ → Answer → List Counted → List Counted
+count what at Clear past = learnt what at (countsAs what true ∷ past)
+count what at Marked past = past
+count (gives k) at Silent past = countsAs (gives k) false ∷ past
+count (asks k) at Silent past = past
+count (sends to c) at Silent past = countsAs (sends to c) false ∷ past
 
 -- the commands that count, the newest first
 abbrev pub counted : List Sent → List Counted
 counted [] = []
-counted (x ∷ past) = count (x .what) (x .answer) (counted past)
+counted (x ∷ past) = count (x .what) (x .at) (x .answer) (counted past)
 
 -- a command to node k
 abbrev pub toNode : Address → ℕ → Bool
@@ -77,7 +91,7 @@ copied (stores v) doubt = false
 copied (copies t f) doubt = doubt t
 
 -- "Who may be written: node k for an individual command and for the walk's Set Address that gives k; for a group, nodes known to be in it
--- and every node whose place is in doubt"; p is the place that node k was last given, `lost`: it is in doubt
+-- and every node whose place is in doubt"; document 02, request 7: "A command at a divisor not known to be the node's stays 'could have written'", so no divisor is asked for; p is the place that node k was last given, `lost`: it is in doubt
 abbrev pub goes : Address → ℕ → Bool → Place → Bool
 goes (address.Individual i) k lost p = eqb (i .0) k
 goes (address.Group g) k lost p = lost || eqb (p .group .0) (g .0)

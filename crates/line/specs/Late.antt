@@ -20,7 +20,8 @@ pub record Late : Type 0 where
   pub world : World
   pub comes : Comes world
   pub packet : List ℕ
-  pub sent : world .line ≡ going (gives 1) packet
+  pub divisor : ℕ
+  pub sent : world .line ≡ going (gives 1) divisor packet
   pub devices : List Device
   pub kinds : List Kind
   pub told : Told kinds devices
@@ -28,4 +29,4 @@ pub record Late : Type 0 where
   -- the place of node 1 is known; were the packet to arrive now, the node would hold another
   pub known : knows (entryOf (startPowerUp (world .host) (length devices) kinds .session) 1) place ≡ true
   pub differs : shows (entryOf (startPowerUp (world .host) (length devices) kinds .session) 1) place
-      ≡ get (nodeOf (nodesAfter (toAll packet) (map poweredUp devices)) 1 .settings) place → ⊥
+      ≡ get (nodeOf (nodesAfter (toAll divisor packet) (map poweredUp devices)) 1 .settings) place → ⊥

@@ -1,4 +1,4 @@
--- Demand 3's line, with document 02, request 4: what comes to the nodes, what they make of it, what comes back. Nobody else sends on it.
+-- Demand 3's line, with document 02, requests 4 and 7: what comes to the nodes, what they make of it, what comes back. Nobody else sends on it.
 use Prim.Native.Nat.{ℕ, zero, suc}
 use mathlib.Core.Bool.{Bool, true, cond}
 use mathlib.Core.List.{List, [], _∷_}
@@ -21,37 +21,39 @@ use Rattle.session.specs.declared.Step.{Step}
 use Rattle.reports.specs.Report.{finishOf, reportOf}
 use Rattle.line.specs.History.{Sending}
 
--- what is on the line: nothing; a packet on its way to the nodes; what came of it on its way back, some bytes or nothing; a packet still on its way when its exchange was closed as silence
+-- what is on the line: nothing; a packet, sent at a divisor, on its way to the nodes; what came of it on its way back, some bytes or nothing;
+-- a packet still on its way when its exchange was closed as silence
 pub data Line : Type 0 where
   quiet : Line
-  going : Sending → List ℕ → Line
-  coming : Sending → Option (List ℕ) → Line
-  lingering : List ℕ → Line
+  going : Sending → ℕ → List ℕ → Line
+  coming : Sending → ℕ → Option (List ℕ) → Line
+  lingering : Sending → ℕ → List ℕ → Line
 
 -- the packet p is on its way to the nodes, whether its exchange is still open or not
-pub data OnItsWay (p : List ℕ) : Line → Type 0 where
-  awaited : {what : Sending} → OnItsWay p (going what p)
-  overdue : OnItsWay p (lingering p)
+pub data OnItsWay (what : Sending) (at : ℕ) (p : List ℕ) : Line → Type 0 where
+  awaited : OnItsWay what at p (going what at p)
+  overdue : OnItsWay what at p (lingering what at p)
 
--- what comes to the nodes of a packet: bytes, and the nodes, by index, that get them
+-- what comes to the nodes of a packet: bytes at a divisor, and the nodes, by index, that get them
 pub record Arrival : Type 0 where
+  pub at : ℕ
   pub bytes : List ℕ
   pub gets : ℕ → Bool
 
 -- they come to all nodes, as on the bench
-abbrev pub toAll : List ℕ → Arrival
-toAll q = record { bytes = q; gets = λ i. true }
+abbrev pub toAll : ℕ → List ℕ → Arrival
+toAll at q = record { at = at; bytes = q; gets = λ i. true }
 
 -- "each separately hears a whole command or misses it; a changed command is still changed alike for those that hear it":
 -- one byte other than header and command byte is changed; "not at all": nobody gets it
-pub data Arrives (p : List ℕ) : Arrival → Type 0 where
-  whole : {gets : ℕ → Bool} → Arrives p (record { bytes = p; gets = gets })
-  damaged : {q : List ℕ} {gets : ℕ → Bool} → Damaged p q → Arrives p (record { bytes = q; gets = gets })
+pub data Arrives (at : ℕ) (p : List ℕ) : Arrival → Type 0 where
+  whole : {gets : ℕ → Bool} → Arrives at p (record { at = at; bytes = p; gets = gets })
+  damaged : {q : List ℕ} {gets : ℕ → Bool} → Damaged p q → Arrives at p (record { at = at; bytes = q; gets = gets })
 
 -- the nodes after the bytes q, as the chain delivers them
-abbrev pub takenBy : Framed → List ℕ → List Node → List Node
-takenBy (framed.Whole to k n) q ns = after to (messagesAs k q) ns
-takenBy (framed.Refused why) q ns = ns
+abbrev pub takenBy : ℕ → Framed → List ℕ → List Node → List Node
+takenBy at (framed.Whole to k n) q ns = after at to (messagesAs to k q) ns
+takenBy at (framed.Refused why) q ns = ns
 
 -- a node that gets them is as in the second list, one that misses them as in the first
 abbrev pub parted : (ℕ → Bool) → List Node → List Node → List Node
@@ -61,7 +63,7 @@ parted gets (n ∷ ns) (m ∷ ms) = cond (gets zero) m n ∷ parted (λ i. gets 
 
 -- the nodes after an arrival
 abbrev pub nodesAfter : Arrival → List Node → List Node
-nodesAfter q ns = parted (q .gets) ns (takenBy (frameAlone (q .bytes)) (q .bytes) ns)
+nodesAfter q ns = parted (q .gets) ns (takenBy (q .at) (frameAlone (q .bytes)) (q .bytes) ns)
 
 -- of the nodes that would reply, by index, those that get the packet
 abbrev pub getting : (ℕ → Bool) → List ℕ → List ℕ
@@ -69,17 +71,17 @@ getting gets [] = []
 getting gets (i ∷ is) = cond (gets i) (i ∷ getting gets is) (getting gets is)
 
 -- what is said: as on the chain, by these alone
-abbrev pub saidAmong : (ℕ → Bool) → Address → Messages → List Node → Said
-saidAmong gets to m ns = cond (isAnswered (m .gate)) (saidBy m ns (searchOf (getting gets (repliersFrom to 0 true ns)))) silence
+abbrev pub saidAmong : (ℕ → Bool) → ℕ → Address → Messages → List Node → Said
+saidAmong gets at to m ns = cond (isAnswered (m .gate)) (saidBy m ns (searchOf (getting gets (repliersFrom at to 0 true ns)))) silence
 
 -- by whoever gets the bytes q
-abbrev pub spokenBy : (ℕ → Bool) → Framed → List ℕ → List Node → Said
-spokenBy gets (framed.Whole to k n) q ns = saidAmong gets to (messagesAs k q) ns
-spokenBy gets (framed.Refused why) q ns = silence
+abbrev pub spokenBy : (ℕ → Bool) → ℕ → Framed → List ℕ → List Node → Said
+spokenBy gets at (framed.Whole to k n) q ns = saidAmong gets at to (messagesAs to k q) ns
+spokenBy gets at (framed.Refused why) q ns = silence
 
 -- what the nodes say to an arrival
 abbrev pub saidAfter : Arrival → List Node → Said
-saidAfter q ns = spokenBy (q .gets) (frameAlone (q .bytes)) (q .bytes) ns
+saidAfter q ns = spokenBy (q .gets) (q .at) (frameAlone (q .bytes)) (q .bytes) ns
 
 -- nothing came: silence is reported, or no bytes
 pub data Nothing : Option (List ℕ) → Type 0 where

@@ -31,10 +31,10 @@ pub record Left (n m : Node) : Type 0 where
 
 -- no call but "ask" sends; and whatever becomes of an "ask" and of the reply to it, the session is afterwards as it was, the node's settings too, and it is still not addressed
 pub record Stuck (w : World) : Type 0 where
-  pub alone : (c : Call) (out : List ℕ) (n : ℕ) → callPerform c (w .host) out .answer .end ≡ Sent n → c ≡ Ask
-  pub same : (out : List ℕ) (n : ℕ) → callPerform Ask (w .host) out .answer .end ≡ Sent n → (q : Arrival) (r : Option (List ℕ))
-      → Arrives (take n (callPerform Ask (w .host) out .left)) q → Returns (saidAfter q (w .nodes)) r
-      → (reportedOf (callPerform Ask (w .host) out .answer .session) r .session ≡ w .host) × Left (nodeOf (w .nodes) (w .host .walk + 1)) (nodeOf (nodesAfter q (w .nodes)) (w .host .walk + 1))
+  pub alone : (c : Call) (at : ℕ) (out : List ℕ) (n : ℕ) → callPerform c (w .host) at out .answer .end ≡ Sent n → c ≡ Ask
+  pub same : (at : ℕ) (out : List ℕ) (n : ℕ) → callPerform Ask (w .host) at out .answer .end ≡ Sent n → (q : Arrival) (r : Option (List ℕ))
+      → Arrives at (take n (callPerform Ask (w .host) at out .left)) q → Returns (saidAfter q (w .nodes)) r
+      → (reportedOf (callPerform Ask (w .host) at out .answer .session) r .session ≡ w .host) × Left (nodeOf (w .nodes) (w .host .walk + 1)) (nodeOf (nodesAfter q (w .nodes)) (w .host .walk + 1))
 
 abbrev pub OnlyPowerUp : Type 0
 OnlyPowerUp = (w : World) → Comes w → w .up ≡ true → w .host .exchange ≡ Idle → Missed w → Stuck w

@@ -1,4 +1,4 @@
--- Demand 3's course of events, with document 02, requests 4 and 6: whatever can come about under its premises.
+-- Demand 3's course of events, with document 02, requests 4, 6 and 7: whatever can come about under its premises.
 use Prim.Native.Nat.{ℕ, _<_}
 use mathlib.Core.Bool.{Bool, true, false, cond}
 use mathlib.Core.List.{List, [], _∷_, map}
@@ -56,37 +56,38 @@ abbrev pub powered : List Device → Session → World
 powered ds s = record { host = s; nodes = map poweredUp ds; line = quiet; past = []; up = true }
 
 -- a call that sends puts the first n bytes of its buffer on the line; any other leaves the line as it is
-abbrev pub callEnded : End → Call → Session → List ℕ → World → World
-callEnded (Sent n) c s left w =
-    record { host = s; nodes = w .nodes; line = going (whatOf c (take n left)) (take n left); past = w .past; up = cond (resets c) false (w .up) }
-callEnded Done c s left w = hosting s w
-callEnded (Refused why) c s left w = hosting s w
+abbrev pub callEnded : End → Call → ℕ → Session → List ℕ → World → World
+callEnded (Sent n) c at s left w =
+    record { host = s; nodes = w .nodes; line = going (whatOf c (take n left)) at (take n left); past = w .past; up = cond (resets c) false (w .up) }
+callEnded Done c at s left w = hosting s w
+callEnded (Refused why) c at s left w = hosting s w
 
--- a call was made, with this buffer lent
-abbrev pub callMade : Call → List ℕ → World → World
-callMade c out w = callEnded (callPerform c (w .host) out .answer .end) c (callPerform c (w .host) out .answer .session) (callPerform c (w .host) out .left) w
+-- a call was made, at this divisor and with this buffer lent
+abbrev pub callMade : Call → ℕ → List ℕ → World → World
+callMade c at out w =
+    callEnded (callPerform c (w .host) at out .answer .end) c at (callPerform c (w .host) at out .answer .session) (callPerform c (w .host) at out .left) w
 
 -- the packet came as q, and r comes back
-abbrev pub delivered : Arrival → Sending → Option (List ℕ) → World → World
-delivered q what r w = record { host = w .host; nodes = nodesAfter q (w .nodes); line = coming what r; past = w .past; up = w .up }
+abbrev pub delivered : Arrival → Sending → ℕ → Option (List ℕ) → World → World
+delivered q what at r w = record { host = w .host; nodes = nodesAfter q (w .nodes); line = coming what at r; past = w .past; up = w .up }
 
 -- what came was reported
-abbrev pub reported : Sending → Option (List ℕ) → World → World
-reported what r w = record {
+abbrev pub reported : Sending → ℕ → Option (List ℕ) → World → World
+reported what at r w = record {
   host = reportedOf (w .host) r .session;
   nodes = w .nodes;
   line = quiet;
-  past = record { what = what; answer = answerIn r } ∷ w .past;
+  past = record { what = what; at = at; answer = answerIn r } ∷ w .past;
   up = w .up;
 }
 
 -- silence was reported, while the packet is still on its way
-abbrev pub hurried : Sending → List ℕ → Option (List ℕ) → World → World
-hurried what p r w = record {
+abbrev pub hurried : Sending → ℕ → List ℕ → Option (List ℕ) → World → World
+hurried what at p r w = record {
   host = reportedOf (w .host) r .session;
   nodes = w .nodes;
-  line = lingering p;
-  past = record { what = what; answer = answerIn r } ∷ w .past;
+  line = lingering what at p;
+  past = record { what = what; at = at; answer = answerIn r } ∷ w .past;
   up = w .up;
 }
 
@@ -107,16 +108,16 @@ pub data Comes : World → Type 0 where
   -- a power-up that is refused
   unpowered : {w : World} → Comes w → (n : ℕ) (ks : List Kind) (why : Refusal) → startPowerUp (w .host) n ks .end ≡ Refused why
       → Comes (hosting (startPowerUp (w .host) n ks .session) w)
-  -- a call, accepted or refused, with any buffer, at any time
-  call : {w : World} → Comes w → (c : Call) → TypedCall c → (out : List ℕ) → Comes (callMade c out w)
+  -- a call, accepted or refused, at any divisor, with any buffer, at any time
+  call : {w : World} → Comes w → (c : Call) → TypedCall c → (at : ℕ) (out : List ℕ) → Comes (callMade c at out w)
   -- its packet comes to all nodes, to some or to none, and what those say comes back
-  deliver : {w : World} → Comes w → (what : Sending) (p : List ℕ) → w .line ≡ going what p
-      → (q : Arrival) (r : Option (List ℕ)) → Arrives p q → Returns (saidAfter q (w .nodes)) r → Comes (delivered q what r w)
+  deliver : {w : World} → Comes w → (what : Sending) (at : ℕ) (p : List ℕ) → w .line ≡ going what at p
+      → (q : Arrival) (r : Option (List ℕ)) → Arrives at p q → Returns (saidAfter q (w .nodes)) r → Comes (delivered q what at r w)
   -- what came is reported as it came
-  report : {w : World} → Comes w → (what : Sending) (r : Option (List ℕ)) → w .line ≡ coming what r → Comes (reported what r w)
+  report : {w : World} → Comes w → (what : Sending) (at : ℕ) (r : Option (List ℕ)) → w .line ≡ coming what at r → Comes (reported what at r w)
   -- silence is reported before the packet has come to the nodes; it comes before the next command is sent, or not at all
-  hurry : {w : World} → Comes w → (what : Sending) (p : List ℕ) → w .line ≡ going what p → (r : Option (List ℕ)) → Nothing r → Comes (hurried what p r w)
-  delay : {w : World} → Comes w → (p : List ℕ) → w .line ≡ lingering p → (q : Arrival) → Arrives p q → Comes (delayed q w)
+  hurry : {w : World} → Comes w → (what : Sending) (at : ℕ) (p : List ℕ) → w .line ≡ going what at p → (r : Option (List ℕ)) → Nothing r → Comes (hurried what at p r w)
+  delay : {w : World} → Comes w → (what : Sending) (at : ℕ) (p : List ℕ) → w .line ≡ lingering what at p → (q : Arrival) → Arrives at p q → Comes (delayed q w)
   -- a report that is refused: "a reply nobody waits for"
   stray : {w : World} → Comes w → (r : Option (List ℕ)) (why : Refusal) → reportedOf (w .host) r .end ≡ Refused why → Comes (hosting (reportedOf (w .host) r .session) w)
   -- the bench sets the values of a node, at any time

@@ -6,7 +6,11 @@ use mathlib.Core.List.{List, [], _∷_}
 use mathlib.Core.Path.{_≡_, refl, sym, ap, subst, _∙_}
 use Rattle.wire.proofs.Impossible.{impossible}
 use Rattle.wire.proofs.Numbers.{not-done}
+use Rattle.wire.specs.declared.address.Address.{Address}
+use Rattle.wire.specs.declared.kind.Kind.the-variants.{Gate}
 use Rattle.wire.specs.declared.refusal.Refusal.the-variants as refusal
+use Rattle.command.specs.declared.Command.the-variants.{SetBaudRate}
+use Rattle.codec.specs.Reading.{ReadsAs}
 use Rattle.session.specs.declared.Exchange.{Exchange}
 use Rattle.session.specs.declared.Exchange.the-variants.{Idle, Waiting}
 use Rattle.session.specs.declared.Session.{Session}
@@ -25,6 +29,7 @@ use Rattle.calls.specs.declared.Source.{Source}
 use Rattle.calls.specs.declared.Source.the-variants.{Found, Missing}
 use Rattle.calls.specs.Calls.{Gives, Unsendable}
 use Rattle.calls.specs.Finding.{bySource, findOf}
+use Rattle.calls.proofs.Rates.{rate-unsendable}
 use Rattle.calls.proofs.Finding.{Made, found-gives, missing-unsendable}
 use Rattle.capture.specs.Steps.{Recorded, sent, got}
 use Rattle.capture.specs.declared.Cursor.{Cursor}
@@ -63,6 +68,15 @@ module _ (s : Session) (p : List ℕ) (next : Cursor) where
       let f = foreign-missing (findOf (quietOf s) p .source) (quietOf s) (findOf (quietOf s) p .session) e in
       missing-unsendable (quietOf s) p (f .0) k g
 
+  -- "In a recording it ends the walk": so does a Set Baud Rate, to any address
+  pub rate-ends : (a : Address) (v n : ℕ) → ReadsAs Gate p a (SetBaudRate v) n → takeCommand s p next .event ≡ event.Foreign
+  unfolding takeCommand
+  rate-ends a v n r = go (findOf (quietOf s) p .source) refl
+    where
+      go : (x : Source) → findOf (quietOf s) p .source ≡ x → commandBy x next (quietOf s) (findOf (quietOf s) p .session) .event ≡ event.Foreign
+      go (Found k) e = absurd (rate-unsendable (quietOf s) p a v n r k (found-gives (quietOf s) p k e .gives))
+      go Missing e = refl
+
   unawaited-by : (x : End) (t : Session) → replyBy x next t .event ≡ event.Unawaited → (endNumber x ≡ done → ⊥) × (replyBy x next t .stage .session ≡ t)
   unawaited-by end.Done t e = impossible cc
   unawaited-by (end.Sent n) t e = impossible cc
@@ -85,7 +99,7 @@ closed-free t e = rw e
 
 finished-free : (x : Exchange) (s : Session) → s .exchange ≡ x → isWaiting (finishBy x s Silent .session) ≡ false
 finished-free Idle s e = idle-free s e
-finished-free (Waiting to c) s e = idle-free _ (concluded-idle s to c Silent)
+finished-free (Waiting at to c) s e = idle-free _ (concluded-idle s at to c Silent)
 
 quiet-by : (b : Bool) (s : Session) → isClosed s ≡ b → isWaiting (cond b (refuseOf s refusal.Idle) (finishBy (s .exchange) s Silent) .session) ≡ false
 quiet-by true s e = closed-free s e

@@ -42,7 +42,7 @@ either-session : (b : Bool) (x y : Session) → (b ≡ true → Valid x) → (b 
 either-session true x y p q = p refl
 either-session false x y p q = q refl
 
-noted-valid : (s : Session) (to : Address) (c : Command) (a : Answer) → Valid s → Valid (notedOf s to c a)
+pub noted-valid : (s : Session) (to : Address) (c : Command) (a : Answer) → Valid s → Valid (notedOf s to c a)
 unfolding notedOf
 noted-valid s to c Marked h = idle-valid s (s .walk) (s .entries) h (valid-says s (h .valid) .walked) refl
 noted-valid s to c Silent h = idle-valid s (s .walk) _ h (valid-says s (h .valid) .walked) (length-settled Silent to c (s .n) (s .entries))

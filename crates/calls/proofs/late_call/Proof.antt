@@ -1,6 +1,6 @@
 -- One law for each role.
 use borrow.Author.Needs.{needs}
-use Rattle.calls.proofs.Sorting.{late-place, late-plain, late-masks, late-captures, late-zeroes, late-idles, late-resets}
+use Rattle.calls.proofs.Sorting.{late-place, late-plain, late-paces, late-masks, late-captures, late-zeroes, late-idles, late-resets}
 use Rattle.calls.proofs.late_call.Statement.{statement}
 use Rattle.calls.proofs.late_call.Tie as tie
 
@@ -16,8 +16,10 @@ late-call-spec =
     (λ c. search needs)
     (λ c. search needs)
     (λ c. search needs)
+    (λ c. search needs)
     (λ c. search late-place)
     (λ c. search late-plain)
+    (λ c. search late-paces)
     (λ c. search late-masks)
     (λ c. search late-captures)
     (λ c. search late-zeroes)

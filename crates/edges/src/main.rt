@@ -1,6 +1,6 @@
 // Edges: calls that no line of `trials` can make, since its forms have no such arguments.
 // One line a call: what was tried and its two arguments; then the paper's number, how many bytes the answer speaks of, and the lent buffer, which held 55 before.
-// It has 5 bytes: a Nop has room there, a Set Address has not, so that 6 is seen to come before 5.
+// It has 5 bytes: a Nop and a Set Baud Rate have room there, a Set Address has not, so that 6 is seen to come before 5.
 use buffer::Built;
 use command::Command;
 use command::Motion;
@@ -8,6 +8,7 @@ use command::Place;
 use command::Stop;
 use hex::Parsed;
 use libc::STDOUT_FILENO;
+use node::Node;
 use session::End;
 use session::Session;
 use wire::Address;
@@ -46,9 +47,17 @@ fn session(n: u8, walk: u8) -> Session {
     s
 }
 
-fn set_address(address: u8, group: u8) -> Command {
+// An address of kind 0, individual, or 1, group.
+fn address(kind: u8, number: u8) -> Address {
+    if kind < 1 {
+        return Address::Individual(Individual(number));
+    }
+    Address::Group(Group(number))
+}
+
+fn set_address(number: u8, group: u8) -> Command {
     Command::SetAddress(Place {
-        address: Individual(address),
+        address: Individual(number),
         group: Group(group),
         leader: true,
     })
@@ -62,65 +71,100 @@ fn length(b: Built) -> usize {
     }
 }
 
-// A Set Address to a node, ordered from a session of two nodes.
-fn order(walk: u8, node: u8) {
+// A command of a session of two nodes, which no other call sends.
+fn order(what: &[u8], a: u8, b: u8, walk: u8, at: u8, to: Address, c: Command) {
     let mut lent = [0x55; 5];
-    let to = Address::Individual(Individual(node));
-    let step = host::order(session(2, walk), to, set_address(node, 0x81), &mut lent);
+    let step = host::order(session(2, walk), at, to, c, &mut lent);
     let end = step.end;
     let sent = match end {
         End::Done => 0,
         End::Sent(n) => n,
         End::Refused(_) => 0,
     };
-    show(
+    show(what, a, b, end.number(), sent, &lent);
+}
+
+// A Set Address to a node.
+fn order_place(walk: u8, node: u8) {
+    order(
         b"order Set Address, walk and node ",
         walk,
         node,
-        end.number(),
-        sent,
-        &lent,
+        walk,
+        Node::DIVISOR,
+        address(0, node),
+        set_address(node, 0x81),
     );
 }
 
-// A Nop to an address of kind 0, individual, or 1, group.
-fn build_nop(kind: u8, address: u8) {
+// A Set Baud Rate to a node or a group.
+fn order_baud_rate(walk: u8, to: u8) {
+    order(
+        b"order Set Baud Rate, walk and address ",
+        walk,
+        to,
+        walk,
+        Node::DIVISOR,
+        address(to / 0x80, to),
+        Command::SetBaudRate(0x0A),
+    );
+}
+
+// A Set Baud Rate to all nodes, at a divisor.
+fn order_baud_rate_at(at: u8, divisor: u8) {
+    order(
+        b"order Set Baud Rate, divisor and data ",
+        at,
+        divisor,
+        2,
+        at,
+        address(1, 0xFF),
+        Command::SetBaudRate(divisor),
+    );
+}
+
+// A command's packet.
+fn build(what: &[u8], a: u8, b: u8, to: Address, c: Command) {
     let mut lent = [0x55; 5];
-    let to = if kind < 1 {
-        Address::Individual(Individual(address))
-    } else {
-        Address::Group(Group(address))
-    };
-    let answer = codec::build(to, Command::Nop, &mut lent);
-    show(
+    let answer = codec::build(to, c, &mut lent);
+    show(what, a, b, answer.number(), length(answer), &lent);
+}
+
+// A Nop to an address of kind 0, individual, or 1, group.
+fn build_nop(kind: u8, number: u8) {
+    build(
         b"build Nop, kind and address ",
         kind,
-        address,
-        answer.number(),
-        length(answer),
-        &lent,
+        number,
+        address(kind, number),
+        Command::Nop,
     );
 }
 
 // A Set Address to node 1, with this place.
-fn build_place(address: u8, group: u8) {
-    let mut lent = [0x55; 5];
-    let to = Address::Individual(Individual(1));
-    let answer = codec::build(to, set_address(address, group), &mut lent);
-    show(
+fn build_place(number: u8, group: u8) {
+    build(
         b"build Set Address, address and group ",
-        address,
+        number,
         group,
-        answer.number(),
-        length(answer),
-        &lent,
+        address(0, 1),
+        set_address(number, group),
+    );
+}
+
+// A Set Baud Rate to an address of either kind: that it goes to groups alone is the host's rule.
+fn build_baud_rate(kind: u8, number: u8) {
+    build(
+        b"build Set Baud Rate, kind and address ",
+        kind,
+        number,
+        address(kind, number),
+        Command::SetBaudRate(0x0A),
     );
 }
 
 // A load for node 1 with this control byte, all else but the velocity 0.
 fn build_load(control: u8, velocity: u8) {
-    let mut lent = [0x55; 5];
-    let to = Address::Individual(Individual(1));
     let load = Command::LoadTrajectory(Motion {
         position: 0,
         velocity: velocity as u32,
@@ -128,33 +172,27 @@ fn build_load(control: u8, velocity: u8) {
         control,
         pwm: 0,
     });
-    let answer = codec::build(to, load, &mut lent);
-    show(
+    build(
         b"build Load Trajectory, control byte and velocity ",
         control,
         velocity,
-        answer.number(),
-        length(answer),
-        &lent,
+        address(0, 1),
+        load,
     );
 }
 
 // A Stop Motor for node 1 with this stop byte and position.
 fn build_stop(stop: u8, position: u8) {
-    let mut lent = [0x55; 5];
-    let to = Address::Individual(Individual(1));
     let stopped = Command::StopMotor(Stop {
         position: position as u32,
         byte: stop,
     });
-    let answer = codec::build(to, stopped, &mut lent);
-    show(
+    build(
         b"build Stop Motor, stop byte and position ",
         stop,
         position,
-        answer.number(),
-        length(answer),
-        &lent,
+        address(0, 1),
+        stopped,
     );
 }
 
@@ -185,10 +223,17 @@ fn look(n: u8, node: u8) {
 }
 
 fn main() {
-    order(2, 1);
-    order(2, 3);
-    order(0, 1);
-    order(3, 1);
+    order_place(2, 1);
+    order_place(2, 3);
+    order_place(0, 1);
+    order_place(3, 1);
+    order_baud_rate(2, 1);
+    order_baud_rate(2, 3);
+    order_baud_rate(2, 0xFF);
+    order_baud_rate(0, 0xFF);
+    order_baud_rate(3, 0xFF);
+    order_baud_rate_at(0x00, 0x0A);
+    order_baud_rate_at(0x3F, 0x00);
     build_nop(0, 0x7F);
     build_nop(0, 0x80);
     build_nop(0, 0xFF);
@@ -198,6 +243,9 @@ fn main() {
     build_place(0x7F, 0x80);
     build_place(0x80, 0x80);
     build_place(0x7F, 0x7F);
+    build_baud_rate(0, 0x01);
+    build_baud_rate(1, 0xFF);
+    build_baud_rate(1, 0x7F);
     build_load(0x00, 0);
     build_load(0x00, 1);
     build_load(0x0D, 1);

@@ -4,6 +4,7 @@ mod bench;
 use bench::exchange;
 use command::Command;
 use libc::STDOUT_FILENO;
+use node::Node;
 use session::Session;
 use session::Shown;
 use wire::Address;
@@ -29,15 +30,17 @@ fn main() {
     let mut out = [0; 19];
     let kinds = [Kind::Gate; MOST_NODES];
     let up = start::power_up(start::fresh(), 2, kinds);
+    // Every node hears this divisor at power-up: 19,200 baud.
+    let at = Node::DIVISOR;
     // The walk: each node gets its address.
-    let sent = walk::next(up.session, &mut out);
-    let first = exchange(bench::two_nodes(), sent, &out);
-    let sent = walk::next(first.session, &mut out);
-    let second = exchange(first.chain, sent, &out);
+    let sent = walk::next(up.session, at, &mut out);
+    let first = exchange(bench::two_nodes(), at, sent, &out);
+    let sent = walk::next(first.session, at, &mut out);
+    let second = exchange(first.chain, at, sent, &out);
     // The gate on outputs 0 and 2 of node 2 opens.
     let to = Address::Individual(Individual(2));
-    let sent = host::order(second.session, to, Command::SetOutputs(5), &mut out);
-    let open = exchange(second.chain, sent, &out);
+    let sent = host::order(second.session, at, to, Command::SetOutputs(5), &mut out);
+    let open = exchange(second.chain, at, sent, &out);
     print(open.session, 1);
     print(open.session, 2);
 }

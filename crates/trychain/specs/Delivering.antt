@@ -1,4 +1,4 @@
--- The line `20 room n NODE*n packet..` of the program `trials`: "deliver a packet: `NN len buffer NODE*n`".
+-- The line `20 room divisor n NODE*n packet..` of the program `trials`: "deliver a packet: `NN len buffer NODE*n`".
 use Prim.Native.Nat.{ℕ}
 use mathlib.Core.Bool.{cond, _&&_}
 use mathlib.Core.List.{List}
@@ -31,14 +31,14 @@ putDelivered d buffer n =
 abbrev pub putOutcome : Outcome Delivered (List ℕ) → ℕ → Answer
 putOutcome o n = putDelivered (o .answer) (o .left) n
 
--- the packet stands behind n node records, "lent, for that line alone"
-unfoldable pub deliverTo : List ℕ → ℕ → List ℕ → Answer
-deliverTo records n buffer = putOutcome (tableDeliver (record { nodes = readNodes records; count = n }) (drop (nodesLength records n) records) buffer) n
+-- "the packet is sent at that divisor", and stands behind n node records, "lent, for that line alone"
+unfoldable pub deliverTo : ℕ → List ℕ → ℕ → List ℕ → Answer
+deliverTo at records n buffer = putOutcome (tableDeliver (record { nodes = readNodes records; count = n }) at (drop (nodesLength records n) records) buffer) n
 
--- "room n NODE*n packet..", else FF
+-- "room divisor n NODE*n packet..", else FF
 unfoldable pub trychainDeliver : List ℕ → Answer
 trychainDeliver args =
     cond
-    (isLending args 2 mostRoom && areNodes (drop 2 args) (fieldsByte args 1))
-    (deliverTo (drop 2 args) (fieldsByte args 1) (take (roomOf args mostRoom) filledOf))
+    (isLending args 3 mostRoom && areNodes (drop 3 args) (fieldsByte args 2))
+    (deliverTo (fieldsByte args 1) (drop 3 args) (fieldsByte args 2) (take (roomOf args mostRoom) filledOf))
     malformedOf

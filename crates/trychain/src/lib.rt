@@ -19,6 +19,7 @@ use table::Table;
 use text::rest;
 ghost use mathlib.Core.Path.{_≡_};
 ghost use lib.ListN.{take};
+ghost use Rattle.fields.specs.Field.{fieldsByte};
 ghost use Rattle.fields.specs.Lending.{mostRoom, filledOf, roomOf};
 ghost use Rattle.trychain.specs.Delivering.{replyLength, putDelivered, deliverTo, trychainDeliver};
 
@@ -48,32 +49,32 @@ fn put_delivered(d: Delivered, lent: &[u8], count: usize) -> Answer
     put_nodes(a, nodes, count)
 }
 
-// A packet behind so many node records.
-fn deliver_to(records: &[u8], count: usize, lent: &mut [u8]) -> Answer
-    ensures { λ r. ⌜ r ≡ deliverTo (now (records .entry)) count (now (lent .entry)) ⌝ }
+// A packet behind so many node records, sent at a divisor.
+fn deliver_to(at: u8, records: &[u8], count: usize, lent: &mut [u8]) -> Answer
+    ensures { λ r. ⌜ r ≡ deliverTo at (now (records .entry)) count (now (lent .entry)) ⌝ }
 {
     let nodes = read_nodes(records);
     let packet = rest(records, nodes_length(records, count));
-    let delivered = table::deliver(Table { nodes, count }, packet, lent);
+    let delivered = table::deliver(Table { nodes, count }, at, packet, lent);
     put_delivered(delivered, lent, count)
 }
 
 // The same, with the buffer that the line lends.
 fn deliver_lent(args: &[u8], records: &[u8], count: usize) -> Answer
-    ensures { λ r. ⌜ r ≡ deliverTo (now (records .entry)) count (take (roomOf (now (args .entry)) mostRoom) filledOf) ⌝ }
+    ensures { λ r. ⌜ r ≡ deliverTo (fieldsByte (now (args .entry)) 1) (now (records .entry)) count (take (roomOf (now (args .entry)) mostRoom) filledOf) ⌝ }
 {
     let mut buffer = filled();
     let room = room(args, MOST_ROOM);
-    deliver_to(records, count, &mut buffer[0..room])
+    deliver_to(byte(args, 1), records, count, &mut buffer[0..room])
 }
 
-// `room n NODE*n packet..`: `NN len buffer NODE*n`.
+// `room divisor n NODE*n packet..`: `NN len buffer NODE*n`.
 pub fn deliver(args: &[u8]) -> Answer
     ensures { λ r. ⌜ r ≡ trychainDeliver (now (args .entry)) ⌝ }
 {
-    let count = byte(args, 1) as usize;
-    let records = rest(args, 2);
-    if !is_lending(args, 2, MOST_ROOM) {
+    let count = byte(args, 2) as usize;
+    let records = rest(args, 3);
+    if !is_lending(args, 3, MOST_ROOM) {
         return malformed();
     }
     if !are_nodes(records, count) {

@@ -1,6 +1,6 @@
 -- Whether a line is of its form; a law for each exit of the code.
 use Prim.Native.Nat.{ℕ, _+_}
-use mathlib.Core.Bool.{Bool, true, false, not}
+use mathlib.Core.Bool.{Bool, true, false, not, _||_}
 use mathlib.Core.List.{List}
 use mathlib.Core.Path.{_≡_}
 use lib.Dec.{ltb, eqb}
@@ -8,7 +8,7 @@ use lib.ListN.{length, drop}
 use borrow.Author.Tests.{eq-eqb, ne-eqb}
 use Rattle.command.specs.declared.Command.{Command}
 use Rattle.command.specs.declared.Role.{Role}
-use Rattle.command.specs.Role.{roleOf, isPlacing}
+use Rattle.command.specs.Role.{roleOf, isPlacing, isPacing}
 use Rattle.fields.specs.Field.{fieldsByte}
 use Rattle.fields.specs.Kind.{areKinds}
 use Rattle.fields.specs.Lending.{mostRoom, isLending}
@@ -21,9 +21,10 @@ module _ (s : List ℕ) where
   unfolding isReadyOrder
   ready-not t p q = rw (← p, q)
 
-  pub ready-is : (t b : Bool) (c : Command) (o : Role) → t ≡ isOrder s → t ≡ true → c ≡ readCommand s → o ≡ roleOf c → b ≡ isPlacing o → not b ≡ isReadyOrder s
+  pub ready-is : (t b d : Bool) (c : Command) (o : Role) → t ≡ isOrder s → t ≡ true → c ≡ readCommand s → o ≡ roleOf c → b ≡ isPlacing o → d ≡ isPacing o
+      → not (b || d) ≡ isReadyOrder s
   unfolding isReadyOrder
-  ready-is t b c o p q h i j = rw (← p, q, ← h, ← i, ← j)
+  ready-is t b d c o p q h i j k = rw (← p, q, ← h, ← i, ← j, ← k)
 
   pub regroup-length : (length s ≡ 3 → ⊥) → false ≡ isRegroup s
   unfolding isRegroup
@@ -58,15 +59,19 @@ module _ (s : List ℕ) (kind : ℕ) where
   unfolding isFormed
   formed-regroup r p q = rw p q
 
-  pub formed-none : (kind ≡ 0x31 → ⊥) → (kind ≡ 0x32 → ⊥) → (kind ≡ 0x33 → ⊥) → (kind ≡ 0x34 → ⊥) → false ≡ isFormed kind s
+  pub formed-baud-rate : (r : Bool) → kind ≡ 0x39 → r ≡ eqb (length s) 2 → r ≡ isFormed kind s
   unfolding isFormed
-  formed-none p q h i = rw (ne-eqb kind 0x31 p, ne-eqb kind 0x32 q, ne-eqb kind 0x33 h, ne-eqb kind 0x34 i)
+  formed-baud-rate r p q = rw p q
 
-  pub sending-not : (t : Bool) → t ≡ isLending s 1 mostRoom → t ≡ false → false ≡ isSending kind s
+  pub formed-none : (kind ≡ 0x31 → ⊥) → (kind ≡ 0x32 → ⊥) → (kind ≡ 0x33 → ⊥) → (kind ≡ 0x34 → ⊥) → (kind ≡ 0x39 → ⊥) → false ≡ isFormed kind s
+  unfolding isFormed
+  formed-none p q h i j = rw (ne-eqb kind 0x31 p, ne-eqb kind 0x32 q, ne-eqb kind 0x33 h, ne-eqb kind 0x34 i, ne-eqb kind 0x39 j)
+
+  pub sending-not : (t : Bool) → t ≡ isLending s 2 mostRoom → t ≡ false → false ≡ isSending kind s
   unfolding isSending
   sending-not t p q = rw (← p, q)
 
-  pub sending-is : (t r : Bool) (b : List ℕ) → t ≡ isLending s 1 mostRoom → t ≡ true → b ≡ drop 1 s → r ≡ isFormed kind b → r ≡ isSending kind s
+  pub sending-is : (t r : Bool) (b : List ℕ) → t ≡ isLending s 2 mostRoom → t ≡ true → b ≡ drop 2 s → r ≡ isFormed kind b → r ≡ isSending kind s
   unfolding isSending
   sending-is t r b p q h i = rw (← p, q, ← h) i
 

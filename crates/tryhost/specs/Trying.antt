@@ -17,7 +17,7 @@ use Rattle.session.specs.declared.End.the-variants.{Done}
 use Rattle.session.specs.Session.{stepNumber}
 use Rattle.start.specs.Start.{startPowerUp}
 use Rattle.walk.specs.Walk.{nextOf, askOf}
-use Rattle.host.specs.Calls.{orderOf, regroupOf}
+use Rattle.host.specs.Calls.{orderOf, regroupOf, setBaudRateOf}
 use Rattle.reports.specs.Report.{reportOf, silenceOf}
 use Rattle.state.specs.Order.{readTarget, readCommand}
 use Rattle.state.specs.State.{readState, putState}
@@ -32,25 +32,30 @@ withSession a s = record { answer = a; session = s }
 unfoldable pub triedBy : Step → List ℕ → Tried
 triedBy step lent = withSession (numberedOf (stepNumber step) lent) (step .session)
 
--- "34 room k group leader": regroup, by what stands behind the room
-abbrev pub tryhostRegroup : Session → List ℕ → List ℕ → Outcome Step (List ℕ)
-tryhostRegroup s args = regroupOf s (record { 0 = fieldsByte args 0 }) (record { 0 = fieldsByte args 1 }) (eqb (fieldsByte args 2) 1)
+-- "34 room divisor k group leader": regroup, at the divisor and by what stands behind it
+abbrev pub tryhostRegroup : Session → ℕ → List ℕ → List ℕ → Outcome Step (List ℕ)
+tryhostRegroup s at args = regroupOf s at (record { 0 = fieldsByte args 0 }) (record { 0 = fieldsByte args 1 }) (eqb (fieldsByte args 2) 1)
 
--- 31 next, 32 ask, 33 a command, 34 regroup, by what stands behind the room
-unfoldable pub sendOf : Session → ℕ → List ℕ → List ℕ → Outcome Step (List ℕ)
-sendOf s kind args out =
-    cond (eqb kind 0x31) (nextOf s out)
-    (cond (eqb kind 0x32) (askOf s out)
-    (cond (eqb kind 0x33) (orderOf s (readTarget args) (readCommand args) out)
-    (tryhostRegroup s args out)))
+-- "39 room divisor group new": Set Baud Rate to a group
+abbrev pub tryhostSetBaudRate : Session → ℕ → List ℕ → List ℕ → Outcome Step (List ℕ)
+tryhostSetBaudRate s at args = setBaudRateOf s at (record { 0 = fieldsByte args 0 }) (fieldsByte args 1)
+
+-- 31 next, 32 ask, 33 a command, 34 regroup, 39 Set Baud Rate, at the divisor and by what stands behind it
+unfoldable pub sendOf : Session → (kind at : ℕ) → List ℕ → List ℕ → Outcome Step (List ℕ)
+sendOf s kind at args out =
+    cond (eqb kind 0x31) (nextOf s at out)
+    (cond (eqb kind 0x32) (askOf s at out)
+    (cond (eqb kind 0x33) (orderOf s at (readTarget args) (readCommand args) out)
+    (cond (eqb kind 0x34) (tryhostRegroup s at args out)
+    (tryhostSetBaudRate s at args out))))
 
 -- "the answer shows all of it afterwards"
-unfoldable pub sendLent : Session → ℕ → List ℕ → List ℕ → Tried
-sendLent s kind args out = triedBy (sendOf s kind args out .answer) (sendOf s kind args out .left)
+unfoldable pub sendLent : Session → (kind at : ℕ) → List ℕ → List ℕ → Tried
+sendLent s kind at args out = triedBy (sendOf s kind at args out .answer) (sendOf s kind at args out .left)
 
 -- "A lent buffer of `room` bytes .. is filled with 55 before the call"
 unfoldable pub lendOf : Session → ℕ → List ℕ → Tried
-lendOf s kind args = sendLent s kind (drop 1 args) (take (roomOf args mostRoom) filledOf)
+lendOf s kind args = sendLent s kind (fieldsByte args 1) (drop 2 args) (take (roomOf args mostRoom) filledOf)
 
 -- "30 n KIND*n": power-up
 abbrev pub tryhostPowerUp : Session → List ℕ → Step

@@ -1,5 +1,5 @@
 // The lines of `trials` that try the host, on the one session: 30 power-up, 31 next, 32 ask, 33 a command, 34 regroup, 35 report, 36 silence,
-// 37 shows the session, 38 hands in one made by hand.
+// 37 shows the session, 38 hands in one made by hand, 39 Set Baud Rate.
 // Promised: whether a line is of its form, which is asked first, and what its call answers, leaves and makes of the session.
 // Left to others: what the calls do (start, walk, host, reports), and how a session is written (state).
 use fields::Answer;
@@ -29,7 +29,7 @@ ghost use mathlib.Core.Path.{_≡_};
 ghost use Rattle.wire.specs.Promise.{Promise, Lending};
 ghost use Rattle.session.specs.Session.{stepNumber};
 ghost use Rattle.tryhost.specs.Form.{isReadyOrder, isRegroup, isFormed, isSending, isPowerUp, isCall};
-ghost use Rattle.tryhost.specs.Trying.{withSession, triedBy, tryhostRegroup, sendOf, sendLent, lendOf, tryhostPowerUp, handedIn, callOf, showOf, answerTo, attemptOf};
+ghost use Rattle.tryhost.specs.Trying.{withSession, triedBy, tryhostRegroup, tryhostSetBaudRate, sendOf, sendLent, lendOf, tryhostPowerUp, handedIn, callOf, showOf, answerTo, attemptOf};
 
 // What a line makes: its answer, and the session after it.
 pub struct Tried {
@@ -44,12 +44,13 @@ pub fn with_session(answer: Answer, session: Session) -> Tried
     Tried { answer, session }
 }
 
-// Whether s is an ORDER of a ready session: every command but Set Address.
+// Whether s is an ORDER of a ready session: every command but Set Address and Set Baud Rate, which have lines of their own.
 fn is_ready_order(s: &[u8]) -> bool
     ensures { λ r. ⌜ r ≡ isReadyOrder (now (s .entry)) ⌝ }
 {
     if is_order(s) {
-        return !read_command(s).role().is_placing();
+        let role = read_command(s).role();
+        return !(role.is_placing() | role.is_pacing());
     }
     false
 }
@@ -64,7 +65,7 @@ fn is_regroup(s: &[u8]) -> bool
     byte(s, 2) < 2
 }
 
-// What stands behind the room of a call that sends.
+// What stands behind the room and the divisor of a call that sends; of Set Baud Rate `group new`.
 fn is_formed(kind: u8, s: &[u8]) -> bool
     ensures { λ r. ⌜ r ≡ isFormed kind (now (s .entry)) ⌝ }
 {
@@ -73,16 +74,17 @@ fn is_formed(kind: u8, s: &[u8]) -> bool
         0x32 => s.len() < 1,
         0x33 => is_ready_order(s),
         0x34 => is_regroup(s),
+        0x39 => s.len() == 2,
         _ => false,
     }
 }
 
-// `room ..`: whether a line is a call that sends, of its form.
+// `room divisor ..`: whether a line is a call that sends, of its form.
 fn is_sending(kind: u8, args: &[u8]) -> bool
     ensures { λ r. ⌜ r ≡ isSending kind (now (args .entry)) ⌝ }
 {
-    if is_lending(args, 1, MOST_ROOM) {
-        return is_formed(kind, rest(args, 1));
+    if is_lending(args, 2, MOST_ROOM) {
+        return is_formed(kind, rest(args, 2));
     }
     false
 }
@@ -119,32 +121,42 @@ fn tried_by(step: Step, lent: &[u8]) -> Tried
 }
 
 // `k group leader`.
-fn regroup(s: Session, args: &[u8], lent: &mut [u8]) -> Step
-    ensures { λ r. ⌜ Lending stepNumber r (now (lent .exit)) (tryhostRegroup s (now (args .entry)) (now (lent .entry))) ⌝ }
+fn regroup(s: Session, at: u8, args: &[u8], lent: &mut [u8]) -> Step
+    ensures { λ r. ⌜ Lending stepNumber r (now (lent .exit)) (tryhostRegroup s at (now (args .entry)) (now (lent .entry))) ⌝ }
 {
     let node = Individual(byte(args, 0));
     let group = Group(byte(args, 1));
     let leader = byte(args, 2) == 1;
-    host::regroup(s, node, group, leader, lent)
+    host::regroup(s, at, node, group, leader, lent)
 }
 
-// Makes a call that sends, by what stands behind its room.
-fn send(s: Session, kind: u8, args: &[u8], lent: &mut [u8]) -> Step
-    ensures { λ r. ⌜ Lending stepNumber r (now (lent .exit)) (sendOf s kind (now (args .entry)) (now (lent .entry))) ⌝ }
+// `group new`.
+fn set_baud_rate(s: Session, at: u8, args: &[u8], lent: &mut [u8]) -> Step
+    ensures { λ r. ⌜ Lending stepNumber r (now (lent .exit)) (tryhostSetBaudRate s at (now (args .entry)) (now (lent .entry))) ⌝ }
+{
+    let group = Group(byte(args, 0));
+    let divisor = byte(args, 1);
+    host::set_baud_rate(s, at, group, divisor, lent)
+}
+
+// Makes a call that sends, at its divisor and by what stands behind that.
+fn send(s: Session, kind: u8, at: u8, args: &[u8], lent: &mut [u8]) -> Step
+    ensures { λ r. ⌜ Lending stepNumber r (now (lent .exit)) (sendOf s kind at (now (args .entry)) (now (lent .entry))) ⌝ }
 {
     match kind {
-        0x31 => walk::next(s, lent),
-        0x32 => walk::ask(s, lent),
-        0x33 => host::order(s, read_target(args), read_command(args), lent),
-        _ => regroup(s, args, lent),
+        0x31 => walk::next(s, at, lent),
+        0x32 => walk::ask(s, at, lent),
+        0x33 => host::order(s, at, read_target(args), read_command(args), lent),
+        0x34 => regroup(s, at, args, lent),
+        _ => set_baud_rate(s, at, args, lent),
     }
 }
 
 // Makes it, and shows the lent buffer.
-fn send_lent(s: Session, kind: u8, args: &[u8], lent: &mut [u8]) -> Tried
-    ensures { λ r. ⌜ r ≡ sendLent s kind (now (args .entry)) (now (lent .entry)) ⌝ }
+fn send_lent(s: Session, kind: u8, at: u8, args: &[u8], lent: &mut [u8]) -> Tried
+    ensures { λ r. ⌜ r ≡ sendLent s kind at (now (args .entry)) (now (lent .entry)) ⌝ }
 {
-    let step = send(s, kind, args, lent);
+    let step = send(s, kind, at, args, lent);
     tried_by(step, lent)
 }
 
@@ -154,7 +166,7 @@ fn lend(s: Session, kind: u8, args: &[u8]) -> Tried
 {
     let mut buffer = filled();
     let room = room(args, MOST_ROOM);
-    send_lent(s, kind, rest(args, 1), &mut buffer[0..room])
+    send_lent(s, kind, byte(args, 1), rest(args, 2), &mut buffer[0..room])
 }
 
 // `n KIND*n`.

@@ -1,6 +1,6 @@
 -- By the kind.
 use borrow.Author.Needs.{needs}
-use Rattle.tryhost.proofs.Forms.{formed-next, formed-ask, formed-order, formed-regroup, formed-none}
+use Rattle.tryhost.proofs.Forms.{formed-next, formed-ask, formed-order, formed-regroup, formed-baud-rate, formed-none}
 use Rattle.tryhost.proofs.is_formed.Statement.{statement}
 use Rattle.tryhost.proofs.is_formed.Tie as tie
 
@@ -14,4 +14,5 @@ is-formed-spec =
     (λ c. search formed-ask)
     (λ c. search formed-order)
     (λ c. search formed-regroup)
+    (λ c. search formed-baud-rate)
     (λ c. search formed-none))

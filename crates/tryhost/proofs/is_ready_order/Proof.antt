@@ -12,5 +12,6 @@ is-ready-order-spec =
     (λ c κs. search needs)
     (λ c κs. search needs)
     (λ c κs. search needs)
+    (λ c κs. search needs)
     (λ c. search ready-is)
     (λ c. search ready-not))

@@ -1,6 +1,6 @@
 -- By the kind.
 use borrow.Author.Needs.{needs}
-use Rattle.tryhost.proofs.Sends.{sends-next, sends-ask, sends-order, sends-regroup}
+use Rattle.tryhost.proofs.Sends.{sends-next, sends-ask, sends-order, sends-regroup, sends-baud-rate}
 use Rattle.tryhost.proofs.send.Statement.{statement}
 use Rattle.tryhost.proofs.send.Tie as tie
 
@@ -14,6 +14,7 @@ send-spec =
     (λ c κs. search needs)
     (λ c κs. search needs)
     (λ c κs. search needs)
+    (λ c κs. search needs)
     (λ c. search needs)
     (λ c. search sends-next)
     (λ c. search needs)
@@ -21,4 +22,6 @@ send-spec =
     (λ c. search needs)
     (λ c. search sends-order)
     (λ c. search needs)
-    (λ c. search sends-regroup))
+    (λ c. search sends-regroup)
+    (λ c. search needs)
+    (λ c. search sends-baud-rate))

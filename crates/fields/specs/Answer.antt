@@ -6,9 +6,9 @@ use lib.Dec.{ltb}
 use lib.ListN.{replicate, set}
 use Rattle.fields.specs.declared.answer.Answer.{Answer}
 
--- the room of an answer: number, length, 64 bytes of a lent buffer, 33 node records of 64 bytes
+-- the room of an answer: number, length, 64 bytes of a lent buffer, 33 node records of 65 bytes
 abbrev pub mostBytes : ℕ
-mostBytes = 2178
+mostBytes = 2211
 
 -- no bytes yet
 unfoldable pub fieldsNothing : Answer

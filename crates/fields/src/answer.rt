@@ -2,8 +2,8 @@
 ghost use mathlib.Core.Path.{_≡_};
 ghost use Rattle.fields.specs.Answer.{fieldsNothing, answerPut, answerPutFlag, answerPutWord, answerPutTriple, answerPutLong, answerPutAll, malformedOf, numberedOf, valuedOf};
 
-// The longest answer: number, length, 64 bytes of a lent buffer, 33 node records of 64 bytes.
-pub const MOST_BYTES: usize = 2178;
+// The longest answer: number, length, 64 bytes of a lent buffer, 33 node records of 65 bytes.
+pub const MOST_BYTES: usize = 2211;
 
 // What a line is answered: the first `length` bytes.
 pub struct Answer {

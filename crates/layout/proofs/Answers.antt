@@ -82,10 +82,10 @@ pub drive-shown : (a r : Answer) (k : Kind) (n : Node) → k ≡ Drive → r ≡
 unfolding putShown
 drive-shown a r k n h e = rw (e, h)
 
-pub node-put : (a b c d f r : Answer) (n : Node) → b ≡ answerPutKind a (n .kind) → c ≡ putPlace b (n .settings .place) → d ≡ answerPutFlag c (n .addressed)
+pub node-put : (a b v c d f r : Answer) (n : Node) → b ≡ answerPutKind a (n .kind) → v ≡ answerPut b (n .settings .divisor) → c ≡ putPlace v (n .settings .place) → d ≡ answerPutFlag c (n .addressed)
     → f ≡ putSettings d (n .kind) (n .settings) → r ≡ putShown f (n .kind) n → r ≡ putNode a n
 unfolding putNode
-node-put a b c d f r n p q s t u = rw (u, t, s, q, p)
+node-put a b v c d f r n p w q s t u = rw (u, t, s, q, w, p)
 
 -- the loop over all records: what is put, and then what the rest will give, is the answer
 pub nodes-begin : (a : Answer) (ns : List Node) (n : ℕ) → putEach putNode a (drop 0 (take n ns)) ≡ putNodes a ns n

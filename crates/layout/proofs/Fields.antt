@@ -59,24 +59,24 @@ pub drive-is : (s first second : List ℕ) (g : Gains) (w f : Motion) (b : ℕ) 
 unfolding readDrive
 drive-is s first second g w f b e₁ e₂ e₃ e₄ e₅ e₆ = rw (e₁, e₃, e₂, e₅, e₄, e₆)
 
-module _ (k : Kind) (p : Place) (s behind : List ℕ) (m : ℕ) (em : m ≡ fieldsByte s 0) (eb : behind ≡ drop 1 s) where
+module _ (k : Kind) (v : ℕ) (p : Place) (s behind : List ℕ) (m : ℕ) (em : m ≡ fieldsByte s 0) (eb : behind ≡ drop 1 s) where
   pub gate-settings : (g : GateSettings) (d : DriveSettings) → k ≡ Gate → d ≡ drivePowerUp → g ≡ readGate behind
-      → record { drive = d; gate = g; place = p; mask = m } ≡ readSettings k p s
+      → record { drive = d; gate = g; place = p; mask = m; divisor = v } ≡ readSettings k v p s
   unfolding readSettings
   gate-settings g d h e f = rw (h, em, e, f, eb)
 
   pub drive-settings : (g : GateSettings) (d : DriveSettings) → k ≡ Drive → d ≡ readDrive behind → g ≡ gatePowerUp
-      → record { drive = d; gate = g; place = p; mask = m } ≡ readSettings k p s
+      → record { drive = d; gate = g; place = p; mask = m; divisor = v } ≡ readSettings k v p s
   unfolding readSettings
   drive-settings g d h e f = rw (h, em, e, f, eb)
 
 -- how long a record is, and whether it is of its form
 module _ (s : List ℕ) (b : ℕ) (k : Kind) (e : b ≡ fieldsByte s 0) (f : k ≡ readKind b) where
-  pub node-gate : k ≡ Gate → 32 ≡ nodeLength s
+  pub node-gate : k ≡ Gate → 33 ≡ nodeLength s
   unfolding nodeLength
   node-gate h = rw (← e, ← f, h)
 
-  pub node-drive : k ≡ Drive → 64 ≡ nodeLength s
+  pub node-drive : k ≡ Drive → 65 ≡ nodeLength s
   unfolding nodeLength
   node-drive h = rw (← e, ← f, h)
 
@@ -88,7 +88,7 @@ module _ (s : List ℕ) (b : ℕ) (k : Kind) (e : b ≡ fieldsByte s 0) (f : k �
   unfolding readNode
   reads-drive r n h d g = rw (← e, ← f, h, ← d) g
 
-pub node-formed : (s : List ℕ) (b n l a : ℕ) (t : Bool) → b ≡ fieldsByte s 0 → t ≡ isKind b → n ≡ nodeLength s → l ≡ fieldsByte s 3 → a ≡ fieldsByte s 4
+pub node-formed : (s : List ℕ) (b n l a : ℕ) (t : Bool) → b ≡ fieldsByte s 0 → t ≡ isKind b → n ≡ nodeLength s → l ≡ fieldsByte s 4 → a ≡ fieldsByte s 5
     → (t && leb n (length s) && ltb l 2 && ltb a 2) ≡ isNode s
 unfolding isNode
 node-formed s b n l a t e f g h i = rw (← e, ← f, ← g, ← h, ← i)
@@ -109,17 +109,17 @@ pub captured-is : (s : List ℕ) (i c : ℕ) → i ≡ fieldsWord s 0 → c ≡ 
 unfolding readCaptured
 captured-is s i c p q = rw (p, q)
 
-pub gate-node-is : (s four fourteen behind : List ℕ) (a : ℕ) (p : Place) (x : Settings) (b : Bench) (k : Captured) → a ≡ fieldsByte s 3 → p ≡ readPlace s
-    → four ≡ drop 4 s → x ≡ readSettings Gate p four → fourteen ≡ drop 14 s → b ≡ gateBench fourteen → behind ≡ drop 25 s → k ≡ readCaptured behind
+pub gate-node-is : (s one five fifteen behind : List ℕ) (a v : ℕ) (p : Place) (x : Settings) (b : Bench) (k : Captured) → a ≡ fieldsByte s 4 → v ≡ fieldsByte s 0 → one ≡ drop 1 s
+    → p ≡ readPlace one → five ≡ drop 5 s → x ≡ readSettings Gate v p five → fifteen ≡ drop 15 s → b ≡ gateBench fifteen → behind ≡ drop 26 s → k ≡ readCaptured behind
     → record { settings = x; bench = b; captured = k; position = 0; addressed = eqb a 1; kind = Gate } ≡ readGateNode s
 unfolding readGateNode
-gate-node-is s four fourteen behind a p x b k e₁ e₂ e₃ e₄ e₅ e₆ e₇ e₈ = rw (e₁, e₄, e₂, e₃, e₆, e₅, e₈, e₇)
+gate-node-is s one five fifteen behind a v p x b k e₁ ev eo e₂ e₃ e₄ e₅ e₆ e₇ e₈ = rw (e₁, e₄, ev, e₂, eo, e₃, e₆, e₅, e₈, e₇)
 
-pub drive-node-is : (s four shown : List ℕ) (a l : ℕ) (p : Place) (x : Settings) (b : Bench) → a ≡ fieldsByte s 3 → p ≡ readPlace s
-    → four ≡ drop 4 s → x ≡ readSettings Drive p four → shown ≡ drop 47 s → b ≡ driveBench shown → l ≡ fieldsLong shown 0
+pub drive-node-is : (s one five shown : List ℕ) (a v l : ℕ) (p : Place) (x : Settings) (b : Bench) → a ≡ fieldsByte s 4 → v ≡ fieldsByte s 0 → one ≡ drop 1 s → p ≡ readPlace one
+    → five ≡ drop 5 s → x ≡ readSettings Drive v p five → shown ≡ drop 48 s → b ≡ driveBench shown → l ≡ fieldsLong shown 0
     → record { settings = x; bench = b; captured = record { counter = 0; inputs = 0 }; position = l; addressed = eqb a 1; kind = Drive } ≡ readDriveNode s
 unfolding readDriveNode
-drive-node-is s four shown a l p x b e₁ e₂ e₃ e₄ e₅ e₆ e₇ = rw (e₁, e₄, e₂, e₃, e₆, e₇, e₅)
+drive-node-is s one five shown a v l p x b e₁ ev eo e₂ e₃ e₄ e₅ e₆ e₇ = rw (e₁, e₄, ev, e₂, eo, e₃, e₆, e₇, e₅)
 
 -- where the looks at all records start, and what is refused before
 pub nodes-many : (s : List ℕ) (n : ℕ) → 33 < n → false ≡ areNodes s n

@@ -28,16 +28,16 @@ use Rattle.layout.specs.Entries.{entryLength, isEntry, areEntries, gateK
 
 -- how long an entry is, and whether it is of its form
 module _ (s : List ℕ) (b : ℕ) (k : Kind) (e : b ≡ fieldsByte s 0) (f : k ≡ readKind b) where
-  pub entry-gate : k ≡ Gate → 15 ≡ entryLength s
+  pub entry-gate : k ≡ Gate → 16 ≡ entryLength s
   unfolding entryLength
   entry-gate h = rw (← e, ← f, h)
 
-  pub entry-drive : k ≡ Drive → 49 ≡ entryLength s
+  pub entry-drive : k ≡ Drive → 50 ≡ entryLength s
   unfolding entryLength
   entry-drive h = rw (← e, ← f, h)
 
-pub entry-formed : (s : List ℕ) (b n l a : ℕ) (t : Bool) → n ≡ entryLength s → b ≡ fieldsByte s 0 → t ≡ isKind b → l ≡ fieldsByte s 3 → a ≡ fieldsByte s (n - 1)
-    → (t && leb n (length s) && ltb l 2 && ltb a 64) ≡ isEntry s
+pub entry-formed : (s : List ℕ) (b n l a : ℕ) (t : Bool) → n ≡ entryLength s → b ≡ fieldsByte s 0 → t ≡ isKind b → l ≡ fieldsByte s 4 → a ≡ fieldsByte s (n - 1)
+    → (t && leb n (length s) && ltb l 2 && ltb a 128) ≡ isEntry s
 unfolding isEntry
 entry-formed s b n l a t g e f h i = rw (← g, ← e, ← f, ← h, ← i)
 
@@ -77,25 +77,25 @@ drive-known bits w f p q = rw (p, q)
 
 module _ (k : Kind) (bits : ℕ) (up : Entry) (e : up ≡ entryPowerUp k) where
   pub known-gate : (g : GateKnown) → k ≡ Gate → g ≡ gateKnown (bits / 4)
-      → record { place = eqb (bits % 2) 1; mask = eqb (bits / 2 % 2) 1; gate = g; drive = up .known .drive } ≡ readKnown k bits
+      → record { place = eqb (bits % 2) 1; mask = eqb (bits / 2 % 2) 1; divisor = eqb (bits / 64 % 2) 1; gate = g; drive = up .known .drive } ≡ readKnown k bits
   unfolding readKnown
   known-gate g h f = rw (f, e, h)
 
   pub known-drive : (d : DriveKnown) → k ≡ Drive → d ≡ driveKnown (bits / 4)
-      → record { place = eqb (bits % 2) 1; mask = eqb (bits / 2 % 2) 1; gate = up .known .gate; drive = d } ≡ readKnown k bits
+      → record { place = eqb (bits % 2) 1; mask = eqb (bits / 2 % 2) 1; divisor = eqb (bits / 16384 % 2) 1; gate = up .known .gate; drive = d } ≡ readKnown k bits
   unfolding readKnown
   known-drive d h f = rw (f, e, h)
 
-pub bits-gate : (k : Kind) (s : List ℕ) (b : ℕ) → k ≡ Gate → b ≡ fieldsByte s 14 → b ≡ bitsIn k s
+pub bits-gate : (k : Kind) (s : List ℕ) (b : ℕ) → k ≡ Gate → b ≡ fieldsByte s 15 → b ≡ bitsIn k s
 bits-gate k s b h e = rw h e
 
-pub bits-drive : (k : Kind) (s : List ℕ) (b : ℕ) → k ≡ Drive → b ≡ fieldsWord s 47 → b ≡ bitsIn k s
+pub bits-drive : (k : Kind) (s : List ℕ) (b : ℕ) → k ≡ Drive → b ≡ fieldsWord s 48 → b ≡ bitsIn k s
 bits-drive k s b h e = rw h e
 
-pub entry-is : (s one four : List ℕ) (b bits : ℕ) (k : Kind) (p : Place) (x : Settings) (f : Known) → b ≡ fieldsByte s 0 → k ≡ readKind b → one ≡ drop 1 s → p ≡ readPlace one
-    → four ≡ drop 4 s → x ≡ readSettings k p four → bits ≡ bitsIn k s → f ≡ readKnown k bits → record { settings = x; known = f; kind = k } ≡ readEntry s
+pub entry-is : (s two five : List ℕ) (b v bits : ℕ) (k : Kind) (p : Place) (x : Settings) (f : Known) → b ≡ fieldsByte s 0 → k ≡ readKind b → v ≡ fieldsByte s 1 → two ≡ drop 2 s
+    → p ≡ readPlace two → five ≡ drop 5 s → x ≡ readSettings k v p five → bits ≡ bitsIn k s → f ≡ readKnown k bits → record { settings = x; known = f; kind = k } ≡ readEntry s
 unfolding readEntry
-entry-is s one four b bits k p x f e₁ e₂ e₃ e₄ e₅ e₆ e₇ e₈ = rw (← e₁, ← e₂, ← e₃, ← e₄, ← e₅, ← e₆, ← e₇, ← e₈)
+entry-is s two five b v bits k p x f e₁ e₂ ev e₃ e₄ e₅ e₆ e₇ e₈ = rw (← e₁, ← e₂, ← ev, ← e₃, ← e₄, ← e₅, ← e₆, ← e₇, ← e₈)
 
 pub entry-more : (s r : List ℕ) (l : List Entry) (i at k : ℕ) (e : Entry) → Reading entryLength readEntry 31 s l i at → i < 31 → length l ≡ 31 → r ≡ drop at s → e ≡ readEntry r
     → k ≡ entryLength r → Reading entryLength readEntry 31 s (set l i e) (i + 1) (at + k)
@@ -124,19 +124,19 @@ pub shared-bits : (k : Known) (a b : ℕ) → a ≡ cond (k .place) 1 0 → b �
 unfolding sharedBits
 shared-bits k a b p q = rw (p, q)
 
-module _ (a r : Answer) (k : Kind) (f : Known) (low : ℕ) (e : low ≡ sharedBits f) where
-  pub gate-known-put : (b : ℕ) → k ≡ Gate → b ≡ gateBits (f .gate) → r ≡ answerPut a (low + b * 4) → r ≡ putKnown a k f
+module _ (a r : Answer) (k : Kind) (f : Known) (low pace : ℕ) (e : low ≡ sharedBits f) (ep : pace ≡ cond (f .divisor) 64 0) where
+  pub gate-known-put : (b : ℕ) → k ≡ Gate → b ≡ gateBits (f .gate) → r ≡ answerPut a (low + b * 4 + pace) → r ≡ putKnown a k f
   unfolding putKnown
-  gate-known-put b h p q = rw (q, h, e, p)
+  gate-known-put b h p q = rw (q, h, e, ep, p)
 
-  pub drive-known-put : (b : ℕ) → k ≡ Drive → b ≡ driveBits (f .drive) → r ≡ answerPutWord a (low + b * 4) → r ≡ putKnown a k f
+  pub drive-known-put : (b : ℕ) → k ≡ Drive → b ≡ driveBits (f .drive) → r ≡ answerPutWord a (low + b * 4 + pace * 256) → r ≡ putKnown a k f
   unfolding putKnown
-  drive-known-put b h p q = rw (q, h, e, p)
+  drive-known-put b h p q = rw (q, h, e, ep, p)
 
-pub entry-put : (a b c d r : Answer) (e : Entry) → b ≡ answerPutKind a (e .kind) → c ≡ putPlace b (e .settings .place) → d ≡ putSettings c (e .kind) (e .settings)
+pub entry-put : (a b v c d r : Answer) (e : Entry) → b ≡ answerPutKind a (e .kind) → v ≡ answerPut b (e .settings .divisor) → c ≡ putPlace v (e .settings .place) → d ≡ putSettings c (e .kind) (e .settings)
     → r ≡ putKnown d (e .kind) (e .known) → r ≡ putEntry a e
 unfolding putEntry
-entry-put a b c d r e p q s t = rw (t, s, q, p)
+entry-put a b v c d r e p w q s t = rw (t, s, q, w, p)
 
 pub entries-begin : (a : Answer) (es : List Entry) → putEach putEntry a (drop 0 es) ≡ putEntries a es
 unfolding putEntries

@@ -1,4 +1,4 @@
--- ENTRY: what the host's record has of a node, "KIND, address, group, leader, mask, and then by its kind".
+-- ENTRY: what the host's record has of a node, "KIND, divisor, address, group, leader, mask, and then by its kind".
 use Prim.Native.Nat.{ℕ, _+_, _-_, _*_, _/_, _%_}
 use mathlib.Core.Bool.{Bool, true, cond, _&&_}
 use mathlib.Core.List.{List, map}
@@ -21,15 +21,15 @@ use Rattle.layout.specs.Settings.{readPlace, readSettings, putPlace, put
 
 -- how many bytes an entry has, with its KIND
 abbrev pub entryBytes : Kind → ℕ
-entryBytes Gate = 15
-entryBytes Drive = 49
+entryBytes Gate = 16
+entryBytes Drive = 50
 
 unfoldable pub entryLength : List ℕ → ℕ
 entryLength s = entryBytes (readKind (fieldsByte s 0))
 
--- its KIND is one, all of it is there, the flag leader is 00 or 01; of known, its last bytes, "bits 6 and 7 are 0, else FF", and of a drive's "bits 14 and 15"
+-- its KIND is one, all of it is there, the flag leader is 00 or 01; of known, its last bytes, "bit 7 is 0, else FF", and of a drive's "bit 15"
 unfoldable pub isEntry : List ℕ → Bool
-isEntry s = isKind (fieldsByte s 0) && leb (entryLength s) (length s) && ltb (fieldsByte s 3) 2 && ltb (fieldsByte s (entryLength s - 1)) 64
+isEntry s = isKind (fieldsByte s 0) && leb (entryLength s) (length s) && ltb (fieldsByte s 4) 2 && ltb (fieldsByte s (entryLength s - 1)) 128
 
 -- "ENTRY*31", and nothing behind them
 unfoldable pub areEntries : List ℕ → Bool
@@ -63,19 +63,19 @@ driveKnown bits = record {
   in_force = motionKnown (bits / 128);
 }
 
--- place, mask, and the kind's own; what the other kind has of its own starts as at power-up, and known
+-- place, mask, the kind's own, and the divisor; what the other kind has of its own starts as at power-up, and known
 unfoldable pub readKnown : Kind → ℕ → Known
-readKnown Gate bits = record { place = eqb (bits % 2) 1; mask = eqb (bits / 2 % 2) 1; gate = gateKnown (bits / 4); drive = driveFlags (λ d. true) }
-readKnown Drive bits = record { place = eqb (bits % 2) 1; mask = eqb (bits / 2 % 2) 1; gate = gateFlags (λ g. true); drive = driveKnown (bits / 4) }
+readKnown Gate bits = record { place = eqb (bits % 2) 1; mask = eqb (bits / 2 % 2) 1; divisor = eqb (bits / 64 % 2) 1; gate = gateKnown (bits / 4); drive = driveFlags (λ d. true) }
+readKnown Drive bits = record { place = eqb (bits % 2) 1; mask = eqb (bits / 2 % 2) 1; divisor = eqb (bits / 16384 % 2) 1; gate = gateFlags (λ g. true); drive = driveKnown (bits / 4) }
 
 -- known, one byte of a gate's and two of a drive's
 abbrev pub bitsIn : Kind → List ℕ → ℕ
-bitsIn Gate s = fieldsByte s 14
-bitsIn Drive s = fieldsWord s 47
+bitsIn Gate s = fieldsByte s 15
+bitsIn Drive s = fieldsWord s 48
 
--- KIND, place (3), the settings behind it (10, or 43), known
+-- KIND, divisor, place (3), the settings behind it (10, or 43), known
 abbrev pub entryBy : Kind → List ℕ → Entry
-entryBy k s = record { settings = readSettings k (readPlace (drop 1 s)) (drop 4 s); known = readKnown k (bitsIn k s); kind = k }
+entryBy k s = record { settings = readSettings k (fieldsByte s 1) (readPlace (drop 2 s)) (drop 5 s); known = readKnown k (bitsIn k s); kind = k }
 
 unfoldable pub readEntry : List ℕ → Entry
 readEntry s = entryBy (readKind (fieldsByte s 0)) s
@@ -84,7 +84,7 @@ readEntry s = entryBy (readKind (fieldsByte s 0)) s
 unfoldable pub readEntries : List ℕ → List Entry
 readEntries s = map readEntry (recordsFrom entryLength 31 s)
 
--- the bits of what is known: of a gate's own, of a motion's values, of a drive's own, of what both kinds have
+-- the bits of what is known: of a gate's own, of a motion's values, of a drive's own, of place and mask
 unfoldable pub gateBits : GateKnown → ℕ
 gateBits k = cond (k .outputs) 1 0 + cond (k .pwm) 2 0 + cond (k .held) 4 0 + cond (k .timer) 8 0
 
@@ -97,14 +97,14 @@ driveBits k = cond (k .gains) 1 0 + cond (k .stop) 2 0 + motionBits (k .waiting)
 unfoldable pub sharedBits : Known → ℕ
 sharedBits k = cond (k .place) 1 0 + cond (k .mask) 2 0
 
--- known more in an answer
+-- known more in an answer; the divisor is bit 6 of a gate's, and bit 14 of a drive's
 unfoldable pub putKnown : Answer → Kind → Known → Answer
-putKnown a Gate k = answerPut a (sharedBits k + gateBits (k .gate) * 4)
-putKnown a Drive k = answerPutWord a (sharedBits k + driveBits (k .drive) * 4)
+putKnown a Gate k = answerPut a (sharedBits k + gateBits (k .gate) * 4 + cond (k .divisor) 64 0)
+putKnown a Drive k = answerPutWord a (sharedBits k + driveBits (k .drive) * 4 + cond (k .divisor) 64 0 * 256)
 
 -- an entry
 unfoldable pub putEntry : Answer → Entry → Answer
-putEntry a e = putKnown (putSettings (putPlace (answerPutKind a (e .kind)) (e .settings .place)) (e .kind) (e .settings)) (e .kind) (e .known)
+putEntry a e = putKnown (putSettings (putPlace (answerPut (answerPutKind a (e .kind)) (e .settings .divisor)) (e .settings .place)) (e .kind) (e .settings)) (e .kind) (e .known)
 
 -- "ENTRY*31"
 unfoldable pub putEntries : Answer → List Entry → Answer

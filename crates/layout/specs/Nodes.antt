@@ -1,4 +1,4 @@
--- NODE: what a node of the chain holds, "KIND, address, group, leader (00/01), addressed (00/01), mask, and then by its kind".
+-- NODE: what a node of the chain holds, "KIND, divisor, address, group, leader (00/01), addressed (00/01), mask, and then by its kind".
 use Prim.Native.Nat.{ℕ}
 use mathlib.Core.Bool.{Bool, false, cond, _&&_}
 use mathlib.Core.List.{List, [], _∷_, map}
@@ -18,15 +18,15 @@ use Rattle.layout.specs.Settings.{readPlace, readSettings, putPlace, put
 
 -- how many bytes a record has, with its KIND
 abbrev pub nodeBytes : Kind → ℕ
-nodeBytes Gate = 32
-nodeBytes Drive = 64
+nodeBytes Gate = 33
+nodeBytes Drive = 65
 
 unfoldable pub nodeLength : List ℕ → ℕ
 nodeLength s = nodeBytes (readKind (fieldsByte s 0))
 
 -- its KIND is one, all of it is there, and its flags, leader and addressed, are 00 or 01
 unfoldable pub isNode : List ℕ → Bool
-isNode s = isKind (fieldsByte s 0) && leb (nodeLength s) (length s) && ltb (fieldsByte s 3) 2 && ltb (fieldsByte s 4) 2
+isNode s = isKind (fieldsByte s 0) && leb (nodeLength s) (length s) && ltb (fieldsByte s 4) 2 && ltb (fieldsByte s 5) 2
 
 -- so many records are there, and "n = 00 to 21 hex"
 unfoldable pub areNodes : List ℕ → ℕ → Bool
@@ -74,25 +74,25 @@ driveBench s = record {
 unfoldable pub readCaptured : List ℕ → Captured
 readCaptured s = record { counter = fieldsLong s 2; inputs = fieldsWord s 0 }
 
--- behind its KIND, of a gate: place (3), addressed, the settings behind the place (10), bench values (11), captured ones (6)
+-- behind its KIND, of a gate: divisor, place (3), addressed, the settings behind the place (10), bench values (11), captured ones (6)
 unfoldable pub readGateNode : List ℕ → Node
 readGateNode s = record {
-  settings = readSettings Gate (readPlace s) (drop 4 s);
-  bench = gateBench (drop 14 s);
-  captured = readCaptured (drop 25 s);
+  settings = readSettings Gate (fieldsByte s 0) (readPlace (drop 1 s)) (drop 5 s);
+  bench = gateBench (drop 15 s);
+  captured = readCaptured (drop 26 s);
   position = 0;
-  addressed = eqb (fieldsByte s 3) 1;
+  addressed = eqb (fieldsByte s 4) 1;
   kind = Gate;
 }
 
--- of a drive: place (3), addressed, the settings behind the place (43), position and bench values (16)
+-- of a drive: divisor, place (3), addressed, the settings behind the place (43), position and bench values (16)
 unfoldable pub readDriveNode : List ℕ → Node
 readDriveNode s = record {
-  settings = readSettings Drive (readPlace s) (drop 4 s);
-  bench = driveBench (drop 47 s);
+  settings = readSettings Drive (fieldsByte s 0) (readPlace (drop 1 s)) (drop 5 s);
+  bench = driveBench (drop 48 s);
   captured = record { counter = 0; inputs = 0 };
-  position = fieldsLong (drop 47 s) 0;
-  addressed = eqb (fieldsByte s 3) 1;
+  position = fieldsLong (drop 48 s) 0;
+  addressed = eqb (fieldsByte s 4) 1;
   kind = Drive;
 }
 
@@ -128,7 +128,7 @@ putShown a Drive n = putDriveBench a (n .position) (n .bench)
 -- a record
 unfoldable pub putNode : Answer → Node → Answer
 putNode a n =
-    putShown (putSettings (answerPutFlag (putPlace (answerPutKind a (n .kind)) (n .settings .place)) (n .addressed)) (n .kind) (n .settings)) (n .kind) n
+    putShown (putSettings (answerPutFlag (putPlace (answerPut (answerPutKind a (n .kind)) (n .settings .divisor)) (n .settings .place)) (n .addressed)) (n .kind) (n .settings)) (n .kind) n
 
 -- "NODE*n"
 unfoldable pub putNodes : Answer → List Node → ℕ → Answer

@@ -1,4 +1,4 @@
--- What NODE and ENTRY both have: the place, and the settings behind it.
+-- What NODE and ENTRY both have: divisor and place, and the settings behind them.
 use Prim.Native.Nat.{ℕ}
 use mathlib.Core.List.{List}
 use lib.Dec.{eqb}
@@ -66,10 +66,10 @@ readDrive s = record {
   stop = fieldsByte s 13;
 }
 
--- the mask and what the kind has of its own, with the place that stands before them; what the other kind has of its own starts as at power-up
-unfoldable pub readSettings : Kind → Place → List ℕ → Settings
-readSettings Gate p s = record { drive = drivePowerUp; gate = readGate (drop 1 s); place = p; mask = fieldsByte s 0 }
-readSettings Drive p s = record { drive = readDrive (drop 1 s); gate = gatePowerUp; place = p; mask = fieldsByte s 0 }
+-- the mask and what the kind has of its own, with divisor and place, which stand before them; what the other kind has of its own starts as at power-up
+unfoldable pub readSettings : Kind → ℕ → Place → List ℕ → Settings
+readSettings Gate v p s = record { drive = drivePowerUp; gate = readGate (drop 1 s); place = p; mask = fieldsByte s 0; divisor = v }
+readSettings Drive v p s = record { drive = readDrive (drop 1 s); gate = gatePowerUp; place = p; mask = fieldsByte s 0; divisor = v }
 
 -- the same, more in an answer
 unfoldable pub putPlace : Answer → Place → Answer

@@ -1,4 +1,4 @@
-// ENTRY: KIND, place (3), mask, what the kind has of its own (a gate 9, a drive 42), known (a gate 1, a drive 2).
+// ENTRY: KIND, divisor, place (3), mask, what the kind has of its own (a gate 9, a drive 42), known (a gate 1, a drive 2).
 use crate::settings::put_place;
 use crate::settings::put_settings;
 use crate::settings::read_place;
@@ -22,9 +22,9 @@ ghost use Rattle.layout.specs.Entries.{entryLength, isEntry, areEntries,
 ghost use Rattle.layout.specs.Entries.{gateBits, motionBits, driveBits, sharedBits, putKnown, putEntry, putEntries};
 
 // How many bytes an entry has, by its kind.
-const GATE_ENTRY: usize = 15;
+const GATE_ENTRY: usize = 16;
 
-const DRIVE_ENTRY: usize = 49;
+const DRIVE_ENTRY: usize = 50;
 
 // How many entries a session has.
 const ENTRIES: usize = wire::MOST_NODES;
@@ -33,7 +33,7 @@ const ENTRIES: usize = wire::MOST_NODES;
 fn entry_length(s: &[u8]) -> usize
     ensures { λ r. ⌜ r ≡ entryLength (now (s .entry)) ⌝ }
     ensures some { λ r. ⌜ 1 ≤ r ⌝ }
-    ensures within { λ r. ⌜ r ≤ 49 ⌝ }
+    ensures within { λ r. ⌜ r ≤ 50 ⌝ }
 {
     match read_kind(byte(s, 0)) {
         Kind::Gate => GATE_ENTRY,
@@ -41,12 +41,12 @@ fn entry_length(s: &[u8]) -> usize
     }
 }
 
-// Whether s starts with an entry: its kind is one, all of it is there, leader is a flag, and the two highest bits of known are 0.
+// Whether s starts with an entry: its kind is one, all of it is there, leader is a flag, and the highest bit of known is 0.
 fn is_entry(s: &[u8]) -> bool
     ensures { λ r. ⌜ r ≡ isEntry (now (s .entry)) ⌝ }
 {
     let n = entry_length(s);
-    is_kind(byte(s, 0)) & (n <= s.len()) & (byte(s, 3) < 2) & (byte(s, n - 1) < 64)
+    is_kind(byte(s, 0)) & (n <= s.len()) & (byte(s, 4) < 2) & (byte(s, n - 1) < 128)
 }
 
 // Whether s is the 31 entries of a session.
@@ -103,7 +103,7 @@ fn drive_known(bits: u16) -> DriveKnown
     }
 }
 
-// Bits 0 and 1: place, mask; then what the kind has of its own. What it has none of is known.
+// Bits 0 and 1: place, mask; then what the kind has of its own; then the divisor. What it has none of is known.
 fn read_known(kind: Kind, bits: u16) -> Known
     ensures { λ r. ⌜ r ≡ readKnown kind bits ⌝ }
 {
@@ -117,12 +117,14 @@ fn read_known(kind: Kind, bits: u16) -> Known
         Kind::Gate => Known {
             place,
             mask,
+            divisor: bits / 64 % 2 == 1,
             gate: gate_known(bits / 4),
             drive,
         },
         Kind::Drive => Known {
             place,
             mask,
+            divisor: bits / 16384 % 2 == 1,
             gate,
             drive: drive_known(bits / 4),
         },
@@ -134,8 +136,8 @@ fn bits_in(kind: Kind, s: &[u8]) -> u16
     ensures { λ r. ⌜ r ≡ bitsIn kind (now (s .entry)) ⌝ }
 {
     match kind {
-        Kind::Gate => byte(s, 14) as u16,
-        Kind::Drive => word(s, 47),
+        Kind::Gate => byte(s, 15) as u16,
+        Kind::Drive => word(s, 48),
     }
 }
 
@@ -144,7 +146,7 @@ fn read_entry(s: &[u8]) -> Entry
     ensures { λ r. ⌜ r ≡ readEntry (now (s .entry)) ⌝ }
 {
     let kind = read_kind(byte(s, 0));
-    let settings = read_settings(kind, read_place(rest(s, 1)), rest(s, 4));
+    let settings = read_settings(kind, byte(s, 1), read_place(rest(s, 2)), rest(s, 5));
     let known = read_known(kind, bits_in(kind, s));
     Entry {
         settings,
@@ -207,7 +209,7 @@ fn drive_bits(k: DriveKnown) -> u16
     low as u16 + waiting as u16 * 4 + in_force as u16 * 128
 }
 
-// Of what both kinds have.
+// Of place and mask, which both kinds have in the same bits.
 fn shared_bits(k: Known) -> u8
     ensures { λ r. ⌜ r ≡ sharedBits k ⌝ }
     ensures within { λ r. ⌜ r ≤ 3 ⌝ }
@@ -215,14 +217,15 @@ fn shared_bits(k: Known) -> u8
     bit(k.place, 1) + bit(k.mask, 2)
 }
 
-// With the bits of what is known more, by the kind.
+// With the bits of what is known more, by the kind: the divisor's is bit 6 of the last byte.
 fn put_known(a: Answer, kind: Kind, k: Known) -> Answer
     ensures { λ r. ⌜ r ≡ putKnown a kind k ⌝ }
 {
     let low = shared_bits(k);
+    let pace = bit(k.divisor, 64);
     match kind {
-        Kind::Gate => a.put(low + gate_bits(k.gate) * 4),
-        Kind::Drive => a.put_word(low as u16 + drive_bits(k.drive) * 4),
+        Kind::Gate => a.put(low + gate_bits(k.gate) * 4 + pace),
+        Kind::Drive => a.put_word(low as u16 + drive_bits(k.drive) * 4 + pace as u16 * 256),
     }
 }
 
@@ -232,7 +235,7 @@ fn put_entry(a: Answer, e: Entry) -> Answer
 {
     let kind = e.kind;
     let s = e.settings;
-    let a = put_place(a.put_kind(kind), s.place);
+    let a = put_place(a.put_kind(kind).put(s.divisor), s.place);
     put_known(put_settings(a, kind, s), kind, e.known)
 }
 

@@ -1,4 +1,4 @@
-// NODE: KIND, place (3), addressed, mask, and then
+// NODE: KIND, divisor, place (3), addressed, mask, and then
 // of a gate its settings (9), bench values (11), captured ones (6); of a drive its settings (42), its position and bench values (16).
 use crate::settings::put_place;
 use crate::settings::put_settings;
@@ -21,9 +21,9 @@ ghost use Rattle.layout.specs.Nodes.{nodeLength, isNode, areNodes, nodes
 ghost use Rattle.layout.specs.Nodes.{putGateBench, putDriveBench, putCaptured, putShown, putNode, putNodes};
 
 // How many bytes a record has, by its kind.
-const GATE_NODE: usize = 32;
+const GATE_NODE: usize = 33;
 
-const DRIVE_NODE: usize = 64;
+const DRIVE_NODE: usize = 65;
 
 // How many records a line may lend, and a table has room for.
 const MOST_LENT: usize = wire::MOST_NODES + 2;
@@ -31,7 +31,7 @@ const MOST_LENT: usize = wire::MOST_NODES + 2;
 // How many bytes the record at the start of s has.
 fn node_length(s: &[u8]) -> usize
     ensures { λ r. ⌜ r ≡ nodeLength (now (s .entry)) ⌝ }
-    ensures within { λ r. ⌜ r ≤ 64 ⌝ }
+    ensures within { λ r. ⌜ r ≤ 65 ⌝ }
 {
     match read_kind(byte(s, 0)) {
         Kind::Gate => GATE_NODE,
@@ -43,7 +43,7 @@ fn node_length(s: &[u8]) -> usize
 fn is_node(s: &[u8]) -> bool
     ensures { λ r. ⌜ r ≡ isNode (now (s .entry)) ⌝ }
 {
-    is_kind(byte(s, 0)) & (node_length(s) <= s.len()) & (byte(s, 3) < 2) & (byte(s, 4) < 2)
+    is_kind(byte(s, 0)) & (node_length(s) <= s.len()) & (byte(s, 4) < 2) & (byte(s, 5) < 2)
 }
 
 // Whether s starts with so many records, and a line may lend them.
@@ -135,10 +135,10 @@ fn read_captured(s: &[u8]) -> Captured
 fn read_gate_node(s: &[u8]) -> Node
     ensures { λ r. ⌜ r ≡ readGateNode (now (s .entry)) ⌝ }
 {
-    let addressed = byte(s, 3) == 1;
-    let settings = read_settings(Kind::Gate, read_place(s), rest(s, 4));
-    let bench = gate_bench(rest(s, 14));
-    let captured = read_captured(rest(s, 25));
+    let addressed = byte(s, 4) == 1;
+    let settings = read_settings(Kind::Gate, byte(s, 0), read_place(rest(s, 1)), rest(s, 5));
+    let bench = gate_bench(rest(s, 15));
+    let captured = read_captured(rest(s, 26));
     Node {
         settings,
         bench,
@@ -153,9 +153,9 @@ fn read_gate_node(s: &[u8]) -> Node
 fn read_drive_node(s: &[u8]) -> Node
     ensures { λ r. ⌜ r ≡ readDriveNode (now (s .entry)) ⌝ }
 {
-    let addressed = byte(s, 3) == 1;
-    let settings = read_settings(Kind::Drive, read_place(s), rest(s, 4));
-    let shown = rest(s, 47);
+    let addressed = byte(s, 4) == 1;
+    let settings = read_settings(Kind::Drive, byte(s, 0), read_place(rest(s, 1)), rest(s, 5));
+    let shown = rest(s, 48);
     let bench = drive_bench(shown);
     let captured = Captured {
         counter: 0,
@@ -245,7 +245,7 @@ fn put_node(a: Answer, n: Node) -> Answer
 {
     let kind = n.kind;
     let s = n.settings;
-    let a = put_place(a.put_kind(kind), s.place).put_flag(n.addressed);
+    let a = put_place(a.put_kind(kind).put(s.divisor), s.place).put_flag(n.addressed);
     put_shown(put_settings(a, kind, s), kind, n)
 }
 

@@ -1,4 +1,4 @@
-// What both records have: the place, and the settings behind it.
+// What both records have: divisor and place, and the settings behind them.
 use command::Gains;
 use command::Held;
 use command::Motion;
@@ -102,9 +102,9 @@ fn read_drive(s: &[u8]) -> DriveSettings
     }
 }
 
-// Mask, and what the kind has of its own; the other kind's is as at power-up.
-pub(crate) fn read_settings(kind: Kind, place: Place, s: &[u8]) -> Settings
-    ensures { λ r. ⌜ r ≡ readSettings kind place (now (s .entry)) ⌝ }
+// Mask, and what the kind has of its own, behind divisor and place; the other kind's is as at power-up.
+pub(crate) fn read_settings(kind: Kind, divisor: u8, place: Place, s: &[u8]) -> Settings
+    ensures { λ r. ⌜ r ≡ readSettings kind divisor place (now (s .entry)) ⌝ }
 {
     let mask = byte(s, 0);
     match kind {
@@ -113,12 +113,14 @@ pub(crate) fn read_settings(kind: Kind, place: Place, s: &[u8]) -> Settings
             gate: read_gate(rest(s, 1)),
             place,
             mask,
+            divisor,
         },
         Kind::Drive => Settings {
             drive: read_drive(rest(s, 1)),
             gate: GateSettings::power_up(),
             place,
             mask,
+            divisor,
         },
     }
 }

@@ -20,7 +20,7 @@ module _ (s : List ℕ) (k : ℕ) (e : k ≡ fieldsByte s 0) where
   unfolding exchangeLength
   length-idle h = rw (← e, lt-ltb k 1 h)
 
-  pub length-waiting : (n : ℕ) (p : List ℕ) → 1 ≤ k → p ≡ drop 1 s → n ≡ dataCount p → 5 + n ≡ exchangeLength s
+  pub length-waiting : (n : ℕ) (p : List ℕ) → 1 ≤ k → p ≡ drop 2 s → n ≡ dataCount p → 6 + n ≡ exchangeLength s
   unfolding exchangeLength
   length-waiting n p h d q = rw (← e, le-ltb k 1 h, ← d, ← q)
 
@@ -28,7 +28,7 @@ module _ (s : List ℕ) (k : ℕ) (e : k ≡ fieldsByte s 0) where
   unfolding isExchange
   exchange-idle h = rw (← e, eq-eqb k 0 h)
 
-  pub exchange-order : (p : List ℕ) (r : Bool) → k ≡ 1 → p ≡ drop 1 s → r ≡ isOrder p → r ≡ isExchange s
+  pub exchange-order : (p : List ℕ) (r : Bool) → k ≡ 1 → p ≡ drop 2 s → r ≡ isOrder p → r ≡ isExchange s
   unfolding isExchange
   exchange-order p r h d q = rw (← e, h, ← d) q
 
@@ -40,12 +40,14 @@ module _ (s : List ℕ) (k : ℕ) (e : k ≡ fieldsByte s 0) where
   unfolding readExchange
   reads-idle h = rw (← e, lt-ltb k 1 h)
 
-  pub reads-waiting : (p : List ℕ) (to : Address) (c : Command) → 1 ≤ k → p ≡ drop 1 s → to ≡ readTarget p → c ≡ readCommand p → Waiting to c ≡ readExchange s
+  pub reads-waiting : (p : List ℕ) (at : ℕ) (to : Address) (c : Command) → 1 ≤ k → p ≡ drop 2 s → at ≡ fieldsByte s 1 → to ≡ readTarget p → c ≡ readCommand p
+      → Waiting at to c ≡ readExchange s
   unfolding readExchange
-  reads-waiting p to c h d q r = rw (← e, le-ltb k 1 h, ← d, ← q, ← r)
+  reads-waiting p at to c h d v q r = rw (← e, le-ltb k 1 h, ← d, ← v, ← q, ← r)
 
 pub idle-put : (a y : Answer) (x : Exchange) → x ≡ Idle → y ≡ answerPut a 0 → y ≡ putExchange a x
 idle-put a y x p q = rw p q
 
-pub waiting-put : (a b y : Answer) (x : Exchange) (to : Address) (c : Command) → x ≡ Waiting to c → b ≡ answerPut a 1 → y ≡ putOrder b to c → y ≡ putExchange a x
-waiting-put a b y x to c p q r = rw (p, ← q) r
+pub waiting-put : (a b d y : Answer) (x : Exchange) (at : ℕ) (to : Address) (c : Command) → x ≡ Waiting at to c → b ≡ answerPut a 1 → d ≡ answerPut b at → y ≡ putOrder d to c
+    → y ≡ putExchange a x
+waiting-put a b d y x at to c p q v r = rw (p, ← q, ← v) r

@@ -1,8 +1,9 @@
 -- ORDER; a law for each exit of the code.
 use Prim.Native.Nat.{ℕ, _+_, _%_, _<_, _≤_}
-use mathlib.Core.Bool.{Bool, true, false}
+use mathlib.Core.Bool.{Bool, true, false, not, _||_}
 use mathlib.Core.List.{List, [], _∷_}
 use mathlib.Core.Path.{_≡_}
+use lib.Dec.{eqb}
 use lib.ListN.{length, drop, getD, replicate}
 use borrow.Author.Tests.{lt-ltb, le-ltb, eq-eqb, ne-eqb}
 use Rattle.wire.specs.Address.{byteOf}
@@ -17,8 +18,10 @@ use Rattle.codec.specs.Reading.{codecRead}
 use Rattle.codec.specs.Own.{driveOwn}
 use Rattle.codec.specs.Build.{packetTo}
 use Rattle.command.specs.Owner.{has}
+use Rattle.command.specs.Role.{roleOf, isPacing}
 use Rattle.command.specs.declared.Command.{Command}
 use Rattle.command.specs.declared.Command.the-variants.{Nop}
+use Rattle.command.specs.declared.Role.{Role}
 use Rattle.command.specs.declared.Reading.{Reading}
 use Rattle.command.specs.declared.Reading.the-variants.{Known, Other}
 use Rattle.fields.specs.declared.answer.Answer.{Answer}
@@ -63,8 +66,8 @@ module _ (s : List ℕ) where
   unfolding readOrder
   order-read n k y c p r l e q f h i g d m = rw (le-ltb (length s) 4 l, ← e, eq-eqb (length s) (4 + n) q, ← f, le-ltb 1 k h, ← i, ← g, ← d) m
 
-  pub order-is : (r : Reading) (c : Command) → r ≡ readOrder s → r ≡ Known c → true ≡ isOrder s
-  order-is r c p q = rw (← p, q)
+  pub order-is : (r : Reading) (c : Command) (o : Role) (k : ℕ) (t : Bool) → r ≡ readOrder s → r ≡ Known c → o ≡ roleOf c → t ≡ isPacing o → k ≡ fieldsByte s 0 → (not t || eqb k 1) ≡ isOrder s
+  order-is r c o k t p q h i j = rw (← p, q, ← h, ← i, ← j)
 
   pub order-not : (r : Reading) → r ≡ readOrder s → r ≡ Other → false ≡ isOrder s
   order-not r p q = rw (← p, q)

@@ -1,4 +1,4 @@
--- EXCHANGE: "00", or "01 kind target FAMILY command-byte data..".
+-- EXCHANGE: "00", or "01 divisor kind target FAMILY command-byte data..".
 use Prim.Native.Nat.{ℕ, _+_}
 use mathlib.Core.Bool.{Bool, true, false, cond}
 use mathlib.Core.List.{List}
@@ -13,17 +13,17 @@ use Rattle.state.specs.Order.{dataCount, isOrder, readTarget, readComman
 
 -- how many bytes the exchange at the start of s has
 unfoldable pub exchangeLength : List ℕ → ℕ
-exchangeLength s = cond (ltb (fieldsByte s 0) 1) 1 (5 + dataCount (drop 1 s))
+exchangeLength s = cond (ltb (fieldsByte s 0) 1) 1 (6 + dataCount (drop 2 s))
 
 -- s is an exchange
 unfoldable pub isExchange : List ℕ → Bool
-isExchange s = cond (eqb (fieldsByte s 0) 0) true (cond (eqb (fieldsByte s 0) 1) (isOrder (drop 1 s)) false)
+isExchange s = cond (eqb (fieldsByte s 0) 0) true (cond (eqb (fieldsByte s 0) 1) (isOrder (drop 2 s)) false)
 
--- the exchange that s is
+-- the exchange that s is, "with the divisor that it was sent at"
 unfoldable pub readExchange : List ℕ → Exchange
-readExchange s = cond (ltb (fieldsByte s 0) 1) Idle (Waiting (readTarget (drop 1 s)) (readCommand (drop 1 s)))
+readExchange s = cond (ltb (fieldsByte s 0) 1) Idle (Waiting (fieldsByte s 1) (readTarget (drop 2 s)) (readCommand (drop 2 s)))
 
 -- an exchange more
 abbrev pub putExchange : Answer → Exchange → Answer
 putExchange a Idle = answerPut a 0
-putExchange a (Waiting to c) = putOrder (answerPut a 1) to c
+putExchange a (Waiting at to c) = putOrder (answerPut (answerPut a 1) at) to c

@@ -1,6 +1,6 @@
 -- ORDER: "kind target FAMILY command-byte data..", a command with whom it is for.
 use Prim.Native.Nat.{ℕ, _+_, _/_, _%_}
-use mathlib.Core.Bool.{Bool, true, false, cond}
+use mathlib.Core.Bool.{Bool, false, cond, not, _||_}
 use mathlib.Core.List.{List, [], _∷_}
 use lib.Dec.{ltb, eqb}
 use lib.ListN.{length, drop, getD, replicate}
@@ -14,6 +14,7 @@ use Rattle.codec.specs.Reading.{codecRead}
 use Rattle.codec.specs.Own.{driveOwn}
 use Rattle.codec.specs.Build.{packetTo}
 use Rattle.command.specs.Owner.{has}
+use Rattle.command.specs.Role.{roleOf, isPacing}
 use Rattle.command.specs.declared.Command.{Command}
 use Rattle.command.specs.declared.Command.the-variants.{Nop}
 use Rattle.command.specs.declared.Reading.{Reading}
@@ -40,14 +41,14 @@ readOrder s =
     cond (ltb (length s) 4) Other
     (cond (eqb (length s) (4 + dataCount s)) (cond (ltb 1 (fieldsByte s 0)) Other (orderCommand s)) Other)
 
--- a command was read
-abbrev pub isKnown : Reading → Bool
-isKnown (Known c) = true
-isKnown Other = false
+-- a command was read, and of a Set Baud Rate the kind is "01 (a group) only"
+abbrev pub isOrdered : ℕ → Reading → Bool
+isOrdered k (Known c) = not (isPacing (roleOf c)) || eqb k 1
+isOrdered k Other = false
 
 -- s is an order
 abbrev pub isOrder : List ℕ → Bool
-isOrder s = isKnown (readOrder s)
+isOrder s = isOrdered (fieldsByte s 0) (readOrder s)
 
 -- the command that was read; Nop for none
 abbrev pub knownOf : Reading → Command

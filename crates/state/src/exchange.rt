@@ -1,4 +1,4 @@
-// EXCHANGE: `00`, or `01 ORDER`.
+// EXCHANGE: `00`, or `01 divisor ORDER`, the divisor being the one that the order was sent at.
 use crate::order::data_count;
 use crate::order::is_order;
 use crate::order::put_order;
@@ -18,7 +18,7 @@ pub(crate) fn exchange_length(s: &[u8]) -> usize
     if byte(s, 0) < 1 {
         return 1;
     }
-    5 + data_count(rest(s, 1)) as usize
+    6 + data_count(rest(s, 2)) as usize
 }
 
 // Whether s is an EXCHANGE.
@@ -27,7 +27,7 @@ pub(crate) fn is_exchange(s: &[u8]) -> bool
 {
     match byte(s, 0) {
         0 => true,
-        1 => is_order(rest(s, 1)),
+        1 => is_order(rest(s, 2)),
         _ => false,
     }
 }
@@ -39,8 +39,9 @@ pub(crate) fn read_exchange(s: &[u8]) -> Exchange
     if byte(s, 0) < 1 {
         return Exchange::Idle;
     }
-    let order = rest(s, 1);
+    let order = rest(s, 2);
     Exchange::Waiting {
+        at: byte(s, 1),
         to: read_target(order),
         command: read_command(order),
     }
@@ -52,6 +53,6 @@ pub(crate) fn put_exchange(a: Answer, x: Exchange) -> Answer
 {
     match x {
         Exchange::Idle => a.put(0),
-        Exchange::Waiting { to, command } => put_order(a.put(1), to, command),
+        Exchange::Waiting { at, to, command } => put_order(a.put(1).put(at), to, command),
     }
 }

@@ -46,12 +46,12 @@ fn read_order(s: &[u8]) -> Reading
     read_family(byte(s, 2), byte(s, 3) % 16, rest(s, 4))
 }
 
-// Whether s is an order.
+// Whether s is an order: Set Baud Rate only to a group.
 pub fn is_order(s: &[u8]) -> bool
     ensures { λ r. ⌜ r ≡ isOrder (now (s .entry)) ⌝ }
 {
     match read_order(s) {
-        Reading::Known(_) => true,
+        Reading::Known(c) => !c.role().is_pacing() | (byte(s, 0) == 1),
         Reading::Other => false,
     }
 }

@@ -12,7 +12,7 @@ use Rattle.layout.proofs.entries.are_entries.Statement.{statement}
 use Rattle.layout.proofs.entries.are_entries.Tie as tie
 
 abbrev Inv-loop : tie.InvT-loop
-Inv-loop s at₀ i₀ at i = (i ≤ 31) × (at ≤ 49 * i) × Looking s i at × (at + recordsLength entryLength (31 - i) (drop at s) ≡ recordsLength entryLength 31 s)
+Inv-loop s at₀ i₀ at i = (i ≤ 31) × (at ≤ 50 * i) × Looking s i at × (at + recordsLength entryLength (31 - i) (drop at s) ≡ recordsLength entryLength 31 s)
 
 abbrev μ-loop : tie.MeasureT-loop
 μ-loop s at₀ i₀ at i = 31 - i

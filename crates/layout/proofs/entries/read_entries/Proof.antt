@@ -11,7 +11,7 @@ use Rattle.layout.proofs.entries.read_entries.Statement.{statement}
 use Rattle.layout.proofs.entries.read_entries.Tie as tie
 
 abbrev Inv-loop : tie.InvT-loop
-Inv-loop s entries₀ at₀ i₀ entries at i = (i ≤ 31) × (at ≤ 49 * i) × (length entries ≡ 31) × Reading entryLength readEntry 31 s entries i at
+Inv-loop s entries₀ at₀ i₀ entries at i = (i ≤ 31) × (at ≤ 50 * i) × (length entries ≡ 31) × Reading entryLength readEntry 31 s entries i at
 
 abbrev μ-loop : tie.MeasureT-loop
 μ-loop s entries₀ at₀ i₀ entries at i = 31 - i

@@ -12,7 +12,7 @@ use Rattle.layout.proofs.nodes.are_nodes.Statement.{statement}
 use Rattle.layout.proofs.nodes.are_nodes.Tie as tie
 
 abbrev Inv-loop : tie.InvT-loop
-Inv-loop s count at₀ i₀ at i = (count ≤ 33) × (i ≤ count) × (at ≤ 64 * i) × (allAre isNode (recordsFrom nodeLength (count - i) (drop at s)) ≡ areNodes s count)
+Inv-loop s count at₀ i₀ at i = (count ≤ 33) × (i ≤ count) × (at ≤ 65 * i) × (allAre isNode (recordsFrom nodeLength (count - i) (drop at s)) ≡ areNodes s count)
 
 abbrev μ-loop : tie.MeasureT-loop
 μ-loop s count at₀ i₀ at i = count - i

@@ -12,7 +12,7 @@ use Rattle.layout.proofs.nodes.nodes_length.Statement.{statement}
 use Rattle.layout.proofs.nodes.nodes_length.Tie as tie
 
 abbrev Inv-loop : tie.InvT-loop
-Inv-loop s count at₀ i₀ at i = (count ≤ 33) × (i ≤ count) × (at ≤ 64 * i) × (at + recordsLength nodeLength (count - i) (drop at s) ≡ recordsLength nodeLength count s)
+Inv-loop s count at₀ i₀ at i = (count ≤ 33) × (i ≤ count) × (at ≤ 65 * i) × (at + recordsLength nodeLength (count - i) (drop at s) ≡ recordsLength nodeLength count s)
 
 abbrev μ-loop : tie.MeasureT-loop
 μ-loop s count at₀ i₀ at i = count - i

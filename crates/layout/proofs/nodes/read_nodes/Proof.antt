@@ -11,7 +11,7 @@ use Rattle.layout.proofs.nodes.read_nodes.Statement.{statement}
 use Rattle.layout.proofs.nodes.read_nodes.Tie as tie
 
 abbrev Inv-loop : tie.InvT-loop
-Inv-loop s nodes₀ at₀ i₀ nodes at i = (i ≤ 33) × (at ≤ 64 * i) × (length nodes ≡ 33) × Reading nodeLength readNode 33 s nodes i at
+Inv-loop s nodes₀ at₀ i₀ nodes at i = (i ≤ 33) × (at ≤ 65 * i) × (length nodes ≡ 33) × Reading nodeLength readNode 33 s nodes i at
 
 abbrev μ-loop : tie.MeasureT-loop
 μ-loop s nodes₀ at₀ i₀ nodes at i = 33 - i

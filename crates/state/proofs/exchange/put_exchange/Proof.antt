@@ -13,5 +13,6 @@ put-exchange-spec =
     (λ c. search needs)
     (λ c κs. search needs)
     (λ c κs. search needs)
+    (λ c κs. search needs)
     (λ c. search idle-put)
     (λ c. search waiting-put))

@@ -13,4 +13,5 @@ read-exchange-spec =
     (λ c κs. search needs)
     (λ c κs. search needs)
     (λ c κs. search needs)
+    (λ c κs. search needs)
     (λ c. search reads-waiting))

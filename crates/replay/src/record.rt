@@ -18,6 +18,7 @@ use wire::Kind;
 struct Chosen {
     place: bool,
     mask: bool,
+    divisor: bool,
     gate: GateChosen,
     drive: DriveChosen,
 }
@@ -32,6 +33,7 @@ impl Chosen {
     const ALL: Chosen = Chosen {
         place: true,
         mask: true,
+        divisor: true,
         gate: GateChosen::ALL,
         drive: DriveChosen::ALL,
     };
@@ -45,6 +47,7 @@ impl Chosen {
         Chosen {
             place: is_other_place(s.place, t.place) | (k.place != l.place),
             mask: (s.mask != t.mask) | (k.mask != l.mask),
+            divisor: (s.divisor != t.divisor) | (k.divisor != l.divisor),
             gate: GateChosen::changed(s.gate, k.gate, t.gate, l.gate),
             drive: DriveChosen::changed(s.drive, k.drive, t.drive, l.drive),
         }
@@ -58,7 +61,7 @@ impl Chosen {
             Kind::Gate => gate.has_any(),
             Kind::Drive => drive.has_any(),
         };
-        self.place | self.mask | own
+        self.place | self.mask | self.divisor | own
     }
 }
 
@@ -80,7 +83,13 @@ fn put_settings(e: Entry, chosen: Chosen) {
         put_byte(settings.mask);
         put_doubt(known.mask);
     }
-    let behind = chosen.place | chosen.mask;
+    let behind_mask = chosen.place | chosen.mask;
+    if chosen.divisor {
+        put_name(behind_mask, b"divisor ");
+        put_byte(settings.divisor);
+        put_doubt(known.divisor);
+    }
+    let behind = behind_mask | chosen.divisor;
     let kind = e.kind;
     match kind {
         Kind::Gate => gate.put(settings.gate, known.gate, behind),

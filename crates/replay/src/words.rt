@@ -81,6 +81,7 @@ fn put_command(c: Command) {
             put_held(held);
         }
         Command::SetTimerMode(mode) => put_with_byte(b"Set Timer Mode ", mode),
+        Command::SetBaudRate(divisor) => put_with_byte(b"Set Baud Rate ", divisor),
         Command::SynchInput => put(b"Synch Input"),
         Command::Nop => put(b"Nop"),
         Command::HardReset => put(b"Hard Reset"),
@@ -140,6 +141,10 @@ pub(crate) fn kind_of_call(call: Call) -> Kind {
             node: _,
             group: _,
             leader: _,
+        } => Kind::Gate,
+        Call::SetBaudRate {
+            group: _,
+            divisor: _,
         } => Kind::Gate,
     }
 }

@@ -53,5 +53,5 @@ pub event-none : (e : Event) (from to : Cursor) (out : List ℕ) (at : ℕ) → 
 event-none e from to out at f = rw f (each-none out at)
 
 -- the bytes of an answer are few
-pub state-fits : (b d : List ℕ) (at n : ℕ) → d ≡ take n b → length b ≡ 2178 → at ≤ 0x8005 → at + length d < 0x100000
+pub state-fits : (b d : List ℕ) (at n : ℕ) → d ≡ take n b → length b ≡ 2211 → at ≤ 0x8005 → at + length d < 0x100000
 state-fits b d at n e l h = rw e (omega (arith, length-take n b))

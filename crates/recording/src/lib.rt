@@ -30,7 +30,7 @@ pub struct Stage {
 pub enum Event {
     // A command, which this call of the host gives.
     Sent(Call),
-    // A command that the host couldn't have sent. It ends the walk.
+    // A command that the host couldn't have sent, or a Set Baud Rate. It ends the walk.
     Foreign,
     // A reply that a command waited for.
     Answered,
@@ -56,7 +56,7 @@ pub struct Begun {
 pub enum Ending {
     // With the recording.
     Ended,
-    // With a command that the host couldn't have sent.
+    // With a command that the host couldn't have sent, or with a Set Baud Rate.
     Foreign,
     Refused(Refusal),
 }

@@ -116,11 +116,7 @@ pub fn glance(seen: Seen, n: Node, incoming: Incoming) -> Seen
     ensures { λ r. ⌜ r ≡ glanceOf incoming seen n ⌝ }
 {
     match incoming {
-        Incoming::Whole {
-            to,
-            at,
-            messages: _,
-        } => glance_for(seen, n, at, to),
+        Incoming::Whole { to, at, .. } => glance_for(seen, n, at, to),
         Incoming::Unread(_) => glance_past(seen, n),
     }
 }
@@ -160,11 +156,7 @@ pub fn plan_of(incoming: Incoming, seen: Seen, n: usize) -> Plan
     }
     if seen.ranged {
         return match incoming {
-            Incoming::Whole {
-                to: _,
-                at: _,
-                messages,
-            } => plan_for(messages, seen, n),
+            Incoming::Whole { messages, .. } => plan_for(messages, seen, n),
             Incoming::Unread(why) => Plan::Refuse(why),
         };
     }

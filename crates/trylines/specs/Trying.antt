@@ -37,11 +37,11 @@ trylinesAnswer kind args =
     (cond (eqb kind 0x43) (exportCopied args)
     malformedOf)))))))
 
--- what a line makes: the host's lines, 30 to 38, on the session; the others leave it as it is
+-- what a line makes: the host's lines, 30 to 39, on the session; the others leave it as it is
 unfoldable pub trylinesAttempt : Session → ℕ → List ℕ → Tried
 trylinesAttempt s kind args = cond (eqb (kind / 16) 3) (attemptOf s kind args) (withSession (trylinesAnswer kind args) s)
 
--- the session after a line: "The session of `30` to `38` isn't touched" by 50
+-- the session after a line: "The session of `30` to `39` isn't touched" by 50
 unfoldable pub tryBytes : Session → ℕ → List ℕ → Session
 tryBytes s kind args = cond (eqb kind 0x50) s (trylinesAttempt s kind args .session)
 

@@ -1,6 +1,6 @@
 // The lines of `trials` by their first byte, and all lines of an input: each topic of lines is a crate of its own, and has a row here.
 // Promised: what a line is answered, but for that of a recording, which tryrecording promises; the session after it; and the session after all lines of an input.
-// Left to others: the lines of each topic (trypacket, trychain, tryhost, trysheet, tryrecording), and what comes in (trials, carousels).
+// Left to others: the lines of each topic (trypacket, trychain, tryhost, trysheet, tryrecording), and what comes in (trials, carousels, divisors).
 // What is written to standard output no contract can say: it is run, and compared.
 use buffer::Built;
 use fields::Answer;
@@ -36,20 +36,20 @@ fn bytes_room() -> [u8; 21846]
 
 // Room for the line of the longest answer.
 fn line_room() -> [u8; 3 * fields::MOST_BYTES]
-    ensures { λ r. ⌜ 6534 ≡ length r ⌝ }
+    ensures { λ r. ⌜ 6633 ≡ length r ⌝ }
 {
     [0; 3 * fields::MOST_BYTES]
 }
 
 // Room for the answer to a recording, which is longer than all others, and for its line.
 fn recording_room() -> [u8; tryrecording::MOST_BYTES]
-    ensures { λ r. ⌜ 11785 ≡ length r ⌝ }
+    ensures { λ r. ⌜ 11817 ≡ length r ⌝ }
 {
     [0; tryrecording::MOST_BYTES]
 }
 
 fn recording_line_room() -> [u8; 3 * tryrecording::MOST_BYTES]
-    ensures { λ r. ⌜ 35355 ≡ length r ⌝ }
+    ensures { λ r. ⌜ 35451 ≡ length r ⌝ }
 {
     [0; 3 * tryrecording::MOST_BYTES]
 }

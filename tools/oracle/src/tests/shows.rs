@@ -1,30 +1,60 @@
-//! What `shows/README.md` prints for the sheets and recordings of `shows/` is what
-//! is played and replayed.
+//! What `shows/README.md` prints for the rehearsals, sheets and recordings of `shows/`
+//! is what is played and replayed.
 
+use crate::bench;
 use crate::cases_replay;
 use crate::cases_sheets::further_plays;
 use crate::play;
 use crate::replay;
 use crate::rules::Rules;
 
-/// The document that prints the sheets, each with its outputs.
+/// The document that prints them, each with its outputs.
 const DOCUMENT: &str = include_str!("../../../../shows/README.md");
 
-/// The rows of the table under a file's heading: a line of the sheet, and the
-/// output printed for it.
-fn rows(file: &str) -> Vec<(&'static str, &'static str)> {
+/// The table under a file's heading: of each row what it prints of the input, and what
+/// of the output, as lines.
+fn table(file: &str) -> Vec<(String, String)> {
     let heading = format!("## {file}: ");
     DOCUMENT
         .lines()
         .skip_while(|line| !line.starts_with(&heading))
         .skip(1)
         .take_while(|line| !line.starts_with("## "))
-        .filter(|line| line.starts_with("| `"))
-        .map(|row| match row.split('`').collect::<Vec<_>>()[..] {
-            [_, line, _, output, ..] => (line, output),
-            _ => panic!("a row without an output: {row}"),
+        .filter(|line| line.starts_with("| ") && !line.contains("| Output |"))
+        .map(|row| {
+            let row = cells(row);
+            (quoted(&row[1]), quoted(&row[2]))
         })
         .collect()
+}
+
+/// A rehearsal, its packets and its output, as the document prints them; a row that
+/// quotes no packet has the empty one.
+#[test]
+fn rehearsals_are_played_as_printed() {
+    for (name, text) in [
+        ("two-gates", include_str!("../../../../shows/two-gates.txt")),
+        (
+            "addressing",
+            include_str!("../../../../shows/addressing.txt"),
+        ),
+        ("group", include_str!("../../../../shows/group.txt")),
+        ("lost-sum", include_str!("../../../../shows/lost-sum.txt")),
+        ("collision", include_str!("../../../../shows/collision.txt")),
+        (
+            "full-speed",
+            include_str!("../../../../shows/full-speed.txt"),
+        ),
+    ] {
+        let (mut packets, mut output) = (String::new(), String::new());
+        for (packet, answer) in table(&format!("{name}.txt")) {
+            packets += if packet.is_empty() { "\n" } else { &packet };
+            output += &answer;
+        }
+        let (_, lines) = text.split_once('\n').expect("a node count");
+        assert_eq!(packets, lines, "{name}");
+        assert_eq!(bench::run(Rules::RIGHT, text.as_bytes()), output, "{name}");
+    }
 }
 
 /// The node count, the sheet and its outputs, as the document prints them.
@@ -34,9 +64,9 @@ fn sheets_are_played_as_printed() {
         let command = format!("./sheet play {nodes} shows/{name}.hex");
         assert!(DOCUMENT.contains(&command), "{command}");
         let (mut sheet, mut outputs) = (format!("{nodes}\n"), String::new());
-        for (line, output) in rows(&format!("{name}.hex")) {
-            sheet += &format!("{line}\n");
-            outputs += &format!("{output}\n");
+        for (line, output) in table(&format!("{name}.hex")) {
+            sheet += &line;
+            outputs += &output;
         }
         let mut inputs = further_plays().into_iter();
         let (_, input) = inputs.find(|(own, _)| *own == name).expect("its name");
@@ -54,9 +84,10 @@ fn cells(row: &str) -> Vec<String> {
         .collect()
 }
 
-/// What stands between backquotes in a cell.
-fn quoted(cell: &str) -> Vec<&str> {
-    cell.split('`').skip(1).step_by(2).collect()
+/// What stands between backquotes in a cell, a line each.
+fn quoted(cell: &str) -> String {
+    let parts = cell.split('`').skip(1).step_by(2);
+    parts.map(|part| format!("{part}\n")).collect()
 }
 
 /// The recordings of `shows/`, their runs and what is written of them, as the
@@ -84,18 +115,10 @@ fn recordings_are_replayed_as_printed() {
         let mut inputs = cases_replay::further().into_iter();
         let (_, input) = inputs.find(|(own, _)| *own == name).expect("its name");
         assert_eq!(String::from_utf8_lossy(&input), text, "{name}");
-        let heading = format!("## {name}.txt: ");
         let (mut runs, mut output) = (format!("{first}\n"), String::new());
-        for row in DOCUMENT
-            .lines()
-            .skip_while(|line| !line.starts_with(&heading))
-            .skip(1)
-            .take_while(|line| !line.starts_with("## "))
-            .filter(|line| line.starts_with("| ") && !line.starts_with("| Runs"))
-        {
-            let row = cells(row);
-            runs.extend(quoted(&row[1]).iter().map(|run| format!("{run}\n")));
-            output.extend(quoted(&row[2]).iter().map(|line| format!("{line}\n")));
+        for (run, line) in table(&format!("{name}.txt")) {
+            runs += &run;
+            output += &line;
         }
         assert_eq!(runs, text, "{name}");
         let written = replay::run(Rules::RIGHT, text.as_bytes()).expect("accepted");

@@ -100,11 +100,11 @@ everybody = address.Group (record { 0 = groupUp })
 abbrev pub fast : ℕ
 fast = 0x0A
 
-abbrev pub paced : List Sent
-paced = record { what = sends everybody (SetBaudRate fast); at = divisorUp; answer = Silent } ∷ walked
+abbrev pub rateSet : List Sent
+rateSet = record { what = sends everybody (SetBaudRate fast); at = divisorUp; answer = Silent } ∷ walked
 
 abbrev pub heardOne : List Sent
-heardOne = record { what = sends (nodeAt 1) Nop; at = fast; answer = Clear } ∷ paced
+heardOne = record { what = sends (nodeAt 1) Nop; at = fast; answer = Clear } ∷ rateSet
 
 abbrev pub heardBoth : List Sent
 heardBoth = record { what = sends (nodeAt 2) Nop; at = fast; answer = Clear } ∷ heardOne
@@ -133,9 +133,9 @@ pub record Courses : Type 0 where
   pub loading : Course loadLost (Stands 2 (drive (waiting position)) false 0 0x2800)
   pub starting : Course motionStarted (Stands 2 (drive (inForce position)) false 0 0x2800)
   pub turning : Course loadStarted (λ w. Stands 2 (drive (waiting position)) true 0x2800 0x2800 w × Stands 2 (drive (inForce position)) true 0x2800 0x2800 w)
-  pub pacing : Course paced (λ w. Stands 1 divisor false divisorUp fast w × Stands 2 divisor false divisorUp fast w)
+  pub pacing : Course rateSet (λ w. Stands 1 divisor false divisorUp fast w × Stands 2 divisor false divisorUp fast w)
   pub hearing : Course heardOne (λ w. Stands 1 divisor true fast fast w × Stands 2 divisor false divisorUp fast w)
   pub quick : Course heardBoth (λ w. Stands 1 divisor true fast fast w × Stands 2 divisor true fast fast w)
-  pub behind : Course paced (λ w. Stands 1 divisor false divisorUp fast w × Stands 2 divisor false divisorUp divisorUp w)
+  pub behind : Course rateSet (λ w. Stands 1 divisor false divisorUp fast w × Stands 2 divisor false divisorUp divisorUp w)
   pub unheard : Course unheardBehind (λ w. Stands 1 divisor true fast fast w × Stands 2 divisor false divisorUp divisorUp w)
   pub found : Course foundBehind (λ w. Stands 1 divisor true fast fast w × Stands 2 divisor true divisorUp divisorUp w)

@@ -7,7 +7,7 @@ use lib.ListN.{length, getD}
 use Rattle.wire.specs.declared.address.Address.{Address}
 use Rattle.wire.specs.declared.refusal.Refusal.the-variants as refusal
 use Rattle.command.specs.declared.Command.{Command}
-use Rattle.command.specs.declared.Command.the-variants.{SetAddress}
+use Rattle.command.specs.declared.Command.the-variants.{SetAddress, SetBaudRate}
 use Rattle.status.specs.Status.{judgeOf}
 use Rattle.status.specs.declared.Answer.{Answer}
 use Rattle.status.specs.declared.Answer.the-variants.{Clear, Marked, Silent}
@@ -130,6 +130,22 @@ module _ (s : Session) (at : ℕ) (to : Address) (c : Command) where
 
   pub concluded-walk : (a : Answer) → concludeOf s at to c a .walk ≡ walkAfter s to c a
   concluded-walk a = alike (λ (t : Session). t .walk) (λ t e. refl) a ∙ noted-walk s to c a
+
+  -- an entry past n stays
+  pub concluded-past : (a : Answer) (i : ℕ) (d : Entry) → s .n ≤ 31 → s .n ≤ i → getD (concludeOf s at to c a .entries) i d ≡ getD (s .entries) i d
+  concluded-past a i d f p = go a ∙ noted-past s to c a i d f p
+    where
+      past : (t : Session) → t .n ≡ s .n → getD (toldOf t at to .entries) i d ≡ getD (t .entries) i d
+      past t e = settled-past Clear to (SetBaudRate at) (t .n) (t .entries) i d (rw e f) (rw e p)
+
+      go : (b : Answer) → getD (concludeOf s at to c b .entries) i d ≡ getD (notedOf s to c b .entries) i d
+      go Marked = rw marked-noted
+      go Silent = rw silent-noted
+      go Clear = by (isTelling to c) refl
+        where
+          by : (b : Bool) → isTelling to c ≡ b → getD (concludeOf s at to c Clear .entries) i d ≡ getD (notedOf s to c Clear .entries) i d
+          by true e = rw (told-noted e) (past (notedOf s to c Clear) (noted-n s to c Clear))
+          by false e = rw (untold-noted e Clear)
 
   pub concluded-n : (a : Answer) → concludeOf s at to c a .n ≡ s .n
   concluded-n a = alike (λ (t : Session). t .n) (λ t e. refl) a ∙ noted-n s to c a

@@ -8,10 +8,15 @@ use oracle::{bench, chain, command, drive, kind, make_bench, make_packets, node}
 
 use crate::plain::{
     Answer, Bench, Captured, DriveSettings, Gains, GateSettings, Held, Kind, Motion, Node, Place,
-    Settings, MOST_REPLY,
+    Settings, DIVISOR, MOST_REPLY,
 };
 use crate::sides::{Deliver, Rehearse, CHAINS, DELIVERIES, MIXED_CHAINS, PACKETS, REHEARSALS};
 use crate::{work, SEED};
+
+/// So many of a hundred seeded packets set a divisor, and so many are sent at one
+/// that a node has.
+const PACED: usize = 4;
+const HEARD: usize = 90;
 
 /// A side that answers differently, and on what.
 pub type Outcome = Result<(), String>;
@@ -39,8 +44,9 @@ pub fn all(packets: usize, texts: u64) -> Outcome {
     Ok(())
 }
 
-/// Seeded packets of all kinds to chains of 0 to 32 nodes, gates or drives or
-/// both, some with records off their range, and to reply buffers of every length.
+/// Seeded packets of all kinds, mostly at a divisor that somebody has, to chains of
+/// 0 to 32 nodes, gates or drives or both, some with records off their range, and
+/// to reply buffers of every length.
 fn deliveries(name: &str, deliver: Deliver, count: usize) -> Outcome {
     let mut prng = Prng::new(SEED);
     let mut chains = Chains::of(Vec::new());
@@ -48,9 +54,16 @@ fn deliveries(name: &str, deliver: Deliver, count: usize) -> Outcome {
         if turn % 200 == 0 {
             chains = Chains::of(any_nodes(&mut prng));
         }
-        let packet = make_packets::packet(&mut prng, &chains.wanted);
+        let packet = match prng.percent(PACED) {
+            true => make_packets::pace_packet(&mut prng, &chains.wanted),
+            false => make_packets::packet(&mut prng, &chains.wanted),
+        };
+        let at = match prng.percent(HEARD) && !chains.nodes.is_empty() {
+            true => prng.pick(&chains.nodes).settings.divisor,
+            false => make_packets::divisor(&mut prng),
+        };
         let room = prng.below(MOST_REPLY + 3);
-        chains.take(name, deliver, &packet, room)?;
+        chains.take(name, deliver, at, &packet, room)?;
     }
     Ok(())
 }
@@ -60,7 +73,7 @@ fn mix(name: &str, deliver: Deliver, kinds: &[Kind]) -> Outcome {
     let packets = work::Packets::make(kinds, PACKETS, SEED);
     let mut chains = Chains::of(work::chain(kinds));
     for packet in packets.iter() {
-        chains.take(name, deliver, packet, MOST_REPLY)?;
+        chains.take(name, deliver, DIVISOR, packet, MOST_REPLY)?;
     }
     Ok(())
 }
@@ -78,15 +91,22 @@ impl Chains {
     }
 
     /// One packet to both. Both keep the nodes' changes.
-    fn take(&mut self, name: &str, deliver: Deliver, packet: &[u8], room: usize) -> Outcome {
+    fn take(
+        &mut self,
+        name: &str,
+        deliver: Deliver,
+        at: u8,
+        packet: &[u8],
+        room: usize,
+    ) -> Outcome {
         // Room to spare, so that a node laid out in another way does no harm but shows.
         let mut table = Vec::with_capacity(4 * self.nodes.len() + 1);
         table.extend_from_slice(&self.nodes);
         let mut reply = [0x5A; MOST_REPLY + 3];
         let mut wanted_reply = reply;
-        let answer = deliver(&mut table, packet, &mut reply[..room]);
+        let answer = deliver(&mut table, at, packet, &mut reply[..room]);
         let nodes = &mut self.wanted;
-        let wanted = chain::deliver(Rules::RIGHT, nodes, packet, &mut wanted_reply[..room]);
+        let wanted = chain::deliver(Rules::RIGHT, nodes, at, packet, &mut wanted_reply[..room]);
         let wanted = match wanted {
             Ok(chain::Delivery::Silent) => Answer::Silent,
             Ok(chain::Delivery::Reply(count)) => Answer::Replied(count),
@@ -103,7 +123,7 @@ impl Chains {
         }
         let changed = table.iter().zip(&after).find(|(one, other)| one != other);
         Err(format!(
-            "{name} differs on packet {packet:02X?} to {} nodes, room {room}: \
+            "{name} differs on packet {packet:02X?} at {at:02X} to {} nodes, room {room}: \
              {answer:?}, not {wanted:?}; {reply:02X?}, not {wanted_reply:02X?}; \
              first node that differs: {changed:?}",
             after.len()
@@ -141,6 +161,8 @@ fn text(name: &str, rehearse: Rehearse, input: &[u8]) -> Outcome {
 fn any_nodes(prng: &mut Prng) -> Vec<Node> {
     let length = prng.below(33);
     let off_range = prng.percent(3);
+    let common = make_packets::divisor(prng);
+    let alike = prng.pick(&[70, 100, 100]);
     let kinds = make_packets::kinds(prng, length);
     let nodes = kinds.into_iter().map(|kind| {
         let mut place = make_packets::place(prng);
@@ -154,6 +176,10 @@ fn any_nodes(prng: &mut Prng) -> Vec<Node> {
                 gate: any_gate(prng),
                 place: plain_place(place),
                 mask: prng.byte(),
+                divisor: match prng.percent(alike) {
+                    true => common,
+                    false => make_packets::divisor(prng),
+                },
             },
             bench: any_bench(prng),
             captured: Captured {
@@ -237,6 +263,7 @@ pub fn plain_settings(before: &Settings, settings: &settings::Settings) -> Setti
     let mut after = Settings {
         place: plain_place(settings.place),
         mask: settings.mask,
+        divisor: settings.divisor,
         ..*before
     };
     match settings.own {
@@ -314,6 +341,7 @@ fn oracle_node(node: &Node) -> node::Node {
                 leader: place.leader,
             },
             mask: settings.mask,
+            divisor: settings.divisor,
             own: match node.kind {
                 Kind::Gate => Own::Gate(oracle_gate(&settings.gate)),
                 Kind::Drive => Own::Drive(oracle_drive(&settings.drive)),

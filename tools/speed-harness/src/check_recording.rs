@@ -82,6 +82,7 @@ fn plain_entry(entry: &record::Entry) -> Entry {
         known: Known {
             place: entry.knows(Setting::Place),
             mask: entry.knows(Setting::Mask),
+            divisor: entry.knows(Setting::Divisor),
             gate: GateKnown {
                 outputs: entry.knows(Setting::Outputs),
                 pwm: entry.knows(Setting::Pwm),

@@ -44,10 +44,12 @@ struct Session {
     entries: [Entry; ENTRIES],
 }
 
-/// Idle, or what waits, which is not looked at: an address and a command.
+/// Idle, or what waits, which is not looked at: a divisor, an address and a
+/// command.
 #[repr(C)]
 struct Exchange {
     case: u8,
+    _at: u8,
     _to: [u8; 2],
     _command: [u32; 5],
 }
@@ -57,6 +59,7 @@ extern "C" {
     fn ours_deliver(
         said: *mut Said,
         table: *const Slice<Node>,
+        at: u8,
         packet: *const Slice<u8>,
         reply: *const Slice<u8>,
     );
@@ -110,6 +113,7 @@ impl Walked {
             walk: 0,
             exchange: Exchange {
                 case: 0,
+                _at: 0,
                 _to: [0; 2],
                 _command: [0; 5],
             },
@@ -127,7 +131,7 @@ fn number_of(refusal: u8) -> u8 {
 }
 
 /// `chain::deliver`.
-pub fn deliver(table: &mut [Node], packet: &[u8], reply: &mut [u8]) -> Answer {
+pub fn deliver(table: &mut [Node], at: u8, packet: &[u8], reply: &mut [u8]) -> Answer {
     let mut said = Said::NOTHING;
     let (table, packet, reply) = (
         Slice::of_mut(table),
@@ -135,7 +139,7 @@ pub fn deliver(table: &mut [Node], packet: &[u8], reply: &mut [u8]) -> Answer {
         Slice::of_mut(reply),
     );
     // SAFETY: the proved code reads and writes within the slices it is lent.
-    unsafe { ours_deliver(&mut said, &table, &packet, &reply) };
+    unsafe { ours_deliver(&mut said, &table, at, &packet, &reply) };
     match said.case {
         0 => Answer::Silent,
         1 => Answer::Replied(said.number),

@@ -11,6 +11,10 @@ pub const MOST_REPLY: usize = 19;
 /// The longest rehearsal text.
 const MOST_TEXT: usize = 64 * 1024;
 
+/// The divisor at power-up. The bench sends every line at it, and a recording has
+/// only commands that were sent at it.
+pub const DIVISOR: u8 = 0x3F;
+
 #[derive(Clone, Copy, Debug, PartialEq)]
 #[repr(C)]
 pub struct Place {
@@ -76,6 +80,7 @@ pub struct Settings {
     pub gate: GateSettings,
     pub place: Place,
     pub mask: u8,
+    pub divisor: u8,
 }
 
 #[derive(Clone, Copy, Debug, PartialEq)]
@@ -125,6 +130,7 @@ pub enum Command {
     SetAddress(Place),
     DefineStatus(u8),
     ReadStatus(u8),
+    SetBaudRate(u8),
     Nop,
     HardReset,
     // A gate's.
@@ -266,6 +272,7 @@ impl Settings {
         gate: GateSettings::POWER_UP,
         place: Place::POWER_UP,
         mask: 0,
+        divisor: DIVISOR,
     };
 }
 
@@ -288,6 +295,12 @@ impl Node {
         self.settings.place.address < 0x80 && self.settings.place.group >= 0x80
     }
 
+    /// Near: it is first, or the node before it is addressed. At: the divisor that
+    /// the packet is sent at.
+    fn hears(&self, near: bool, at: u8) -> bool {
+        (near || self.addressed) && self.settings.divisor == at
+    }
+
     fn is_meant(&self, address: u8) -> bool {
         let place = &self.settings.place;
         address == place.address || address == place.group
@@ -307,6 +320,7 @@ impl Node {
                 self.addressed = true;
             }
             Command::DefineStatus(mask) => settings.mask = mask,
+            Command::SetBaudRate(divisor) => settings.divisor = divisor,
             Command::SynchInput => {
                 self.captured = Captured {
                     counter: self.bench.counter,
@@ -327,6 +341,7 @@ impl Node {
     fn reset(&mut self) {
         self.settings.place = Place::POWER_UP;
         self.settings.mask = 0;
+        self.settings.divisor = DIVISOR;
         self.addressed = false;
         match self.kind {
             Kind::Gate => {
@@ -429,9 +444,10 @@ pub fn sum(bytes: &[u8]) -> u8 {
     bytes.iter().fold(0, |sum, byte| sum.wrapping_add(*byte))
 }
 
-/// What a kind of node understands by a command and its data; None for others,
-/// for another count, and for a value off its range.
-fn read(kind: Kind, command: u8, data: &[u8]) -> Option<Command> {
+/// What a kind of node understands by a command and its data, under an address;
+/// None for others, for another count, for a value off its range, and for a Set
+/// Baud Rate that comes to no group.
+fn read(kind: Kind, address: u8, command: u8, data: &[u8]) -> Option<Command> {
     match (command, data) {
         // A drive has no address 0x00.
         (0x1, &[0x00, _]) if kind == Kind::Drive => None,
@@ -442,6 +458,7 @@ fn read(kind: Kind, command: u8, data: &[u8]) -> Option<Command> {
         })),
         (0x2, &[mask]) => Some(Command::DefineStatus(mask)),
         (0x3, &[mask]) => Some(Command::ReadStatus(mask)),
+        (0xA, &[divisor]) if address >= 0x80 => Some(Command::SetBaudRate(divisor)),
         (0xE, []) => Some(Command::Nop),
         (0xF, []) => Some(Command::HardReset),
         _ => match kind {
@@ -575,7 +592,7 @@ impl Packet<'_> {
     /// command another one.
     pub fn to(&self, kind: Kind) -> Option<Command> {
         if self.intact {
-            read(kind, self.command, self.data)
+            read(kind, self.address, self.command, self.data)
         } else {
             None
         }
@@ -604,10 +621,10 @@ impl Packet<'_> {
     }
 }
 
-/// One packet to the chain: 6 first, then 1, 2, 3, then 5, before any node
-/// acts. As one writes it down: the table is checked, searched for repliers
-/// up to the second one, and gone through once more to act.
-pub fn deliver(nodes: &mut [Node], bytes: &[u8], reply: &mut [u8]) -> Answer {
+/// One packet to the chain, sent at a divisor: 6 first, then 1, 2, 3, then 5,
+/// before any node acts. As one writes it down: the table is checked, searched
+/// for repliers up to the second one, and gone through once more to act.
+pub fn deliver(nodes: &mut [Node], at: u8, bytes: &[u8], reply: &mut [u8]) -> Answer {
     if !(1..=31).contains(&nodes.len()) || !nodes.iter().all(Node::is_in_range) {
         return Answer::Refused(6);
     }
@@ -616,7 +633,7 @@ pub fn deliver(nodes: &mut [Node], bytes: &[u8], reply: &mut [u8]) -> Answer {
         Err(number) => return Answer::Refused(number),
     };
     let answer = if packet.is_answered() {
-        match search(nodes, packet.address) {
+        match search(nodes, at, packet.address) {
             Replier::None => Answer::Silent,
             Replier::One(node) => packet.answer_of(node, reply),
             Replier::Several => Answer::Collision,
@@ -628,7 +645,7 @@ pub fn deliver(nodes: &mut [Node], bytes: &[u8], reply: &mut [u8]) -> Answer {
         let mut near = true;
         for node in nodes {
             let addressed = node.addressed;
-            if (near || addressed) && node.is_meant(packet.address) {
+            if node.hears(near, at) && node.is_meant(packet.address) {
                 if let Some(command) = packet.to(node.kind) {
                     node.act(&command);
                 }
@@ -645,11 +662,11 @@ enum Replier<'a> {
     Several,
 }
 
-fn search(nodes: &[Node], address: u8) -> Replier<'_> {
+fn search(nodes: &[Node], at: u8, address: u8) -> Replier<'_> {
     let mut near = true;
     let mut found = Replier::None;
     for node in nodes {
-        if (near || node.addressed) && node.answers(address) {
+        if node.hears(near, at) && node.answers(address) {
             match found {
                 Replier::None => found = Replier::One(node),
                 _ => return Replier::Several,
@@ -662,7 +679,7 @@ fn search(nodes: &[Node], address: u8) -> Replier<'_> {
 
 /// The same with one look at each node, as ours does it: who acts and who
 /// replies is kept as bits, and then only those are visited.
-pub fn deliver_at_one_look(nodes: &mut [Node], bytes: &[u8], reply: &mut [u8]) -> Answer {
+pub fn deliver_at_one_look(nodes: &mut [Node], at: u8, bytes: &[u8], reply: &mut [u8]) -> Answer {
     if !(1..=31).contains(&nodes.len()) {
         return Answer::Refused(6);
     }
@@ -672,7 +689,7 @@ pub fn deliver_at_one_look(nodes: &mut [Node], bytes: &[u8], reply: &mut [u8]) -
     let (mut near, mut in_range) = (true, true);
     for (index, node) in nodes.iter().enumerate() {
         in_range &= node.is_in_range();
-        if (near || node.addressed) && node.is_meant(address) {
+        if node.hears(near, at) && node.is_meant(address) {
             acting |= 1 << index;
             if node.answers(address) {
                 replying |= 1 << index;
@@ -729,7 +746,7 @@ pub fn rehearse(input: &[u8], output: &mut Vec<u8>) {
         let mut packet = [0; MOST_PACKET];
         let mut reply = [0; MOST_REPLY];
         let answer = match parse(line, &mut packet) {
-            Some(length) => deliver_at_one_look(nodes, &packet[..length], &mut reply),
+            Some(length) => deliver_at_one_look(nodes, DIVISOR, &packet[..length], &mut reply),
             None => Answer::Refused(6),
         };
         write(answer, &reply, output);

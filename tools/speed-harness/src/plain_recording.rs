@@ -2,7 +2,7 @@
 //! shorter packet by packet, and one host that is changed in place. Nothing is
 //! allocated. `check_recording` holds it to the independent program.
 
-use crate::plain::{frame, sum, Command, Kind, Motion, Place, Settings, MOST_REPLY};
+use crate::plain::{frame, sum, Command, Kind, Motion, Place, Settings, DIVISOR, MOST_REPLY};
 
 /// The entries that the host's record always has.
 pub const ENTRIES: usize = 31;
@@ -26,6 +26,7 @@ pub struct Capture<'a> {
 pub struct Known {
     pub place: bool,
     pub mask: bool,
+    pub divisor: bool,
     pub gate: GateKnown,
     pub drive: DriveKnown,
 }
@@ -162,6 +163,7 @@ impl Known {
         Known {
             place: sure,
             mask: sure,
+            divisor: sure,
             gate: GateKnown {
                 outputs: sure,
                 pwm: sure,
@@ -222,6 +224,7 @@ fn owner(command: &Command) -> Option<Kind> {
         Command::SetAddress(_)
         | Command::DefineStatus(_)
         | Command::ReadStatus(_)
+        | Command::SetBaudRate(_)
         | Command::Nop
         | Command::HardReset => None,
         Command::SetPwm(_)
@@ -306,13 +309,20 @@ impl Entry {
                 drive.stop = stop;
                 known.drive.stop = true;
             }
-            // A Hard Reset waits for no reply.
+            // A Hard Reset waits for no reply, and Set Baud Rate is never sent.
             Command::ReadStatus(_)
+            | Command::SetBaudRate(_)
             | Command::SynchInput
             | Command::Nop
             | Command::ResetPosition
             | Command::HardReset => {}
         }
+    }
+
+    /// A Nop to the node was answered: it hears at the divisor of every command.
+    fn learn_divisor(&mut self) {
+        self.settings.divisor = DIVISOR;
+        self.known.divisor = true;
     }
 
     /// All that a command may write goes into doubt, and shows what it showed.
@@ -340,6 +350,7 @@ impl Entry {
             Command::StopMotor(_) => known.drive.stop = false,
             Command::HardReset => *known = Known::all(false),
             Command::ReadStatus(_)
+            | Command::SetBaudRate(_)
             | Command::SynchInput
             | Command::Nop
             | Command::ResetPosition => {}
@@ -432,6 +443,8 @@ impl Host {
             self.has_node(address)
                 && place.address == address
                 && (!place.leader || self.may_lead(address, place.group))
+        } else if let Command::SetBaudRate(_) = *command {
+            false
         } else if address < 0x80 {
             self.has_node(address)
         } else {
@@ -491,6 +504,9 @@ impl Host {
     }
 
     fn confirm(&mut self, to: u8, command: &Command) {
+        if to < 0x80 && matches!(command, Command::Nop) {
+            self.entries[usize::from(to - 1)].learn_divisor();
+        }
         if self.is_walking() {
             // The reply to the Set Address, or to the Nop that asks after it.
             self.entries[usize::from(self.walk)].confirm(&Command::SetAddress(given(to)));

@@ -8,15 +8,16 @@ use oracle::recording::{self, Recording};
 use oracle::rules::Rules;
 
 use crate::check::plain_kind;
-use crate::plain::{Answer, Kind as NodeKind, Node, MOST_REPLY};
+use crate::plain::{Answer, Kind as NodeKind, Node, DIVISOR, MOST_REPLY};
 use crate::plain_recording::{Capture, Replayed, ENTRIES};
 use crate::plain_sheet::Refused;
 use crate::work::{chain, gates, half_drives, packets, sheet, text, Packets};
 use crate::work_recording::recording;
 use crate::{ours, plain, plain_recording, plain_sheet, SEED};
 
-/// One packet to a table of nodes: the answer, with the reply in the buffer.
-pub type Deliver = fn(&mut [Node], &[u8], &mut [u8]) -> Answer;
+/// One packet to a table of nodes, sent at a divisor: the answer, with the reply in
+/// the buffer.
+pub type Deliver = fn(&mut [Node], u8, &[u8], &mut [u8]) -> Answer;
 
 /// A rehearsal text; what the bench writes for it goes into the vector.
 pub type Rehearse = fn(&[u8], &mut Vec<u8>);
@@ -174,11 +175,12 @@ fn deliveries(kinds: &[NodeKind]) -> Vec<Side> {
     ]
 }
 
-/// All packets to a fresh chain, one call each.
+/// All packets to a fresh chain, one call each, at the divisor of power-up; which
+/// one that is no side may count on.
 fn delivery(
     name: &'static str,
     kinds: &[NodeKind],
-    deliver: impl Fn(&mut [Node], &[u8], &mut [u8]) -> Answer + 'static,
+    deliver: impl Fn(&mut [Node], u8, &[u8], &mut [u8]) -> Answer + 'static,
 ) -> Side {
     let packets = Packets::make(kinds, PACKETS, SEED);
     let fresh = chain(kinds);
@@ -189,8 +191,9 @@ fn delivery(
         pass: Box::new(move || {
             nodes.copy_from_slice(&fresh);
             let mut reply = [0; MOST_REPLY];
+            let at = black_box(DIVISOR);
             for packet in packets.iter() {
-                black_box(deliver(&mut nodes, packet, &mut reply));
+                black_box(deliver(&mut nodes, at, packet, &mut reply));
                 black_box(&mut reply);
             }
         }),
@@ -310,13 +313,13 @@ fn our_replay(recording: &Recording) -> Replayed {
 // Calls, as ours is one.
 
 #[inline(never)]
-fn full_search(nodes: &mut [Node], packet: &[u8], reply: &mut [u8]) -> Answer {
-    plain::deliver(nodes, packet, reply)
+fn full_search(nodes: &mut [Node], at: u8, packet: &[u8], reply: &mut [u8]) -> Answer {
+    plain::deliver(nodes, at, packet, reply)
 }
 
 #[inline(never)]
-fn one_look(nodes: &mut [Node], packet: &[u8], reply: &mut [u8]) -> Answer {
-    plain::deliver_at_one_look(nodes, packet, reply)
+fn one_look(nodes: &mut [Node], at: u8, packet: &[u8], reply: &mut [u8]) -> Answer {
+    plain::deliver_at_one_look(nodes, at, packet, reply)
 }
 
 #[inline(never)]

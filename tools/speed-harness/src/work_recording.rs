@@ -14,7 +14,7 @@ use oracle::session::Session;
 use oracle::settings::Setting;
 use oracle::target::Target;
 
-use crate::plain::MOST_REPLY;
+use crate::plain::{DIVISOR, MOST_REPLY};
 
 /// The longest packet.
 const MOST_PACKET: usize = 19;
@@ -32,8 +32,8 @@ pub fn recording(nodes: usize, size: usize, seed: u64) -> Recording {
     let room = size * 1024 - MOST_PACKET - MOST_REPLY;
     while show.host.walks() && show.bytes <= room {
         show.exchange(|host, _, packet| match host.ask_is_due() {
-            true => host.ask(packet),
-            false => host.next(packet),
+            true => host.ask(DIVISOR, packet),
+            false => host.next(DIVISOR, packet),
         });
     }
     let mut node = 1;
@@ -42,7 +42,9 @@ pub fn recording(nodes: usize, size: usize, seed: u64) -> Recording {
             show.exchange(mixed);
             continue;
         }
-        show.exchange(|host, _, packet| host.regroup(node, group(node), leads(node), packet));
+        show.exchange(|host, _, packet| {
+            host.regroup(DIVISOR, node, group(node), leads(node), packet)
+        });
         // Once more where it is in doubt: else no further node may lead.
         let entry = &show.host.entries[usize::from(node - 1)];
         node += u8::from(entry.knows(Setting::Place));
@@ -98,7 +100,7 @@ impl Show {
         if !self.host.walks() && self.prng.percent(LOST) {
             return None;
         }
-        let length = match deliver(Rules::RIGHT, &mut self.chain, packet, &mut reply) {
+        let length = match deliver(Rules::RIGHT, &mut self.chain, DIVISOR, packet, &mut reply) {
             Ok(Delivery::Reply(length)) => length,
             _ => return None,
         };
@@ -146,7 +148,7 @@ fn mixed(host: &mut Session, prng: &mut Prng, packet: &mut [u8]) -> Sent {
         90..=94 => (all, Command::SetOutputs(outputs)),
         95..=97 => (all, Command::Nop),
         _ if leads(node) => (to, Command::Nop),
-        _ => return host.regroup(node, group(data[0]), false, packet),
+        _ => return host.regroup(DIVISOR, node, group(data[0]), false, packet),
     };
-    host.command(to, command, packet)
+    host.command(DIVISOR, to, command, packet)
 }

@@ -73,9 +73,9 @@ module _ (got : Bool) where
       frameOf frameAlone dataPart isIntact endsInSum codecRead sharedRows gateRows driveRows motionOf after turned doesAct doesReply replyOf replyItems counts
   set-rate = record { typed = tt; sends = λ past. refl; nodes = refl; says = refl }
 
-  pub both-rateSet : Comes (worldAt (session Idle (unsure 1) (unsure 2)) (quick 1 ∷ second got ∷ []) quiet rateSet)
+  pub both-paced : Comes (worldAt (session Idle (unsure 1) (unsure 2)) (quick 1 ∷ second got ∷ []) quiet rateSet)
   unfolding finishOf isClosed isValid notedOf concludeOf settleOf eachFrom ledgerLeast
-  both-rateSet = round walks set-rate (unanswered refl)
+  both-paced = round walks set-rate (unanswered refl)
 
 -- a Nop to node 1 at the new divisor
 ask-1 : (got : Bool) → Turn (Order (nodeAt 1) Nop) (sends (nodeAt 1) Nop) fast (nop 1) (λ i. true) (reply good)
@@ -87,7 +87,7 @@ ask-1 false = record { typed = tt; sends = λ past. refl; nodes = refl; says = r
 
 pub one-heard : (got : Bool) → Comes (worldAt (session Idle (sure 1 fast) (unsure 2)) (quick 1 ∷ second got ∷ []) quiet heardOne)
 unfolding reportOf finishOf isClosed isValid notedOf concludeOf isGiving isAsking settleOf eachFrom ledgerLeast judgeOf endsInSum total
-one-heard got = round (both-rateSet got) (ask-1 got) (replied refl)
+one-heard got = round (both-paced got) (ask-1 got) (replied refl)
 
 -- a Nop to node 2, which has the divisor of the Nop or not, and is said to or not
 abbrev Asks : ℕ → Bool → Said → Type 0

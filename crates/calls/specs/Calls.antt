@@ -52,6 +52,6 @@ pub record Gives (s : Session) (c : Call) (p : List ℕ) : Type 0 where
 abbrev pub sessionAfter : {s : Session} {c : Call} {p : List ℕ} → Gives s c p → Session
 sessionAfter {s} {c} g = callPerform c s divisorUp (g .out) .answer .session
 
--- "a command the host couldn't have sent": no call of the host in that session gives these bytes with number 0
+-- "a command the host couldn't have sent": no call of the host in that session but Set Baud Rate gives these bytes with number 0, sent at power-up's divisor
 abbrev pub Unsendable : Session → List ℕ → Type 0
 Unsendable s p = (c : Call) → Gives s c p → ⊥

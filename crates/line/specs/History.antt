@@ -91,7 +91,8 @@ copied (stores v) doubt = false
 copied (copies t f) doubt = doubt t
 
 -- "Who may be written: node k for an individual command and for the walk's Set Address that gives k; for a group, nodes known to be in it
--- and every node whose place is in doubt"; document 02, request 7: "A command at a divisor not known to be the node's stays 'could have written'", so no divisor is asked for; p is the place that node k was last given, `lost`: it is in doubt
+-- and every node whose place is in doubt"; p is the place that node k was last given, `lost`: it is in doubt.
+-- Document 02, request 7: "A command at a divisor not known to be the node's stays 'could have written'", so no divisor is asked for
 abbrev pub goes : Address → ℕ → Bool → Place → Bool
 goes (address.Individual i) k lost p = eqb (i .0) k
 goes (address.Group g) k lost p = lost || eqb (p .group .0) (g .0)

@@ -33,7 +33,7 @@ pub fn ends_in_sum(s: &[u8]) -> bool
 }
 
 // What building a packet answers: how many bytes it has, at the start of the lent buffer, or the refusal.
-#[derive(Drop)]
+#[derive(Clone, Copy)]
 pub enum Built {
     Bytes(usize),
     Refused(Refusal),

@@ -17,7 +17,7 @@ use session::{End, Session, Step};
 use wire::{Address, Group, Individual, Kind, Refusal};
 
 // A call that sends, with its arguments.
-#[derive(Drop)]
+#[derive(Clone, Copy)]
 pub enum Call {
     Next,
     Ask,
@@ -58,7 +58,7 @@ impl Call {
 }
 
 // What some bytes of the command line say to a kind of node, all of them: a command to an address; a packet of another command; or why they are no packet, 3 for bytes left over.
-#[derive(Drop)]
+#[derive(Clone, Copy)]
 pub enum Spoken {
     Command { to: Address, command: Command },
     Other,
@@ -79,14 +79,14 @@ impl Spoken {
 }
 
 // Whose bytes some are: those of a call, or of none.
-#[derive(Drop)]
+#[derive(Clone, Copy)]
 pub enum Source {
     Found(Call),
     Missing,
 }
 
 // The call that gives some bytes and the session after it; where none does, the session as it was handed in.
-#[derive(Drop)]
+#[derive(Clone, Copy)]
 pub struct Sought {
     pub source: Source,
     pub session: Session,

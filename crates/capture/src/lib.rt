@@ -11,7 +11,7 @@ ghost use Rattle.capture.specs.Steps.{due_of, capture_step, capture_by, start_by
 use wire::Refusal;
 
 // How far a walk has come in each capture.
-#[derive(Drop)]
+#[derive(Clone, Copy)]
 pub struct Cursor {
     pub command: usize,
     pub reply: usize,
@@ -26,7 +26,7 @@ impl Cursor {
 }
 
 // The line whose packet is next.
-#[derive(Drop)]
+#[derive(Clone, Copy)]
 pub enum Line {
     Command,
     Reply,
@@ -34,7 +34,7 @@ pub enum Line {
 }
 
 // A step: the line whose packet is handed back, and the cursor behind it.
-#[derive(Drop)]
+#[derive(Clone, Copy)]
 pub enum Stepped {
     FromCommand(Cursor),
     FromReply(Cursor),
@@ -42,7 +42,7 @@ pub enum Stepped {
 }
 
 // What the checks before a walk find.
-#[derive(Drop)]
+#[derive(Clone, Copy)]
 pub enum Checked {
     Good,
     Refused(Refusal),

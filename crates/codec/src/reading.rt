@@ -9,7 +9,7 @@ use command::{Command, Gains, Held, Loads, Motion, Place, Pwm, Reading, Stop};
 use wire::{Group, Individual, Kind};
 
 // What a packet says to each kind of node.
-#[derive(Drop)]
+#[derive(Clone, Copy)]
 pub struct Readings {
     pub gate: Reading,
     pub drive: Reading,

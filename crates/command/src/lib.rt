@@ -11,7 +11,7 @@ ghost use Rattle.command.specs.Ranges.{place_fits, gains_fit, value_fits, positi
 use wire::{Group, Individual, Kind};
 
 // Where a node stands: its individual address, its group, and whether it leads that group.
-#[derive(Drop)]
+#[derive(Clone, Copy)]
 pub struct Place {
     pub address: Individual,
     pub group: Group,
@@ -19,14 +19,14 @@ pub struct Place {
 }
 
 // The two PWM output values.
-#[derive(Drop)]
+#[derive(Clone, Copy)]
 pub struct Pwm {
     pub first: u8,
     pub second: u8,
 }
 
 // What Set Synch Output stores and Synch Output copies.
-#[derive(Drop)]
+#[derive(Clone, Copy)]
 pub struct Held {
     pub outputs: u16,
     pub pwm: Pwm,
@@ -34,7 +34,7 @@ pub struct Held {
 
 // What Set Gain stores, by the manual's names: the gains KP, KD, KI and the integration limit IL, the error limit EL, the output limit OL,
 // the servo rate divisor SR, the deadband compensation DB.
-#[derive(Drop)]
+#[derive(Clone, Copy)]
 pub struct Gains {
     pub kp: u16,
     pub kd: u16,
@@ -47,7 +47,7 @@ pub struct Gains {
 }
 
 // How a drive is to move: what Load Trajectory loads and Start Motion starts. A position is signed: 32 bits, two's complement, as it is sent.
-#[derive(Drop)]
+#[derive(Clone, Copy)]
 pub struct Motion {
     pub position: u32,
     pub velocity: u32,
@@ -57,14 +57,14 @@ pub struct Motion {
 }
 
 // What Stop Motor brings: the stop byte and, if its bit 4 says so, the position to stop at.
-#[derive(Drop)]
+#[derive(Clone, Copy)]
 pub struct Stop {
     pub position: u32,
     pub byte: u8,
 }
 
 // A match on it has an arm for each case, and no `_`, which would leave a proof only the number of the case.
-#[derive(Drop)]
+#[derive(Clone, Copy)]
 pub enum Command {
     SetAddress(Place),
     DefineStatus(u8),
@@ -86,14 +86,14 @@ pub enum Command {
 }
 
 // What the parts of an intact packet say: a command, or another one, which is replied to as a Nop is and changes nothing.
-#[derive(Drop)]
+#[derive(Clone, Copy)]
 pub enum Reading {
     Known(Command),
     Other,
 }
 
 // What a command is beside its data. Whoever treats some commands alike asks for their role, so that a new command is one row of `role`.
-#[derive(Drop)]
+#[derive(Clone, Copy)]
 pub enum Role {
     // Stores its data or copies what is held or waits, and no more.
     Plain,
@@ -114,7 +114,7 @@ pub enum Role {
 }
 
 // Who has a command: both kinds of node, or one alone.
-#[derive(Drop)]
+#[derive(Clone, Copy)]
 pub enum Owner {
     Both,
     Gate,
@@ -285,7 +285,7 @@ impl Role {
 }
 
 // What a control byte says: which values it brings, by bits 0 to 3, and whether the motion starts at once, by bit 7.
-#[derive(Drop)]
+#[derive(Clone, Copy)]
 pub struct Loads {
     pub position: bool,
     pub velocity: bool,

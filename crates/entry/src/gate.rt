@@ -7,7 +7,7 @@ use command::Command;
 use node::GateSettings;
 
 // Which of a gate's own settings are known; the others are in doubt.
-#[derive(Drop)]
+#[derive(Clone, Copy)]
 pub struct GateKnown {
     pub outputs: bool,
     pub pwm: bool,

@@ -17,7 +17,7 @@ use status::Answer;
 use wire::Kind;
 
 // Which of the settings are known, in the parts that settings have; the others are in doubt.
-#[derive(Drop)]
+#[derive(Clone, Copy)]
 pub struct Known {
     pub place: bool,
     pub mask: bool,
@@ -27,7 +27,7 @@ pub struct Known {
 }
 
 // A setting in doubt shows its last known value. The settings of the other kind are of no use, and are not shown.
-#[derive(Drop)]
+#[derive(Clone, Copy)]
 pub struct Entry {
     pub settings: Settings,
     pub known: Known,
@@ -36,7 +36,7 @@ pub struct Entry {
 
 // What a command is to the node. Misses: it doesn't go there. Hits: it goes there, and a reply to it is this node's own.
 // May: it went to a group that the node isn't known to lead; the node may be written, and no reply tells whether it was.
-#[derive(Drop)]
+#[derive(Clone, Copy)]
 pub enum Reach {
     Misses,
     Hits,

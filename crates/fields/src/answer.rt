@@ -6,7 +6,7 @@ ghost use Rattle.fields.specs.Answer.{fields_nothing, answer_put, answer_put_fla
 pub const MOST_BYTES: usize = 2211;
 
 // What a line is answered: the first `length` bytes.
-#[derive(Drop)]
+#[derive(Clone, Copy)]
 pub struct Answer {
     pub bytes: [u8; MOST_BYTES],
     pub length: usize,

@@ -12,14 +12,14 @@ use text::rest;
 pub const SPACE: u8 = 32;
 
 // How many bytes a line holds, or that it isn't of its form.
-#[derive(Drop)]
+#[derive(Clone, Copy)]
 pub enum Parsed {
     Bytes(usize),
     Malformed,
 }
 
 // What a line starts with: two digits and its end, or two digits and a space.
-#[derive(Drop)]
+#[derive(Clone, Copy)]
 pub(crate) enum Pair {
     Last(u8),
     More(u8),

@@ -8,7 +8,7 @@ use command::{Command, Reading};
 use wire::{Address, Kind};
 
 // A packet with a right sum and a command; with a right sum and another command, or one that isn't taken under its address; with a wrong sum.
-#[derive(Drop)]
+#[derive(Clone, Copy)]
 pub enum Message {
     Intact(Command),
     Other,
@@ -64,7 +64,7 @@ impl Message {
 }
 
 // What a packet says to a node of each kind; made once for all nodes.
-#[derive(Drop)]
+#[derive(Clone, Copy)]
 pub struct Messages {
     pub gate: Message,
     pub drive: Message,

@@ -11,7 +11,7 @@ use message::Message;
 use wire::{Group, Individual, Kind};
 
 // The settings: every node's place, mask and divisor, and what its kind has of its own. A node has no use for the other kind's, and leaves them as they are.
-#[derive(Drop)]
+#[derive(Clone, Copy)]
 pub struct Settings {
     pub drive: DriveSettings,
     pub gate: GateSettings,
@@ -22,7 +22,7 @@ pub struct Settings {
 
 // What the bench sets and no command changes: a gate's inputs, counter and analog values; a drive's home position, velocity, position error, A/D value
 // and auxiliary status; either's device ID and version.
-#[derive(Drop)]
+#[derive(Clone, Copy)]
 pub struct Bench {
     pub counter: u32,
     pub home: u32,
@@ -39,14 +39,14 @@ pub struct Bench {
 }
 
 // The inputs and the counter as Synch Input found them.
-#[derive(Drop)]
+#[derive(Clone, Copy)]
 pub struct Captured {
     pub counter: u32,
     pub inputs: u16,
 }
 
 // A drive's position is set by the bench, and to zero by commands: no setting.
-#[derive(Drop)]
+#[derive(Clone, Copy)]
 pub struct Node {
     pub settings: Settings,
     pub bench: Bench,
@@ -57,7 +57,7 @@ pub struct Node {
 }
 
 // What a node's status items are read off.
-#[derive(Drop)]
+#[derive(Clone, Copy)]
 pub struct Shown {
     pub bench: Bench,
     pub captured: Captured,

@@ -15,7 +15,7 @@ use wire::{Address, Refusal};
 pub const HEADER: u8 = 0xAA;
 
 // What reading a command packet finds: its parts and where it ends, or the refusal; never 3. The data bytes are `data_part`.
-#[derive(Drop)]
+#[derive(Clone, Copy)]
 pub enum Framed {
     Whole {
         address: Address,

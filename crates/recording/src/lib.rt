@@ -14,7 +14,7 @@ use session::{End, Session};
 use wire::{Kind, MOST_NODES, Refusal};
 
 // How far a walk has come: its cursor in the captures, whether it has ended, and the host's session there.
-#[derive(Drop)]
+#[derive(Clone, Copy)]
 pub struct Stage {
     pub at: Cursor,
     pub over: bool,
@@ -22,7 +22,7 @@ pub struct Stage {
 }
 
 // What a packet did.
-#[derive(Drop)]
+#[derive(Clone, Copy)]
 pub enum Event {
     // A command, which this call of the host gives.
     Sent(Call),
@@ -37,21 +37,21 @@ pub enum Event {
 }
 
 // What a step did, and the stage behind it.
-#[derive(Drop)]
+#[derive(Clone, Copy)]
 pub struct Moved {
     pub event: Event,
     pub stage: Stage,
 }
 
 // What the checks find, with their number, and the first stage of a walk; of a refused recording, one that is over.
-#[derive(Drop)]
+#[derive(Clone, Copy)]
 pub struct Begun {
     pub checked: Checked,
     pub stage: Stage,
 }
 
 // How a whole walk ended.
-#[derive(Drop)]
+#[derive(Clone, Copy)]
 pub enum Ending {
     // With the recording.
     Ended,
@@ -74,7 +74,7 @@ impl Ending {
 }
 
 // How a whole walk ended, and the host's session then, with no exchange open; of a refused recording, a fresh one.
-#[derive(Drop)]
+#[derive(Clone, Copy)]
 pub struct Replayed {
     pub ending: Ending,
     pub session: Session,

@@ -7,7 +7,7 @@ use entry::{DriveKnown, MotionKnown};
 use node::DriveSettings;
 
 // Some values of a motion.
-#[derive(Drop)]
+#[derive(Clone, Copy)]
 pub(crate) struct MotionChosen {
     pub(crate) control: bool,
     pub(crate) position: bool,
@@ -17,7 +17,7 @@ pub(crate) struct MotionChosen {
 }
 
 // Some of a drive's own settings.
-#[derive(Drop)]
+#[derive(Clone, Copy)]
 pub(crate) struct DriveChosen {
     pub(crate) gains: bool,
     pub(crate) stop: bool,

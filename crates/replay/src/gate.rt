@@ -7,7 +7,7 @@ use entry::GateKnown;
 use node::GateSettings;
 
 // Some of them.
-#[derive(Drop)]
+#[derive(Clone, Copy)]
 pub(crate) struct GateChosen {
     pub(crate) outputs: bool,
     pub(crate) pwm: bool,

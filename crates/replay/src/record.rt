@@ -10,7 +10,7 @@ use session::{Session, Shown};
 use wire::{Individual, Kind};
 
 // Some of a node's settings; those of the other kind are of no use.
-#[derive(Drop)]
+#[derive(Clone, Copy)]
 struct Chosen {
     place: bool,
     mask: bool,

@@ -14,21 +14,21 @@ pub(crate) const REPLY: u8 = b'<';
 const LATEST: u64 = 4294967295;
 
 // The time of a run's bytes.
-#[derive(Drop)]
+#[derive(Clone, Copy)]
 pub(crate) enum Time {
     At(u32),
     Malformed,
 }
 
 // What a text line says: the line that its bytes were on, and their time.
-#[derive(Drop)]
+#[derive(Clone, Copy)]
 pub(crate) enum Run {
     Bytes { mark: u8, time: u32 },
     Malformed,
 }
 
 // What the text lines so far show: the last time on each line; the number of the first that is no run, and of the first whose time is less than the one before it. 0 stands for none.
-#[derive(Drop)]
+#[derive(Clone, Copy)]
 pub(crate) struct Seen {
     pub(crate) command: u32,
     pub(crate) reply: u32,

@@ -26,7 +26,7 @@ const MOST: usize = 65536;
 const LONGEST: usize = 655360;
 
 // The table after a line, and the position behind what was written for it.
-#[derive(Drop)]
+#[derive(Clone, Copy)]
 pub(crate) struct Step {
     pub table: Table,
     pub at: usize,

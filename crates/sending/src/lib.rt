@@ -12,7 +12,7 @@ use session::{End, Exchange, Session, Step, is_closed, refuse};
 use wire::{Address, Refusal};
 
 // What the tests so far came to.
-#[derive(Drop)]
+#[derive(Clone, Copy)]
 pub enum Check {
     Passed,
     Refuse(Refusal),
@@ -60,7 +60,7 @@ fn is_waiting(s: Session) -> bool
 }
 
 // What a call finds wrong with what it was asked for, by the numbers that it is refused with; what a call doesn't ask is false.
-#[derive(Drop)]
+#[derive(Clone, Copy)]
 pub struct Tests {
     // 6
     pub unranged: bool,

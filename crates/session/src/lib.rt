@@ -11,7 +11,7 @@ use node::Node;
 use wire::{Address, Group, Individual, MOST_NODES, Refusal};
 
 // What waits for an answer: nothing, or a command that was sent at a divisor to an address. The walk's Set Address has the node that it gives its number.
-#[derive(Drop)]
+#[derive(Clone, Copy)]
 pub enum Exchange {
     Idle,
     Waiting {
@@ -21,7 +21,7 @@ pub enum Exchange {
     },
 }
 
-#[derive(Drop)]
+#[derive(Clone, Copy)]
 pub struct Session {
     pub started: bool,
     pub n: u8,
@@ -31,7 +31,7 @@ pub struct Session {
 }
 
 // How a call ends: done, sent as so many bytes, or refused.
-#[derive(Drop)]
+#[derive(Clone, Copy)]
 pub enum End {
     Done,
     Sent(usize),
@@ -52,7 +52,7 @@ impl End {
 }
 
 // The session after a call; of a refused one, the session as it was handed in.
-#[derive(Drop)]
+#[derive(Clone, Copy)]
 pub struct Step {
     pub end: End,
     pub session: Session,
@@ -112,7 +112,7 @@ fn is_valid(s: Session) -> bool
 }
 
 // What the host knows of a node.
-#[derive(Drop)]
+#[derive(Clone, Copy)]
 pub enum Shown {
     Found(Entry),
     Refused(Refusal),

@@ -12,7 +12,7 @@ use text::{first, rest};
 use wire::Refusal;
 
 // What a list of packets is found to be: so many that read, or why the first that doesn't is refused.
-#[derive(Drop)]
+#[derive(Clone, Copy)]
 pub(crate) enum Listed {
     Packets(usize),
     Refused(Refusal),

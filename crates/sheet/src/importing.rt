@@ -15,7 +15,7 @@ use wire::Refusal;
 pub const MOST: usize = 65536;
 
 // What importing a sheet answers: so many bytes of packets; refused; or refused with 14, with the number of the first line at fault, from 1.
-#[derive(Drop)]
+#[derive(Clone, Copy)]
 pub enum Imported {
     Bytes(usize),
     Refused(Refusal),

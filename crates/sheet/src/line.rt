@@ -12,7 +12,7 @@ use text::rest;
 pub(crate) const MOST_LINE: usize = 17;
 
 // What some text starts with: one or two digits and the line's end, or one or two digits and a space, which are so many characters.
-#[derive(Drop)]
+#[derive(Clone, Copy)]
 pub(crate) enum Numeral {
     Last(u8),
     More(u8, u8),

@@ -55,7 +55,7 @@ pub fn counts(kind: Kind) -> [u8; 8]
 }
 
 // What reading a status packet finds: its status byte, or the refusal. The items are `items_part`.
-#[derive(Drop)]
+#[derive(Clone, Copy)]
 pub enum Status {
     Whole(u8),
     Refused(Refusal),
@@ -106,7 +106,7 @@ pub fn items_part(s: &[u8]) -> &[u8]
 }
 
 // How the host takes what it received for a command.
-#[derive(Drop)]
+#[derive(Clone, Copy)]
 pub enum Answer {
     // Good and clear: confirmed.
     Clear,

@@ -12,7 +12,7 @@ use node::Node;
 use wire::Refusal;
 
 // What a packet to the chain comes to: nobody replied; one node did, with so many bytes; several did at once; or the refusal.
-#[derive(Drop)]
+#[derive(Clone, Copy)]
 pub enum Delivery {
     Silent,
     Replied(usize),
@@ -35,7 +35,7 @@ impl Delivery {
 }
 
 // The answer, who is to be gone through, and what the packet says to either kind.
-#[derive(Drop)]
+#[derive(Clone, Copy)]
 pub struct Decided {
     pub answer: Delivery,
     pub acting: u32,

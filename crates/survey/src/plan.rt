@@ -12,7 +12,7 @@ use packet::Framed;
 use wire::{Address, Refusal};
 
 // A packet as it comes in: whom it is for, the divisor that it is sent at and what it says to either kind of node, or why it is refused.
-#[derive(Drop)]
+#[derive(Clone, Copy)]
 pub enum Incoming {
     Whole {
         to: Address,
@@ -24,7 +24,7 @@ pub enum Incoming {
 
 // What the look along the chain has seen so far: whether the next node is first or stands behind an addressed one, its bit,
 // who acts, who replies, and whether every record is in range.
-#[derive(Drop)]
+#[derive(Clone, Copy)]
 pub struct Seen {
     pub near: bool,
     pub weight: u32,
@@ -34,7 +34,7 @@ pub struct Seen {
 }
 
 // What is to be done with a packet, before any node acts.
-#[derive(Drop)]
+#[derive(Clone, Copy)]
 pub enum Plan {
     Refuse(Refusal),
     Deliver {
@@ -45,7 +45,7 @@ pub enum Plan {
 }
 
 // The plan, and the node that replies, where one does.
-#[derive(Drop)]
+#[derive(Clone, Copy)]
 pub struct Survey {
     pub plan: Plan,
     pub speaker: Node,

@@ -7,7 +7,7 @@ ghost use Rattle.survey.specs.Chain.{search_of};
 pub const SET_WIDTH: usize = 32;
 
 // Who replies: nobody, the node of an index, or several.
-#[derive(Drop)]
+#[derive(Clone, Copy)]
 pub enum Replier {
     None,
     One(usize),

@@ -15,13 +15,13 @@ use wire::MOST_NODES;
 pub const ROOM: usize = MOST_NODES + 2;
 
 // The first `count` nodes, in the order of the cable, are the chain.
-#[derive(Drop)]
+#[derive(Clone, Copy)]
 pub struct Table {
     pub nodes: [Node; ROOM],
     pub count: usize,
 }
 
-#[derive(Drop)]
+#[derive(Clone, Copy)]
 pub struct Delivered {
     pub answer: Delivery,
     pub table: Table,

@@ -4,7 +4,7 @@ ghost use Rattle.wire.specs.Promise.{Promise};
 ghost use Rattle.text.specs.Digits.{value_of, one_digit, two_digits, read_decimal, decimal_number};
 
 // What reading a decimal number finds.
-#[derive(Drop)]
+#[derive(Clone, Copy)]
 pub enum Decimal {
     Value(u8),
     Malformed,

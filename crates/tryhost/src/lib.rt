@@ -18,7 +18,7 @@ use text::rest;
 use wire::{Group, Individual};
 
 // What a line makes: its answer, and the session after it.
-#[derive(Drop)]
+#[derive(Clone, Copy)]
 pub struct Tried {
     pub answer: Answer,
     pub session: Session,

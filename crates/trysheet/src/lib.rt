@@ -24,7 +24,7 @@ const MOST_TEXT: usize = 69632;
 const MOST_PACKETS: usize = 32768;
 
 // How a line shows a call: with all of the lent buffer, or with its sums.
-#[derive(Drop)]
+#[derive(Clone, Copy)]
 enum View {
     Whole,
     Summed,

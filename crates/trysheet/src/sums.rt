@@ -3,7 +3,7 @@ ghost use Rattle.std.specs.Prelude.{◌≡◌};
 ghost use Rattle.trysheet.specs.Sums.{sums_with, sums_of};
 
 // The sum of the bytes, and the sum of the sums so far.
-#[derive(Drop)]
+#[derive(Clone, Copy)]
 pub(crate) struct Sums {
     pub a: u16,
     pub b: u16,

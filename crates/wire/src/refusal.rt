@@ -3,7 +3,7 @@ ghost use Rattle.std.specs.Prelude.{◌≡◌, [], ◌∷◌};
 ghost use Rattle.wire.specs.Numbers.{done, number_of, collision};
 
 // Why a call is refused. A refused call changes nothing.
-#[derive(Drop)]
+#[derive(Clone, Copy)]
 pub enum Refusal {
     // Packet short.
     Short,

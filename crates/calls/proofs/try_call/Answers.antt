@@ -1,0 +1,15 @@
+-- Found, or one law for each way of being none.
+use Rattle.calls.proofs.Sorting.{tried_same, tried_other, tried_done, tried_refused}
+use Rattle.calls.proofs.try_call.Goals as goal
+
+pub returns-then-is_same : goal.returns-then-is_same
+returns-then-is_same c = search tried_same
+
+pub returns-else-is_same : goal.returns-else-is_same
+returns-else-is_same c = search tried_other
+
+pub returns-in-Done : goal.returns-in-Done
+returns-in-Done c = search tried_done
+
+pub returns-in-Refused : goal.returns-in-Refused
+returns-in-Refused c = search tried_refused

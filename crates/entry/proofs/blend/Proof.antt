@@ -1,8 +1,0 @@
--- Part by part.
-use borrow.Author.Rules.{rules}
-use Rattle.entry.proofs.Blending.{all_blended}
-use Rattle.entry.proofs.blend.Statement.{statement}
-use Rattle.entry.proofs.blend.Tie as tie
-
-pub blend_spec : {M : Type 1} → statement M
-blend_spec = tie.close (tie.spec (λ c κs. search rules) (λ c κs. search rules) (λ c κs. search rules) (λ c κs. search rules) (λ c κs. search rules) (λ c. search all_blended))

@@ -1,8 +1,0 @@
--- Setting by setting.
-use borrow.Author.Rules.{rules}
-use Rattle.entry.proofs.Blending.{gate_blended}
-use Rattle.entry.proofs.gate.GateKnown.blend.Statement.{statement}
-use Rattle.entry.proofs.gate.GateKnown.blend.Tie as tie
-
-pub blend_spec : {M : Type 1} → statement M
-blend_spec = tie.close (tie.spec (λ c κs. search rules) (λ c κs. search rules) (λ c κs. search rules) (λ c κs. search rules) (λ c. search gate_blended))

@@ -1,0 +1,6 @@
+-- Two words.
+use Rattle.fields.proofs.Answers.{long_put}
+use Rattle.fields.proofs.answer.Answer.put_long.Goals as goal
+
+pub returns : goal.returns
+returns c = search long_put

@@ -1,8 +1,0 @@
--- Each part at power-up.
-use borrow.Author.Rules.{rules}
-use Rattle.node.proofs.Acting.{settings_up}
-use Rattle.node.proofs.state.Settings.power_up.Statement.{statement}
-use Rattle.node.proofs.state.Settings.power_up.Tie as tie
-
-pub power_up_spec : {M : Type 1} → statement M
-power_up_spec = tie.close (tie.spec (λ c κs. search rules) (λ c κs. search rules) (λ c κs. search rules) (λ c. search settings_up))

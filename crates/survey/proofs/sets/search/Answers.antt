@@ -1,0 +1,18 @@
+use Rattle.std.proofs.Common.{◌-◌, ⊎_elim}
+use Rattle.survey.proofs.Searching.{search_start, search_end, search_past, search_first, search_last, search_second, not_none}
+use Rattle.survey.proofs.sets.search.Goals as goal
+
+pub loop-i-init : goal.loop-i-init
+loop-i-init c = search search_start
+
+pub loop-i-preserved : goal.loop-i-preserved
+loop-i-preserved c = ⊎_elim (λ w. search search_first) (λ w. search search_past) c.if-rest-eq1.branch
+
+pub returns-then-n-i : goal.returns-then-n-i
+returns-then-n-i c = search search_end
+
+pub returns-in_default : goal.returns-in_default
+returns-in_default c = search (search_second, not_none)
+
+pub returns-then-rest-eq1-2 : goal.returns-then-rest-eq1-2
+returns-then-rest-eq1-2 c = search search_last

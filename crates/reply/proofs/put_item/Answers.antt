@@ -4,7 +4,7 @@ use Rattle.reply.proofs.Growing.{asked_room, none_yet, byte_more, left_out, all_
 use Rattle.reply.proofs.put_item.Goals as goal
 
 pub returns-then-not-wanted : goal.returns-then-not-wanted
-returns-then-not-wanted c = left_out _ _ _ _ (not-true c.args.wanted c.if-not-wanted.true)
+returns-then-not-wanted c = left_out _ _ _ _ (c.if-not-wanted.true)
 
 pub bounds-out-end : goal.bounds-out-end
 bounds-out-end c = omega arith
@@ -12,7 +12,7 @@ bounds-out-end c = omega arith
 pub loop-i-init : goal.loop-i-init
 loop-i-init c =
     let a = c.args in
-    let w = not-false a.wanted c.if-not-wanted.false in
+    let w = c.if-not-wanted.false in
     (w, asked_room a.wanted a.count a.value a.end _ w c.requires, omega arith, refl, refl, none_yet a.out.now a.end a.count a.value _)
 
 pub loop-i-preserved : goal.loop-i-preserved
@@ -24,7 +24,7 @@ loop-i-preserved c =
       omega arith,
       simp length-set l.invariant.3,
       refl,
-      rw c.wrapping_add_u8-sum.ensures (byte_more l.out a.end l.i a.count l.rest l.sum c.loop-i-test.true ∙ l.invariant.5),
+      rw c.wrapping_add_u8-sum.ensures.value (byte_more l.out a.end l.i a.count l.rest l.sum c.loop-i-test.true ∙ l.invariant.5),
     )
 
 pub returns : goal.returns

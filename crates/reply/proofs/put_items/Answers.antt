@@ -7,7 +7,7 @@ pub loop-i-init : goal.loop-i-init
 loop-i-init c = (omega arith, items_none _ _ _ _ c.counts-counts.ensures c.values-values.ensures _ _ c.requires)
 
 pub put_item-at-requires : goal.put_item-at-requires
-put_item-at-requires c κs =
+put_item-at-requires c =
     let l = c.loop-i in
     passed_room _ _ _ _ _ l.out _ _ l.i c.loop-i-test.true l.invariant.1
 

@@ -1,9 +1,12 @@
 -- One law for each exit.
-use Rattle.tryhost.proofs.Tries.{tries_call, tries_send}
+use Rattle.tryhost.proofs.Tries.{tries_call, tries_send, tries_other}
 use Rattle.tryhost.proofs.attempt.Goals as goal
 
-pub is_sending-requires : goal.is_sending-requires
-is_sending-requires c = search tries_call
+pub returns-then-is_call : goal.returns-then-is_call
+returns-then-is_call c = search tries_call
 
-pub answer_to-requires : goal.answer_to-requires
-answer_to-requires c = search tries_send
+pub returns-then-is_sending : goal.returns-then-is_sending
+returns-then-is_sending c = search tries_send
+
+pub returns : goal.returns
+returns c = search tries_other

@@ -1,6 +1,3 @@
-pub mod Walk
-pub mod Record
+pub mod Unique
 mod Seeing
 mod Acting
-mod Shared
-pub mod Unique

@@ -1,4 +1,3 @@
-mod Prefix
 mod Owner
 pub mod Refusals
 pub mod Unique

@@ -63,6 +63,7 @@ flag_exact Silent t Hits (copies u f) e g o d w p = rw w.0 refl
 flag_exact {s} Silent t May keeps e g o d w p = rw (and-false g) (p s)
 flag_exact Silent t May (stores v) e g o d w p = rw w.0 refl
 flag_exact Silent t May (copies u f) e g o d w p = rw w.0 refl
+flag_exact {s = s} Marked t r f e g o d w p = elim t [ ]
 
 way_node : (b : Bool) → Way (cond b Hits Misses) b true
 way_node true = (refl, refl)
@@ -111,6 +112,7 @@ place_node Clear t true (stores v) n e q p = refl
 place_node Clear t true (copies u f) n e q p = absurd (true≢false n)
 place_node Clear t false f n e q p = p
 place_node Silent t b f n e q p = p
+place_node Marked t b f n e q p = elim t [ ]
 
 place_group : (a : Answer) → Counts a → (r : Reach) (f : Effect place) → writes f ≡ false → (e : Entry) (q : Place) → shows e place ≡ q
     → note_value a r f e ≡ cond (is_clear a && false) (place_in f q) q
@@ -120,6 +122,7 @@ place_group Clear t Hits (stores v) n e q p = absurd (true≢false n)
 place_group Clear t Hits (copies u f) n e q p = absurd (true≢false n)
 place_group Clear t May f n e q p = p
 place_group Silent t r f n e q p = p
+place_group Marked t r f n e q p = elim t [ ]
 
 place_exact : (a : Answer) → Counts a → (to : Address) (c : Command) → Sendable to c → (e : Entry) (past : List Counted) (k : ℕ) → Exact e past k
     → shows (note_of a (reach_of to k e) c e) place ≡ last_place (record { to = to; command = c; clear = is_clear a } ∷ past) k

@@ -43,7 +43,7 @@ doubtful (x ∷ past) k s e = go (could x past k s) refl (doubtful past k s)
         let o = f (rw c at e) in
         record { command = o.command; before = o.before; last = older c o.last; unsure = o.unsure }
 
-last_in_doubt : {past : List Counted} {k : ℕ} {s : Setting} {x : Counted} {before : List Counted} → Last k s past x before
+last_in_doubt : {k : ℕ} {s : Setting} {past : List Counted} {x : Counted} {before : List Counted} → Last k s past x before
     → Unsure x before k s → in_doubt past k s ≡ true
 last_in_doubt {k = k} {s = s} (this {x = x} {before = before} c) u =
     let lost : Bool = in_doubt before k place in

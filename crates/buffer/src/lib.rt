@@ -1,6 +1,8 @@
 // What every LDCN packet needs of bytes: the 8-bit sum that closes it, and writing into a lent buffer.
 // Promised: one changed byte always breaks a sum; what is written goes where it was meant to, the rest stays, and what has no room leaves the buffer.
 // Left to others: which bytes a packet has (packet, status).
+#![tactic(auto)]
+
 ghost use Rattle.std.specs.Prelude.{◌≡◌, slice_set};
 ghost use Rattle.buffer.specs.Sum.{sum_of, ends_in_sum};
 ghost use Rattle.buffer.specs.Buffer.{built_number, put_of};

@@ -3,6 +3,8 @@
 // Bytes are looked for as a recording has them: sent at the divisor of power-up, and by any call but Set Baud Rate.
 // The two kinds of node read some bytes as two commands: found is the one that the nodes it may reach have, and where it reaches nobody it makes no difference.
 // Left to others: what each call does (walk, host), and which bytes came after which (recording).
+#![tactic(auto)]
+
 ghost use Rattle.std.specs.Prelude.{◌≡◌};
 ghost use Rattle.wire.specs.Promise.{Promise, Lending};
 ghost use Rattle.session.specs.Session.{step_number};

@@ -1,6 +1,8 @@
 // A recording's two captures, of the command line and of the reply line: cut into packets by their gaps, and gone through in the order in which the packets start.
 // Promised: the packets are those of the captures' times, a step hands back the earliest one that is left, as a part of its capture, and no byte is lost or handed back twice.
 // Left to others: what a packet says (packet, status), and what it does to the host's record (recording).
+#![tactic(auto)]
+
 ghost use Rattle.std.specs.Prelude.{◌≡◌};
 ghost use Rattle.wire.specs.Promise.{Promise};
 ghost use Rattle.wire.specs.Part.{Part};

@@ -1,6 +1,8 @@
 // The chain as node records side by side in a table that the caller lends.
 // Promised: for every lent table, divisor, packet and reply buffer the paper's number, the nodes as the packet leaves them and the one reply; any number but 0 and 13 changes nothing.
 // Left to others: who hears, acts and replies (survey), and who keeps the nodes (table).
+#![tactic(auto)]
+
 mod steps;
 
 ghost use Rattle.std.specs.Prelude.{◌≡◌};

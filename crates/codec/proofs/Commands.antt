@@ -1,6 +1,6 @@
 -- Commands: what the builder writes, whatever follows it, reads back as the same command for each kind of node that has it, and ends at its length;
 -- up to its end an accepted packet is what it writes from its parts; what both kinds have they read alike; a refused builder leaves the buffer as it stood.
-use Prim.Native.Nat.{ℕ, ◌+◌, ◌*◌, ◌%◌, ◌/◌, ◌<◌, ◌≤◌}
+use Prim.Native.Nat.{ℕ, ◌+◌, ◌%◌, ◌<◌, ◌≤◌}
 use mathlib.Core.Bool.{Bool, true, false, cond, true≢false, false≢true}
 use mathlib.Core.List.{List, ◌++◌}
 use mathlib.Core.Path.{◌≡◌, refl, sym, ap, ◌∙◌}
@@ -9,7 +9,6 @@ use lib.ListN.{length, get_or, take}
 use lib.Seq.{length-take-le}
 use borrow.Author.Tests.{lt-ltb, le-ltb, le-leb, leb-true, eq-eqb}
 use Rattle.wire.specs.Address.{individual_in_range, group_in_range, in_range, byte_of}
-use Rattle.wire.specs.Kind.{is_gate}
 use Rattle.buffer.specs.Buffer.{at_start, written}
 use Rattle.buffer.specs.Change.{AllBytes}
 use Rattle.wire.specs.declared.address.Address.{Address}
@@ -38,7 +37,7 @@ use Rattle.command.specs.declared.Command.TheVariants.{SetAddress, DefineStatus,
 use Rattle.command.specs.declared.Role.{Role}
 use Rattle.command.specs.declared.Role.TheVariants.{Plain, Places, Paces, Masks, Captures, Zeroes, Idles, Resets}
 use Rattle.command.specs.declared.Reading.TheVariants.{Known}
-use Rattle.codec.specs.Reading.{place_of, load_count, stop_count, motion_of, gains_of, stop_of, shared_rows, gate_rows, drive_rows, own_rows, codec_read, ReadsAs}
+use Rattle.codec.specs.Reading.{place_of, load_count, stop_count, motion_of, gains_of, stop_of, shared_rows, gate_rows, drive_rows, codec_read, ReadsAs}
 use Rattle.codec.specs.Build.{code_of, own_data, group_byte, typed_by, Typed, load_data, gain_data, stop_data, packet_for, build_for, codec_build}
 use Rattle.codec.proofs.Values.{word_back}
 use Rattle.codec.proofs.Loads.{load_count_lem, load_first, motion_back, gain_count, gain_tenth, gains_back, stop_count_lem, stop_first, stop_back}

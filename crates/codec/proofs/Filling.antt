@@ -1,10 +1,10 @@
 -- A command's packet is built by the raw builder: its 6 can't occur, since a number is a nibble and no command has more than fourteen data bytes.
-use Prim.Native.Nat.{ℕ, zero, suc, ◌+◌, ◌-◌, ◌*◌, ◌%◌, ◌/◌, ◌≤◌}
-use mathlib.Core.Bool.{Bool, true, false, cond}
+use Prim.Native.Nat.{ℕ, ◌+◌, ◌-◌, ◌*◌, ◌%◌, ◌/◌, ◌≤◌}
+use mathlib.Core.Bool.{Bool, true, false}
 use mathlib.Core.List.{List, [], ◌∷◌, ◌++◌, append_assoc, append-nil}
-use mathlib.Core.Path.{◌≡◌, refl, sym, ap, ◌∙◌}
+use mathlib.Core.Path.{◌≡◌, sym, ap, ◌∙◌}
 use native.Mathlib.Omega.{arith}
-use lib.ListN.{length, take, drop, replicate, length-append, length-replicate, replicate-append-replicate}
+use lib.ListN.{length, take, replicate, length-append, length-replicate, replicate-append-replicate}
 use lib.Seq.{length-take-le, take-append_seam, take_at, take_all}
 use borrow.Author.Tests.{le-ltb}
 use Rattle.wire.specs.Promise.{Lending, lent}
@@ -20,14 +20,12 @@ use Rattle.command.specs.Ranges.{fits_of}
 use Rattle.command.specs.declared.Loads.{Loads}
 use Rattle.command.specs.declared.Place.{Place}
 use Rattle.command.specs.declared.Motion.{Motion}
-use Rattle.command.specs.declared.Gains.{Gains}
 use Rattle.command.specs.declared.Stop.{Stop}
 use Rattle.command.specs.declared.Command.{Command}
 use Rattle.command.specs.declared.Command.TheVariants.{SetAddress, LoadTrajectory, StopMotor}
 use Rattle.codec.specs.Reading.{load_count}
-use Rattle.codec.specs.Build.{code_of, group_byte, word_bytes, long_bytes, bytes_if, load_data, gain_data, stop_data, own_data, packet_to, build_for, codec_build}
+use Rattle.codec.specs.Build.{code_of, group_byte, long_bytes, bytes_if, load_data, stop_data, own_data, packet_to, build_for, codec_build}
 use Rattle.codec.specs.Filling.{command_head, filled}
-use Rattle.codec.proofs.Values.{long_count, byte_count_lem}
 use Rattle.codec.proofs.Loads.{load_count_lem, stop_count_lem}
 use Rattle.codec.proofs.Rows.{sized}
 

@@ -1,6 +1,6 @@
 -- A drive's wide commands come back from their data bytes, and their data bytes from them: value by value, never case by case of a control byte.
-use Prim.Native.Nat.{ℕ, ◌+◌, ◌*◌, ◌/◌, ◌%◌, ◌<◌, ◌≤◌}
-use mathlib.Core.Bool.{Bool, true, false, cond, ◌&&◌}
+use Prim.Native.Nat.{ℕ, ◌+◌, ◌*◌, ◌/◌, ◌%◌, ◌≤◌}
+use mathlib.Core.Bool.{Bool, true, false, ◌&&◌}
 use mathlib.Core.List.{List, [], ◌∷◌, ◌++◌, append_assoc, append-nil}
 use mathlib.Core.Path.{◌≡◌, refl, sym, ap, ◌∙◌}
 use native.Mathlib.Omega.{arith}
@@ -15,7 +15,7 @@ use Rattle.command.specs.declared.Gains.{Gains}
 use Rattle.command.specs.declared.Motion.{Motion}
 use Rattle.command.specs.declared.Stop.{Stop}
 use Rattle.codec.specs.Reading.{velocity_at, acceleration_at, pwm_at, load_count, motion_of, gains_of, stop_count, stop_of}
-use Rattle.codec.specs.Build.{word_bytes, long_bytes, bytes_if, load_data, gain_data, stop_data}
+use Rattle.codec.specs.Build.{long_bytes, bytes_if, load_data, gain_data, stop_data}
 use Rattle.codec.proofs.Values.{word_back, long_comes, byte_comes, byte_from, word_from, long_if_from, long_if_ends, byte_if_ends, four_by, one_by, long_count, byte_count_lem}
 
 -- a value that isn't brought is 0

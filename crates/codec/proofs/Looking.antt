@@ -1,12 +1,12 @@
 -- What the code looks up by the command byte is what the rows say.
 use Prim.Native.Nat.{ℕ, ◌+◌, ◌*◌, ◌/◌, ◌%◌, ◌<◌, ◌≤◌}
-use mathlib.Core.Bool.{Bool, true, false, cond}
+use mathlib.Core.Bool.{Bool, true, false}
 use mathlib.Core.List.{List, [], ◌∷◌}
 use mathlib.Core.Path.{◌≡◌, refl, sym, ap, ◌∙◌}
 use native.Mathlib.Omega.{arith}
 use lib.Dec.{eqb}
 use lib.ListN.{length, get_or, get_or-eq_default}
-use borrow.Author.Tests.{eqb-true, eqb-false, eq-eqb, ne_eqb, lt-ltb, le-ltb, le-leb}
+use borrow.Author.Tests.{eqb-true, eq-eqb, ne_eqb, lt-ltb, le-ltb, le-leb}
 use Rattle.buffer.specs.Wide.{word_of, long_of}
 use Rattle.wire.specs.declared.kind.Kind.{Kind}
 use Rattle.wire.specs.declared.kind.Kind.TheVariants.{Gate, Drive}
@@ -20,7 +20,7 @@ use Rattle.command.specs.declared.Command.TheVariants.{SetAddress, SetPwm, Synch
 use Rattle.command.specs.declared.Reading.{Reading}
 use Rattle.command.specs.declared.Reading.TheVariants.{Known, Other}
 use Rattle.codec.specs.declared.reading.Readings.{Readings}
-use Rattle.codec.specs.Reading.{word_at, long_at, long_if, byte_if, place_of, velocity_at, acceleration_at, pwm_at, load_count, motion_of, gains_of, stop_count, stop_of, if_counted, ranged, gained, shared_rows, gate_rows, drive_rows, own_rows, or_else, codec_read, readings_of}
+use Rattle.codec.specs.Reading.{word_at, long_if, byte_if, place_of, velocity_at, acceleration_at, pwm_at, load_count, motion_of, gains_of, stop_count, stop_of, if_counted, ranged, gained, shared_rows, gate_rows, drive_rows, or_else, codec_read, readings_of}
 use Rattle.codec.specs.Looking.{alike_of, listed_of, wide_rows}
 use Rattle.codec.proofs.Rows.{met, other_not, unknown, above, beyond}
 

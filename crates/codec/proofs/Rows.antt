@@ -1,11 +1,11 @@
 -- Reading goes by rows, and each row is a command's number and count: what is read has them, and comes from no other bytes.
-use Prim.Native.Nat.{ℕ, ◌+◌, ◌*◌, ◌/◌, ◌%◌, ◌<◌, ◌≤◌}
+use Prim.Native.Nat.{ℕ, ◌+◌, ◌%◌, ◌<◌, ◌≤◌}
 use mathlib.Core.Bool.{Bool, true, false, cond}
 use mathlib.Core.List.{List, [], ◌∷◌, ◌++◌}
 use mathlib.Core.Path.{◌≡◌, refl, sym, ap, ◌∙◌}
 use native.Mathlib.Omega.{arith}
 use lib.Dec.{eqb, ltb}
-use lib.ListN.{length, get_or, drop}
+use lib.ListN.{length, get_or}
 use lib.Seq.{drop-length}
 use borrow.Author.Tests.{eqb-true, ltb-true, ltb-false}
 use Rattle.buffer.specs.Change.{AllBytes}
@@ -14,7 +14,7 @@ use Rattle.wire.specs.declared.kind.Kind.TheVariants.{Gate, Drive}
 use Rattle.wire.proofs.Choice.{chose_first}
 use Rattle.buffer.proofs.Bytes.{byte_at}
 use Rattle.wire.proofs.Impossible.{impossible}
-use Rattle.command.specs.Owner.{owner_of, has}
+use Rattle.command.specs.Owner.{owner_of}
 use Rattle.command.specs.Ranges.{fits_of}
 use Rattle.command.specs.declared.Command.{Command}
 use Rattle.command.specs.declared.Command.TheVariants.{SetAddress, DefineStatus, ReadStatus, SetPwm, SynchOutput, SetOutputs, SetSynchOutput, SetTimerMode, SetBaudRate, SynchInput, Nop, HardReset, ResetPosition, LoadTrajectory, StartMotion, SetGain, StopMotor}
@@ -23,7 +23,7 @@ use Rattle.command.specs.declared.Owner.TheVariants as owner
 use Rattle.command.specs.declared.Reading.{Reading}
 use Rattle.command.specs.declared.Reading.TheVariants.{Known, Other}
 use Rattle.codec.specs.Reading.{word_at, place_of, load_count, motion_of, gains_of, stop_count, stop_of, shared_rows, gate_rows, drive_rows, own_rows, or_else, codec_read}
-use Rattle.codec.specs.Build.{code_of, own_data, word_bytes, group_byte, Typed, gain_data}
+use Rattle.codec.specs.Build.{code_of, own_data, word_bytes, group_byte, Typed}
 use Rattle.codec.proofs.Values.{byte_from, word_from, byte_if_ends}
 use Rattle.codec.proofs.Loads.{load_few, load_read, loaded, gain_count, gained_bytes, stop_few, stop_read, stopped}
 

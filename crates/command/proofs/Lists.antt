@@ -1,6 +1,6 @@
 -- The manuals' lists of divisors.
 use Prim.Native.Nat.{ℕ}
-use mathlib.Core.Bool.{Bool, true, false, ◌||◌}
+use mathlib.Core.Bool.{true, false}
 use mathlib.Core.Path.{◌≡◌, refl}
 use lib.Dec.{eqb}
 use Rattle.wire.specs.declared.kind.Kind.{Kind}

@@ -1,6 +1,8 @@
 // The commands of an LS-773 and of an LS-173AP: one enum, whose cases carry their own data.
 // Promised: of each command its role, which kinds of node have it, and whether its values are of the manual's ranges.
 // Left to others: how a command is read and built (codec), and what it does (node).
+#![tactic(auto)]
+
 ghost use Rattle.std.specs.Prelude.{◌≡◌};
 ghost use Rattle.command.specs.Role.{role_of, is_placing, is_pacing, is_nop, is_reset};
 ghost use Rattle.command.specs.Owner.{owner_of, has};

@@ -12,7 +12,7 @@ use Rattle.command.specs.Role.{role_of}
 use Rattle.command.specs.Control.{loads_of}
 use Rattle.node.specs.declared.state.Settings.{Settings}
 use Rattle.node.specs.Setting.{MotionPart, Setting, place, mask, divisor, gate, drive, waiting, inForce, Value, get_motion}
-use Rattle.node.specs.Effect.{Effect, keeps, stores, copies, settings_power_up, brings, starting, effect}
+use Rattle.node.specs.Effect.{Effect, keeps, stores, settings_power_up, brings, starting, effect}
 use Rattle.node.proofs.Laws.{place_effect, place_effect_lem, divisor_effect, divisor_effect_lem}
 use Rattle.entry.specs.declared.gate.GateKnown.{GateKnown}
 use Rattle.entry.specs.declared.drive.MotionKnown.{MotionKnown}

@@ -1,6 +1,8 @@
 // One node's entry in the host's record: its kind, its settings as last known, which of them are known, and what an answer makes of it.
 // Promised: only what the command writes changes, by the node's own table of effects; doubt changes no value; the kind stays.
 // Left to others: which nodes a command goes to (ledger), and how a reply is judged (status).
+#![tactic(auto)]
+
 mod drive;
 mod gate;
 mod pick;

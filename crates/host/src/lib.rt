@@ -1,6 +1,8 @@
 // The calls of a ready session: a command to a node or a group, a node in another group, and another divisor for a group.
 // Promised: the refusals in the paper's sequence, else the packet at the start of the lent buffer and its exchange opened; any number but 0 changes nothing.
 // Left to others: how a session becomes ready (start, walk), how long to wait for a reply (the caller), and what it comes to (reports).
+#![tactic(auto)]
+
 ghost use Rattle.std.specs.Prelude.{◌≡◌};
 ghost use Rattle.wire.specs.Promise.{Promise, Lending};
 ghost use Rattle.session.specs.Session.{step_number};

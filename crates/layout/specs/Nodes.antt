@@ -1,5 +1,5 @@
 -- NODE: what a node of the chain holds, "KIND, divisor, address, group, leader (00/01), addressed (00/01), mask, and then by its kind".
-use Rattle.std.specs.Prelude.{ℕ, Bool, false, cond, ◌&&◌, List, [], ◌∷◌, map, eqb, ltb, leb, length, take, drop}
+use Rattle.std.specs.Prelude.{ℕ, Bool, cond, ◌&&◌, List, [], ◌∷◌, map, eqb, ltb, leb, length, take, drop}
 use Rattle.wire.specs.declared.kind.Kind.{Kind}
 use Rattle.wire.specs.declared.kind.Kind.TheVariants.{Gate, Drive}
 use Rattle.fields.specs.declared.answer.Answer.{Answer}

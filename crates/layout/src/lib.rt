@@ -2,6 +2,8 @@
 // Here alone stands how long a record is and what has which position in it.
 // Promised: which bytes are records, what each of them reads as, and the bytes that show it.
 // Left to others: what a line does with its records (trychain, state).
+#![tactic(auto)]
+
 mod entries;
 mod nodes;
 mod settings;

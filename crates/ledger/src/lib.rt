@@ -1,6 +1,8 @@
 // The host's record of all nodes: 31 entries, of which those of nodes 1 to n are told of every exchange.
 // Promised: nodes 1 to n of the kinds told; node by node what its entry makes of the exchange; who stands in a leader's way; whose kind lacks a command; whose manual lists a divisor.
 // Left to others: which command waits, and how far the walk is (session, reports).
+#![tactic(auto)]
+
 ghost use Rattle.std.specs.Prelude.{◌≡◌};
 ghost use Rattle.ledger.specs.Ledger.{ledger_power_up, ledger_least, group_reach, reach_by, settle_of, forget_of, is_rival, is_led, does_lack, is_lacked, lacks_divisor, is_unlisted, is_off_list};
 

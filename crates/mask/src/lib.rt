@@ -1,6 +1,8 @@
 // A status mask: which items a status packet has under it, by the byte counts of Define Status at the kind of node that it is for.
 // Promised: how many bytes the status packet has, and one whole status packet read under a mask.
 // Left to others: the items' values (reply), and whether a reply is clear (status).
+#![tactic(auto)]
+
 ghost use Rattle.std.specs.Prelude.{◌≡◌};
 ghost use Rattle.wire.specs.Promise.{Promise};
 ghost use Rattle.status.specs.Status.{status_number};

@@ -1,6 +1,8 @@
 // What a packet says to a node that it is meant for, by the node's kind: some command bytes are two commands.
 // Promised: which of the three it is to either kind, and whether it is answered at all.
 // Left to others: what the node makes of it (node), and the reply (reply).
+#![tactic(auto)]
+
 ghost use Rattle.std.specs.Prelude.{◌≡◌};
 ghost use Rattle.message.specs.Message.{is_taken, message_by, message_of, is_answered, messages_of, message_to};
 

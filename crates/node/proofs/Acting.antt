@@ -24,9 +24,8 @@ use Rattle.node.specs.declared.state.Settings.{Settings}
 use Rattle.node.specs.declared.state.Bench.{Bench}
 use Rattle.node.specs.declared.state.Captured.{Captured}
 use Rattle.node.specs.declared.state.Node.{Node}
-use Rattle.node.specs.declared.state.Shown.{Shown}
-use Rattle.node.specs.Setting.{MotionPart, Setting, place, mask, divisor, gate, drive, DriveSetting, waiting, inForce, Value, get_motion, make_motion, make_drive, make_gate, get}
-use Rattle.node.specs.Effect.{Effect, keeps, stores, copies, settings_power_up, divisor_up, place_power_up, gate_power_up, drive_power_up, brings, starting, effect, applied, settings_after, own_after}
+use Rattle.node.specs.Setting.{MotionPart, Setting, place, mask, divisor, gate, drive, waiting, Value, get_motion, make_motion, make_drive, make_gate, get}
+use Rattle.node.specs.Effect.{Effect, keeps, stores, settings_power_up, divisor_up, place_power_up, gate_power_up, drive_power_up, brings, starting, effect, applied, settings_after, own_after}
 use Rattle.node.specs.Node.{power_up, nothing, does_heed, addressed_after, captured_after, position_after, act_as, take_as, take_of, mask_after, shown_of}
 use Rattle.node.specs.Parts.{message_role, with_drive, gate_after, drive_after, gate_take, drive_take, heeded_role, load_of, loaded_of, place_by, divisor_by, mask_by, mask_take}
 use Rattle.node.proofs.Laws.{place_effect, place_effect_lem, divisor_effect, divisor_effect_lem}

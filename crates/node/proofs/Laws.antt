@@ -20,7 +20,7 @@ use Rattle.node.specs.declared.state.Settings.{Settings}
 use Rattle.node.specs.declared.state.Node.{Node}
 use Rattle.message.specs.declared.Message.{Message}
 use Rattle.message.specs.declared.Message.TheVariants.{Intact, Other, Spoilt}
-use Rattle.node.specs.Setting.{Setting, place, mask, divisor, gate, drive, DriveSetting, gains, stop, waiting, inForce, owns, Value, get, make_same, GateSetting}
+use Rattle.node.specs.Setting.{Setting, place, mask, divisor, gate, drive, DriveSetting, owns, Value, get, make_same, GateSetting}
 use Rattle.node.specs.Effect.{Effect, keeps, stores, copies, settings_power_up, divisor_up, on_place, on_mask, on_divisor, on_gate, on_drive, effect, writes, applied, settings_after, get_after, own_after, get_own}
 use Rattle.node.specs.Node.{nothing, does_heed, addressed_after, act_as, take_of}
 

@@ -14,7 +14,7 @@ use Rattle.message.specs.declared.Message.TheVariants.{Intact, Other, Spoilt}
 use Rattle.node.specs.declared.gate.GateSettings.{GateSettings}
 use Rattle.node.specs.declared.drive.DriveSettings.{DriveSettings}
 use Rattle.node.specs.declared.state.Settings.{Settings}
-use Rattle.node.specs.Setting.{MotionPart, get_motion, make_motion}
+use Rattle.node.specs.Setting.{get_motion, make_motion}
 use Rattle.node.specs.Effect.{settings_power_up, divisor_up, brings, settings_after}
 use Rattle.node.specs.Node.{does_heed}
 

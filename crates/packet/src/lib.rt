@@ -1,6 +1,8 @@
 // Command packets: 0xAA; address; command byte; 0 to 15 data bytes; sum.
 // Promised: a built packet, whatever follows it, reads back as its parts and ends at its length; up to its end an accepted one is the one built from its parts.
 // Left to others: which command a nibble with its data is (command), and that a wrong sum is answered (message).
+#![tactic(auto)]
+
 ghost use Rattle.std.specs.Prelude.{◌≡◌, ◌+◌, ◌≤◌, ◌++◌, length, drop};
 ghost use Rattle.wire.specs.Promise.{Promise, Lending};
 ghost use Rattle.wire.specs.Part.{Part};

@@ -1,6 +1,8 @@
 // A recording gone through packet by packet: what each packet does to a host that sent these commands and was told of these replies, and its record at the end.
 // Promised: 6, 15, 16 in that sequence, before the first packet; each step and the whole walk, for every recording.
 // Left to others: where packets begin and end (capture), which call gives which bytes (calls), and what it all means for the nodes (line).
+#![tactic(auto)]
+
 ghost use Rattle.std.specs.Prelude.{◌≡◌, length};
 ghost use Rattle.wire.specs.Promise.{Promise};
 ghost use Rattle.capture.specs.Checks.{checked_number};

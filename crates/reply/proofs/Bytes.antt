@@ -1,5 +1,5 @@
 -- The bytes of an item, least significant first: how many they are, and the value that they give.
-use Rattle.std.proofs.Common.{◌≡◌, ℕ, zero, suc, ◌+◌, ◌-◌, ◌*◌, ◌/◌, ◌^◌, ◌<◌, List, [], ◌∷◌, length, refl, ap, div-lt_iff_lt-mul, pow-suc, arith}
+use Rattle.std.proofs.Common.{◌≡◌, ℕ, zero, suc, ◌+◌, ◌*◌, ◌/◌, ◌^◌, ◌<◌, List, [], ◌∷◌, length, refl, ap, div-lt_iff_lt-mul, pow-suc, arith}
 use Rattle.reply.specs.Items.{bytes_of}
 
 pub bytes_length : (n w : ℕ) → length (bytes_of n w) ≡ n

@@ -2,6 +2,8 @@
 // It is written straight into the lent buffer and grows there, item by item, its sum carried along: after each item a whole status packet stands in it.
 // Promised: every reply is good, says by bit 1 whether the sum was wrong, and reads back under its mask as the items asked for.
 // Left to others: whether the node replies at all (message, survey).
+#![tactic(auto)]
+
 ghost use Rattle.std.specs.Prelude.{◌≡◌, ◌+◌, ◌<◌, ◌≤◌, length};
 ghost use Rattle.wire.specs.Promise.{Lending};
 ghost use Rattle.buffer.specs.Wide.{word_of};

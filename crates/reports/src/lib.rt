@@ -1,6 +1,8 @@
 // Reporting: an open exchange is closed by what was received, or by silence.
 // Promised: the record after it, node by node, and the walk; 8 where no exchange is open.
 // Left to others: when silence is silence (the caller).
+#![tactic(auto)]
+
 ghost use Rattle.std.specs.Prelude.{◌≡◌};
 ghost use Rattle.wire.specs.Promise.{Promise};
 ghost use Rattle.session.specs.Session.{step_number};

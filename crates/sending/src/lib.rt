@@ -1,6 +1,8 @@
 // What every call that sends does: first it tests the session and what it was asked for, last it builds its packet.
 // Promised: one sequence of tests for all calls, and the first refusal wins; the packet at the start of the lent buffer and its exchange opened, or the builder's refusal and nothing else.
 // Left to others: which command goes where, with the refusals of its own (walk, host); the bytes on the line (the caller).
+#![tactic(auto)]
+
 ghost use Rattle.std.specs.Prelude.{◌≡◌};
 ghost use Rattle.wire.specs.Promise.{Promise, Lending};
 ghost use Rattle.session.specs.Session.{step_number};

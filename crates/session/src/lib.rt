@@ -1,6 +1,8 @@
 // The host's session by value: what it shows, and what the calls and the reports both ask of it.
 // Promised: a look at a node; which sessions count as closed; the place that the walk gives.
 // Left to others: how one starts (start), sending (sending, walk, host), and closing an exchange (reports).
+#![tactic(auto)]
+
 ghost use Rattle.std.specs.Prelude.{◌≡◌};
 ghost use Rattle.wire.specs.Promise.{Promise};
 ghost use Rattle.session.specs.Session.{end_number, step_number, refuse_of, off_chain, is_stray, is_valid, is_closed, given_place, is_ask_due, shown_number, look_of};

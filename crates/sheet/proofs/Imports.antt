@@ -23,7 +23,7 @@ use Rattle.buffer.proofs.Appends.{put_wrote}
 use Rattle.text.specs.Lines.{first_line, lines_of}
 use Rattle.text.proofs.Parts.{lines_next}
 use Rattle.hexadecimal.specs.Hex.{bytes}
-use Rattle.hexadecimal.specs.Gathering.{whole, gathered}
+use Rattle.hexadecimal.specs.Gathering.{gathered}
 use Rattle.hexadecimal.specs.declared.pairs.Parsed.{Parsed}
 use Rattle.hexadecimal.specs.declared.pairs.Parsed.TheVariants as parsed
 use Rattle.sheet.specs.Line.{line_in}

@@ -1,6 +1,8 @@
 // How a session starts.
 // Promised: a fresh session, and power-up with n nodes of the kinds told, at any time.
 // Left to others: the walk, which gives the nodes their addresses (walk).
+#![tactic(auto)]
+
 ghost use Rattle.std.specs.Prelude.{◌≡◌};
 ghost use Rattle.wire.specs.Promise.{Promise};
 ghost use Rattle.session.specs.Session.{step_number};

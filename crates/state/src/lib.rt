@@ -2,6 +2,8 @@
 // In it, and in a line of its own, ORDER: a command with whom it is for.
 // Promised: which bytes are a STATE or an ORDER, what each reads as, and the bytes that show it.
 // Left to others: which lines have them (tryhost), and the entries (layout).
+#![tactic(auto)]
+
 mod exchange;
 mod order;
 

@@ -1,6 +1,8 @@
 // Status packets: status byte; the items asked for; sum. How many bytes each item has. And how the host takes what it received for a command.
 // Promised: a status packet reads back as its parts, an accepted one is the one of its parts, a reply with one byte changed is never good.
 // Left to others: which items a mask asks for (mask), writing them (reply), and what an answer makes of the record (entry).
+#![tactic(auto)]
+
 ghost use Rattle.std.specs.Prelude.{◌≡◌};
 ghost use Rattle.wire.specs.Promise.{Promise};
 ghost use Rattle.wire.specs.Part.{Part};

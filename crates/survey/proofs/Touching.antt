@@ -1,5 +1,5 @@
 -- A packet that changes no node: nobody need be gone through.
-use Rattle.std.proofs.Common.{◌≡◌, ℕ, ◌/◌, ◌%◌, Bool, true, false, cond, not, eqb, List, [], ◌∷◌, sym, refl, ap, ◌∙◌, true≢false}
+use Rattle.std.proofs.Common.{◌≡◌, ℕ, ◌/◌, ◌%◌, Bool, true, false, cond, eqb, List, [], ◌∷◌, sym, refl, ◌∙◌}
 use mathlib.Core.Bool.{false≢true}
 use borrow.Author.Tests.{not-false}
 use Rattle.wire.specs.declared.kind.Kind.{Kind}
@@ -14,7 +14,6 @@ use Rattle.message.specs.declared.Messages.{Messages}
 use Rattle.message.specs.Message.{message_to}
 use Rattle.node.specs.declared.state.Node.{Node}
 use Rattle.node.specs.Node.{take_as}
-use Rattle.survey.specs.One.{take_for}
 use Rattle.survey.specs.Decision.{is_idle, does_touch, touched_of, act_all}
 use Rattle.survey.proofs.Visiting.{visit_none}
 

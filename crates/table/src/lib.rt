@@ -1,6 +1,8 @@
 // The chain's table as its owner keeps it: an array with a count, lent to the chain call by call.
 // Promised: what the chain promises of the nodes that are counted; those behind them stay.
 // Left to others: every rule of the chain (chain).
+#![tactic(auto)]
+
 ghost use Rattle.std.specs.Prelude.{◌≡◌, ◌≤◌};
 ghost use Rattle.wire.specs.Promise.{Lending};
 ghost use Rattle.table.specs.Table.{table_room, delivered_number, table_deliver};

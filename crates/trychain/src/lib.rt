@@ -1,6 +1,8 @@
 // The line of `trials` that tries the chain: 20 delivers a packet to node records that are lent for that line alone.
 // Promised: the line's answer, by what the table's owner is promised.
 // Left to others: the records (layout), and every rule of the chain (chain).
+#![tactic(auto)]
+
 ghost use Rattle.std.specs.Prelude.{◌≡◌, take};
 ghost use Rattle.fields.specs.Field.{fields_byte};
 ghost use Rattle.fields.specs.Lending.{most_room, filled_of, room_of};

@@ -2,6 +2,8 @@
 // 37 shows the session, 38 hands in one made by hand, 39 Set Baud Rate.
 // Promised: whether a line is of its form, which is asked first, and what its call answers, leaves and makes of the session.
 // Left to others: what the calls do (start, walk, host, reports), and how a session is written (state).
+#![tactic(auto)]
+
 ghost use Rattle.std.specs.Prelude.{◌≡◌};
 ghost use Rattle.wire.specs.Promise.{Promise, Lending};
 ghost use Rattle.session.specs.Session.{step_number};

@@ -1,6 +1,8 @@
 // The lines of `trials` that try packets: 10 builds one, 11 reads one, 12 reads a status packet.
 // Promised: each shows what the call that it tries answers and leaves, as docs/TRIALS.md has it.
 // Left to others: what the calls answer (packet, mask, status), and the other lines (trychain, tryhost, trysheet).
+#![tactic(auto)]
+
 ghost use Rattle.std.specs.Prelude.{◌≡◌};
 ghost use Rattle.trypacket.specs.Trial.{build_into, trypacket_build, trypacket_read, read_under, read_status};
 

@@ -1,6 +1,8 @@
 // The line of `trials` that tries recordings: 50 walks through one packet by packet.
 // Promised: it shows each packet that a step hands back, how the walk ended and its session then, as docs/TRIALS.md has it.
 // Left to others: what the calls answer (recording, capture), how a session is written (state), and the other lines (trypacket, trychain, tryhost, trysheet).
+#![tactic(auto)]
+
 mod form;
 mod steps;
 mod writing;

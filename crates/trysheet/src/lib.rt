@@ -1,6 +1,8 @@
 // The lines of `trials` that try movement sheets: 40 imports one, 41 exports packets; 42 and 43 do so with what copies of a unit make.
 // Promised: each shows what the call that it tries answers and leaves, as docs/TRIALS.md has it: all of the lent buffer, or its sums.
 // Left to others: what the calls answer (sheet), and the other lines (trypacket, trychain, tryhost).
+#![tactic(auto)]
+
 mod copies;
 mod sums;
 

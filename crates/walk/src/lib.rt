@@ -1,6 +1,8 @@
 // The walk: the host gives the nodes their addresses, one after another.
 // Promised: the refusals in the paper's sequence, else "next" sends Set Address to 0x00, or "ask" a Nop to the new address; any number but 0 changes nothing.
 // Left to others: how a walk starts (start), what an answer makes of it (reports), how long to wait for one (the caller).
+#![tactic(auto)]
+
 ghost use Rattle.std.specs.Prelude.{◌≡◌};
 ghost use Rattle.wire.specs.Promise.{Promise, Lending};
 ghost use Rattle.session.specs.Session.{step_number};

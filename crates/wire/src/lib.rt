@@ -1,6 +1,8 @@
 // What every call speaks of: the paper's numbers, individual and group addresses, kinds of node.
 // Promised: each refusal has its number; a byte names one address and comes back from it.
 // Left to others: sums and lent buffers (buffer), and which refusal comes first.
+#![tactic(auto)]
+
 mod address;
 mod kind;
 mod refusal;

@@ -1,4 +1,4 @@
-use Rattle.std.proofs.Common.{◌≡◌, ℕ, ◌+◌, ◌-◌, ◌<◌, ◌≤◌, List, length, get_or, set, sym, ap, ◌∙◌, le_antisymm, add-one, arith, length-set, rules}
+use Rattle.std.proofs.Common.{◌≡◌, ℕ, ◌+◌, ◌<◌, ◌≤◌, List, length, get_or, set, sym, ap, ◌∙◌, le_antisymm, add-one, arith, length-set, rules}
 use lib.Seq.{paste, paste-zero, paste-suc}
 use Rattle.buffer.specs.Buffer.{put_of}
 use Rattle.buffer.proofs.Writing.{put_fits, put_not}

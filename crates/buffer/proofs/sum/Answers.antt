@@ -1,4 +1,4 @@
-use Rattle.std.proofs.Common.{◌≡◌, ℕ, ◌+◌, ◌-◌, ◌%◌, ◌<◌, ◌≤◌, List, length, get_or, take, add-one, arith, take_all, rules}
+use Rattle.std.proofs.Common.{◌≡◌, ℕ, ◌+◌, ◌%◌, ◌<◌, ◌≤◌, List, length, get_or, take, add-one, arith, take_all, rules}
 use Rattle.buffer.specs.Sum.{total, sum_of}
 use Rattle.buffer.proofs.Sums.{total_take}
 use Rattle.buffer.proofs.sum.Goals as goal

@@ -1,4 +1,3 @@
-use Prim.Native.Nat.{◌-◌}
 use borrow.Author.Rules.{rules}
 use Rattle.capture.proofs.Rising.{rising_start, rising_next, rising_falls, rising_end}
 use Rattle.capture.proofs.is_rising.Goals as goal

@@ -1,4 +1,3 @@
-use Prim.Native.Nat.{◌-◌}
 use borrow.Author.Rules.{rules}
 use Rattle.capture.proofs.Ends.{end_past, reaching_start, reaching_next, reaching_gap, reaching_end}
 use Rattle.capture.proofs.packet_end.Goals as goal

@@ -1,7 +1,6 @@
-use Prim.Native.Nat.{◌-◌}
 use native.Mathlib.Omega.{arith}
 use borrow.Author.Rules.{rules}
-use Rattle.ledger.specs.Ledger.{blank_entry, does_lack}
+use Rattle.ledger.specs.Ledger.{blank_entry}
 use Rattle.ledger.proofs.Turns.{lacked_start, any_found, any_turn, any_none, least_31}
 use Rattle.ledger.proofs.is_lacked.Goals as goal
 

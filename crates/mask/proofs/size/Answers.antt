@@ -1,5 +1,4 @@
 use native.Mathlib.Omega.{arith}
-use Prim.Native.Nat.{◌-◌}
 use Rattle.mask.proofs.Sizes.{counted_none, counted_room, counted_one, counted_all}
 use Rattle.mask.proofs.size.Goals as goal
 

@@ -1,5 +1,4 @@
-use Rattle.std.proofs.Common.{◌-◌, true, refl, ◌∙◌, arith, length-set}
-use borrow.Author.Tests.{not-true, not-false}
+use Rattle.std.proofs.Common.{refl, ◌∙◌, arith, length-set}
 use Rattle.reply.proofs.Growing.{asked_room, none_yet, byte_more, left_out, all_written}
 use Rattle.reply.proofs.put_item.Goals as goal
 

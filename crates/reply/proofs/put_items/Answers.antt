@@ -1,4 +1,4 @@
-use Rattle.std.proofs.Common.{◌-◌, arith}
+use Rattle.std.proofs.Common.{arith}
 use Rattle.reply.proofs.Growing.{passed_room, passed_one}
 use Rattle.reply.proofs.Showing.{items_none, items_all}
 use Rattle.reply.proofs.put_items.Goals as goal

@@ -8,8 +8,8 @@ loop-i-init c = search search_start
 pub loop-i-preserved : goal.loop-i-preserved
 loop-i-preserved c =
     elim c.if-rest-eq1.branch [
-      then-rest-eq1+in-None+else-rest-eq1-2 w ↦ search search_first
-    | else-rest-eq1 w ↦ search search_past
+      | then-rest-eq1+in-None+else-rest-eq1-2 w ↦ search search_first
+      | else-rest-eq1 w ↦ search search_past
     ]
 
 pub returns-then-n-i : goal.returns-then-n-i

@@ -1,4 +1,3 @@
-use Prim.Native.Nat.{◌-◌}
 use borrow.Author.Rules.{rules}
 use Rattle.text.proofs.Sameness.{differ_long, far_start, far_next, far_differ, far_end}
 use Rattle.text.proofs.same.is_same.Goals as goal

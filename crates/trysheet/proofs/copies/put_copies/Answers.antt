@@ -1,4 +1,4 @@
-use Rattle.std.proofs.Common.{◌-◌, arith}
+use Rattle.std.proofs.Common.{arith}
 use Rattle.trysheet.proofs.Copying.{copies_none, copy_fits, copies_more, copies_all}
 use Rattle.trysheet.proofs.copies.put_copies.Goals as goal
 

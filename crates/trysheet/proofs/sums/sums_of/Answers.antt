@@ -1,4 +1,4 @@
-use Rattle.std.proofs.Common.{◌-◌, arith}
+use Rattle.std.proofs.Common.{arith}
 use Rattle.trysheet.proofs.Summing.{sums_more, sums_all}
 use Rattle.trysheet.proofs.sums.sums_of.Goals as goal
 

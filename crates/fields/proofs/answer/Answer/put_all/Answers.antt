@@ -1,4 +1,3 @@
-use Prim.Native.Nat.{◌-◌}
 use native.Mathlib.Omega.{arith}
 use Rattle.fields.proofs.Answers.{all_more, all_put}
 use Rattle.fields.proofs.answer.Answer.put_all.Goals as goal

@@ -1,8 +1,10 @@
 // The bench program: standard input to standard output, by `script::rehearse`.
+#![tactic(auto)]
+
 ghost use Rattle.std.specs.Prelude.{◌≡◌, length};
 
 use buffer::Built;
-use libc::{STDIN_FILENO, STDOUT_FILENO};
+use std::io;
 
 // Room for the longest input, 64 KiB, and one byte more, which tells that it is longer.
 fn input_room() -> [u8; 65537]
@@ -19,16 +21,14 @@ fn output_room() -> [u8; 655360]
     [0; 655360]
 }
 
-fn main() {
+fn main(rt: HostRuntime) -> io::Result<()> {
     let mut input = input_room();
     let mut output = output_room();
-    let n = io::read_full(STDIN_FILENO, &mut input);
+    let n = reading::read_full(&mut rt.stdin(), &mut input)?;
     let done = script::rehearse(&input[..n], &mut output);
     match done {
-        Built::Bytes(m) => {
-            io::write_all(STDOUT_FILENO, &output[..m]);
-        }
+        Built::Bytes(m) => rt.write_all(&output[..m]),
         // It never comes to this: the output has room.
-        Built::Refused(_) => {}
+        Built::Refused(_) => Ok(()),
     }
 }

@@ -1,8 +1,11 @@
 // Divisors: the program `trials` once more, run on lines of divisors. An input has 64 KiB, and those of gates and of drives fill two.
-use libc::STDIN_FILENO;
+#![tactic(auto)]
 
-fn main() {
+use std::io;
+
+fn main(rt: HostRuntime) -> io::Result<()> {
     let mut input = trylines::input_room();
-    let n = io::read_full(STDIN_FILENO, &mut input);
-    trylines::try_all(&input[..n]);
+    let n = reading::read_full(&mut rt.stdin(), &mut input)?;
+    trylines::try_all(&rt, &input[..n])?;
+    Ok(())
 }

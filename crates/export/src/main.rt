@@ -1,9 +1,11 @@
 // The program `export`: packets back to back on standard input, their sheet on standard output; or why not, in a line on standard error.
+#![tactic(auto)]
+
 ghost use Rattle.std.specs.Prelude.{◌≡◌, length};
 
 use buffer::Built;
-use libc::{STDERR_FILENO, STDIN_FILENO, STDOUT_FILENO};
 use packet::Framed;
+use std::io;
 use wire::Refusal;
 
 // The most bytes of packets.
@@ -45,36 +47,33 @@ fn first_fault(packets: &[u8]) -> usize {
     passed + 1
 }
 
-fn say(words: &[u8]) {
-    io::write_all(STDERR_FILENO, words);
+fn say(rt: &impl Eprint, words: &str) -> io::Result<()> {
+    rt.eprint(words)
 }
 
 // The refusal has no packet's number with it: it is looked for here.
-fn say_fault(packets: &[u8], why: Refusal) {
-    say(b"packet ");
-    io::print_decimal(STDERR_FILENO, first_fault(packets) as u64);
+fn say_fault(rt: &impl Eprint, packets: &[u8], why: Refusal) -> io::Result<()> {
+    let number = first_fault(packets);
+    eprint!(rt; "packet {number}")?;
     match why {
-        Refusal::Short => say(b": cut short\n"),
-        Refusal::Header => say(b": no header\n"),
-        Refusal::Sum => say(b": wrong sum\n"),
+        Refusal::Short => say(rt, ": cut short\n"),
+        Refusal::Header => say(rt, ": no header\n"),
+        Refusal::Sum => say(rt, ": wrong sum\n"),
         // It never comes to this: export has no other refusal but 5, and the sheet has room.
-        _ => say(b"\n"),
+        _ => say(rt, "\n"),
     }
 }
 
-fn main() {
+fn main(rt: HostRuntime) -> io::Result<()> {
     let mut input = packets_room();
     let mut sheet = sheet_room();
-    let n = io::read_full(STDIN_FILENO, &mut input);
+    let n = reading::read_full(&mut rt.stdin(), &mut input)?;
     if MOST_PACKETS < n {
-        say(b"more than 64 KiB of packets\n");
-        return;
+        return say(&rt, "more than 64 KiB of packets\n");
     }
     let packets = &input[..n];
     match sheet::export(packets, &mut sheet) {
-        Built::Bytes(m) => {
-            io::write_all(STDOUT_FILENO, text::first(&sheet, m));
-        }
-        Built::Refused(why) => say_fault(packets, why),
+        Built::Bytes(m) => rt.write_all(text::first(&sheet, m)),
+        Built::Refused(why) => say_fault(&rt, packets, why),
     }
 }

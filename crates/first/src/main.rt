@@ -1,15 +1,17 @@
 // A first program: two gates get their addresses, the second one opens, and the host says what it knows of each.
+#![tactic(auto)]
+
 mod bench;
 
 use bench::exchange;
 use command::Command;
-use libc::STDOUT_FILENO;
 use node::Node;
 use session::{Session, Shown};
+use std::io;
 use wire::{Address, Individual, Kind, MOST_NODES};
 
 // Prints a node's number, whether its outputs are known, and the outputs.
-fn print(s: Session, node: u8) {
+fn print(rt: &impl Print, s: Session, node: u8) -> io::Result<()> {
     if let Shown::Found(entry) = session::look(s, Individual(node)) {
         let known = if entry.known.gate.outputs { 1 } else { 0 };
         let outputs = entry.settings.gate.outputs;
@@ -17,12 +19,13 @@ fn print(s: Session, node: u8) {
         let high = (outputs / 256) as u8;
         let mut line = [0; 12];
         hexadecimal::write_line(&[node, known, low, high], &mut line);
-        io::write_all(STDOUT_FILENO, b"node, known, outputs: ");
-        io::write_all(STDOUT_FILENO, &line);
+        rt.write_all(b"node, known, outputs: ")?;
+        rt.write_all(&line)?;
     }
+    Ok(())
 }
 
-fn main() {
+fn main(rt: HostRuntime) -> io::Result<()> {
     let mut out = [0; 19];
     let kinds = [Kind::Gate; MOST_NODES];
     let up = start::power_up(start::fresh(), 2, kinds);
@@ -37,6 +40,6 @@ fn main() {
     let to = Address::Individual(Individual(2));
     let sent = host::order(second.session, at, to, Command::SetOutputs(5), &mut out);
     let open = exchange(second.chain, at, sent, &out);
-    print(open.session, 1);
-    print(open.session, 2);
+    print(&rt, open.session, 1)?;
+    print(&rt, open.session, 2)
 }

@@ -1,8 +1,10 @@
 // The program `import`: a movement sheet on standard input, its packets on standard output; or why not, in a line on standard error.
+#![tactic(auto)]
+
 ghost use Rattle.std.specs.Prelude.{◌≡◌, length};
 
-use libc::{STDERR_FILENO, STDIN_FILENO, STDOUT_FILENO};
 use sheet::Imported;
+use std::io;
 
 // Room for the longest sheet, and one byte more, which tells that it is longer.
 fn sheet_room() -> [u8; sheet::MOST + 1]
@@ -18,26 +20,22 @@ fn packets_room() -> [u8; sheet::MOST]
     [0; sheet::MOST]
 }
 
-fn say(words: &[u8]) {
-    io::write_all(STDERR_FILENO, words);
+fn say(rt: &impl Eprint, words: &str) -> io::Result<()> {
+    rt.eprint(words)
 }
 
-fn say_fault(line: usize) {
-    say(b"line ");
-    io::print_decimal(STDERR_FILENO, line as u64);
-    say(b": not a HEX line\n");
+fn say_fault(rt: &impl Eprint, line: usize) -> io::Result<()> {
+    eprintln!(rt; "line {line}: not a HEX line")
 }
 
-fn main() {
+fn main(rt: HostRuntime) -> io::Result<()> {
     let mut input = sheet_room();
     let mut packets = packets_room();
-    let n = io::read_full(STDIN_FILENO, &mut input);
+    let n = reading::read_full(&mut rt.stdin(), &mut input)?;
     match sheet::import(&input[..n], &mut packets) {
-        Imported::Bytes(m) => {
-            io::write_all(STDOUT_FILENO, text::first(&packets, m));
-        }
-        Imported::Fault(line) => say_fault(line),
+        Imported::Bytes(m) => rt.write_all(text::first(&packets, m)),
+        Imported::Fault(line) => say_fault(&rt, line),
         // 6. It never comes to 5: the packets have room.
-        Imported::Refused(_) => say(b"the sheet is longer than 64 KiB\n"),
+        Imported::Refused(_) => say(&rt, "the sheet is longer than 64 KiB\n"),
     }
 }

@@ -1,11 +1,13 @@
 // The program `play`: a node count and a movement sheet on standard input, and on standard output what the bench answers to the sheet's packets;
 // or why not, in a line on standard error.
+#![tactic(auto)]
+
 ghost use Rattle.std.specs.Prelude.{◌≡◌, ◌≤◌, ◌<◌, length};
 
 use buffer::Built;
-use libc::{STDERR_FILENO, STDIN_FILENO, STDOUT_FILENO};
 use packet::Framed;
 use sheet::Imported;
+use std::io;
 use text::Decimal;
 use wire::MOST_NODES;
 
@@ -43,14 +45,12 @@ fn output_room() -> [u8; 655360]
     [0; 655360]
 }
 
-fn say(words: &[u8]) {
-    io::write_all(STDERR_FILENO, words);
+fn say(rt: &impl Eprint, words: &str) -> io::Result<()> {
+    rt.eprint(words)
 }
 
-fn say_fault(line: usize) {
-    say(b"line ");
-    io::print_decimal(STDERR_FILENO, line as u64);
-    say(b": not a HEX line\n");
+fn say_fault(rt: &impl Eprint, line: usize) -> io::Result<()> {
+    eprintln!(rt; "line {line}: not a HEX line")
 }
 
 // Whether a line is a node count as the bench takes it.
@@ -102,43 +102,40 @@ fn put_script(script: &mut [u8], count: &[u8], packets: &[u8]) -> usize
 }
 
 // Rehearses packets, with the count's line.
-fn rehearse(count: &[u8], packets: &[u8]) {
+fn rehearse(rt: &(impl Print + Eprint), count: &[u8], packets: &[u8]) -> io::Result<()> {
     if MOST_BYTES < packets.len() {
-        say(b"more than 64 KiB in the bench's form\n");
-        return;
+        return say(rt, "more than 64 KiB in the bench's form\n");
     }
     let mut script = script_room();
     let mut output = output_room();
     let end = put_script(&mut script, count, packets);
     match script::rehearse(text::first(&script, end), &mut output) {
-        Built::Bytes(n) => {
-            io::write_all(STDOUT_FILENO, text::first(&output, n));
-        }
+        Built::Bytes(n) => rt.write_all(text::first(&output, n)),
         // It never comes to this: the output has room.
-        Built::Refused(_) => {}
+        Built::Refused(_) => Ok(()),
     }
 }
 
 // Plays a sheet, with the count's line.
-fn play(count: &[u8], sheet: &[u8]) {
+fn play(rt: &(impl Print + Eprint), count: &[u8], sheet: &[u8]) -> io::Result<()> {
     let mut packets = packets_room();
     match sheet::import(sheet, &mut packets) {
-        Imported::Bytes(n) => rehearse(count, text::first(&packets, n)),
-        Imported::Fault(line) => say_fault(line),
+        Imported::Bytes(n) => rehearse(rt, count, text::first(&packets, n)),
+        Imported::Fault(line) => say_fault(rt, line),
         // 6. It never comes to 5: the packets have room.
-        Imported::Refused(_) => say(b"the sheet is longer than 64 KiB\n"),
+        Imported::Refused(_) => say(rt, "the sheet is longer than 64 KiB\n"),
     }
 }
 
-fn main() {
+fn main(rt: HostRuntime) -> io::Result<()> {
     let mut room = input_room();
-    let n = io::read_full(STDIN_FILENO, &mut room);
+    let n = reading::read_full(&mut rt.stdin(), &mut room)?;
     let input = &room[..n];
     let line = text::first_line(input);
     if is_count(line) {
         let end = line.len() + 1;
-        play(text::first(input, end), text::rest(input, end));
+        play(&rt, text::first(input, end), text::rest(input, end))
     } else {
-        say(b"the first line is not a node count, 1 to 31\n");
+        say(&rt, "the first line is not a node count, 1 to 31\n")
     }
 }

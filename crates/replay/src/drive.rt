@@ -5,6 +5,7 @@ use crate::writing::{put, put_byte, put_long};
 use command::{Gains, Motion};
 use entry::{DriveKnown, MotionKnown};
 use node::DriveSettings;
+use std::io;
 
 // Some values of a motion.
 #[derive(Clone, Copy)]
@@ -52,42 +53,50 @@ impl MotionChosen {
     }
 
     // The chosen ones, behind others or not, each with a word before its name: which motion it is of.
-    fn put(self, word: &[u8], motion: Motion, known: MotionKnown, behind: bool) {
+    fn put(
+        self,
+        rt: &impl Print,
+        word: &[u8],
+        motion: Motion,
+        known: MotionKnown,
+        behind: bool,
+    ) -> io::Result<()> {
         if self.control {
-            put_value_name(behind, word, b"control ");
-            put_byte(motion.control);
-            put_doubt(known.control);
+            put_value_name(rt, behind, word, b"control ")?;
+            put_byte(rt, motion.control)?;
+            put_doubt(rt, known.control)?;
         }
         let behind_control = behind | self.control;
         if self.position {
-            put_value_name(behind_control, word, b"position ");
-            put_position(motion.position);
-            put_doubt(known.position);
+            put_value_name(rt, behind_control, word, b"position ")?;
+            put_position(rt, motion.position)?;
+            put_doubt(rt, known.position)?;
         }
         let behind_position = behind_control | self.position;
         if self.velocity {
-            put_value_name(behind_position, word, b"velocity ");
-            put_long(motion.velocity);
-            put_doubt(known.velocity);
+            put_value_name(rt, behind_position, word, b"velocity ")?;
+            put_long(rt, motion.velocity)?;
+            put_doubt(rt, known.velocity)?;
         }
         let behind_velocity = behind_position | self.velocity;
         if self.acceleration {
-            put_value_name(behind_velocity, word, b"acceleration ");
-            put_long(motion.acceleration);
-            put_doubt(known.acceleration);
+            put_value_name(rt, behind_velocity, word, b"acceleration ")?;
+            put_long(rt, motion.acceleration)?;
+            put_doubt(rt, known.acceleration)?;
         }
         if self.pwm {
-            put_value_name(behind_velocity | self.acceleration, word, b"PWM ");
-            put_byte(motion.pwm);
-            put_doubt(known.pwm);
+            put_value_name(rt, behind_velocity | self.acceleration, word, b"PWM ")?;
+            put_byte(rt, motion.pwm)?;
+            put_doubt(rt, known.pwm)?;
         }
+        Ok(())
     }
 }
 
 // The name of a motion's value, behind the word for that motion.
-fn put_value_name(behind: bool, word: &[u8], name: &[u8]) {
-    put_name(behind, word);
-    put(name);
+fn put_value_name(rt: &impl Print, behind: bool, word: &[u8], name: &[u8]) -> io::Result<()> {
+    put_name(rt, behind, word)?;
+    put(rt, name)
 }
 
 // ---- all of them
@@ -126,27 +135,40 @@ impl DriveChosen {
     }
 
     // The chosen ones, behind others or not.
-    pub(crate) fn put(self, settings: DriveSettings, known: DriveKnown, behind: bool) {
+    pub(crate) fn put(
+        self,
+        rt: &impl Print,
+        settings: DriveSettings,
+        known: DriveKnown,
+        behind: bool,
+    ) -> io::Result<()> {
         let waiting = self.waiting;
         let in_force = self.in_force;
         if self.gains {
-            put_name(behind, b"gains ");
-            put_gains(settings.gains);
-            put_doubt(known.gains);
+            put_name(rt, behind, b"gains ")?;
+            put_gains(rt, settings.gains)?;
+            put_doubt(rt, known.gains)?;
         }
         let behind_gains = behind | self.gains;
         if self.stop {
-            put_name(behind_gains, b"stop ");
-            put_byte(settings.stop);
-            put_doubt(known.stop);
+            put_name(rt, behind_gains, b"stop ")?;
+            put_byte(rt, settings.stop)?;
+            put_doubt(rt, known.stop)?;
         }
         let behind_stop = behind_gains | self.stop;
-        waiting.put(b"waiting ", settings.waiting, known.waiting, behind_stop);
+        waiting.put(
+            rt,
+            b"waiting ",
+            settings.waiting,
+            known.waiting,
+            behind_stop,
+        )?;
         in_force.put(
+            rt,
             b"",
             settings.in_force,
             known.in_force,
             behind_stop | waiting.has_any(),
-        );
+        )
     }
 }

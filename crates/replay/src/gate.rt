@@ -5,6 +5,7 @@ use crate::writing::{put_byte, put_word};
 use command::{Held, Pwm};
 use entry::GateKnown;
 use node::GateSettings;
+use std::io;
 
 // Some of them.
 #[derive(Clone, Copy)]
@@ -51,28 +52,35 @@ impl GateChosen {
     }
 
     // The chosen ones, behind others or not.
-    pub(crate) fn put(self, settings: GateSettings, known: GateKnown, behind: bool) {
+    pub(crate) fn put(
+        self,
+        rt: &impl Print,
+        settings: GateSettings,
+        known: GateKnown,
+        behind: bool,
+    ) -> io::Result<()> {
         if self.outputs {
-            put_name(behind, b"outputs ");
-            put_word(settings.outputs);
-            put_doubt(known.outputs);
+            put_name(rt, behind, b"outputs ")?;
+            put_word(rt, settings.outputs)?;
+            put_doubt(rt, known.outputs)?;
         }
         let behind_outputs = behind | self.outputs;
         if self.pwm {
-            put_name(behind_outputs, b"PWM ");
-            put_pwm(settings.pwm);
-            put_doubt(known.pwm);
+            put_name(rt, behind_outputs, b"PWM ")?;
+            put_pwm(rt, settings.pwm)?;
+            put_doubt(rt, known.pwm)?;
         }
         let behind_pwm = behind_outputs | self.pwm;
         if self.held {
-            put_name(behind_pwm, b"held ");
-            put_held(settings.held);
-            put_doubt(known.held);
+            put_name(rt, behind_pwm, b"held ")?;
+            put_held(rt, settings.held)?;
+            put_doubt(rt, known.held)?;
         }
         if self.timer {
-            put_name(behind_pwm | self.held, b"timer ");
-            put_byte(settings.timer);
-            put_doubt(known.timer);
+            put_name(rt, behind_pwm | self.held, b"timer ")?;
+            put_byte(rt, settings.timer)?;
+            put_doubt(rt, known.timer)?;
         }
+        Ok(())
     }
 }

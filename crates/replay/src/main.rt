@@ -1,5 +1,7 @@
 // The program `replay`: the text of a recording on standard input, and on standard output what each packet says and did, and the host's record at the end;
 // or why not, in a line on standard error.
+#![tactic(auto)]
+
 mod drive;
 mod gate;
 mod kinds;
@@ -13,7 +15,7 @@ mod writing;
 
 ghost use Rattle.std.specs.Prelude.{◌≡◌, length, take};
 
-use libc::{STDERR_FILENO, STDIN_FILENO};
+use std::io;
 use wire::{Kind, MOST_NODES};
 
 // The longest recording, as text.
@@ -43,14 +45,12 @@ fn times_room() -> [u32; MOST_BYTES]
     [0; MOST_BYTES]
 }
 
-fn say(words: &[u8]) {
-    io::write_all(STDERR_FILENO, words);
+fn say(rt: &impl Eprint, words: &str) -> io::Result<()> {
+    rt.eprint(words)
 }
 
-fn say_line(number: usize, words: &[u8]) {
-    say(b"line ");
-    io::print_decimal(STDERR_FILENO, number as u64);
-    say(words);
+fn say_line(rt: &impl Eprint, number: usize, words: &str) -> io::Result<()> {
+    eprint!(rt; "line {number}{words}")
 }
 
 // The first n times; all of them where there are fewer.
@@ -64,7 +64,7 @@ fn first_times(times: &[u32], n: usize) -> &[u32]
 }
 
 // Walks through the runs, all of the form, and writes the record.
-fn walk(n: u8, kinds: [Kind; MOST_NODES], text: &[u8]) {
+fn walk(rt: &impl Print, n: u8, kinds: [Kind; MOST_NODES], text: &[u8]) -> io::Result<()> {
     let mut command = bytes_room();
     let mut command_times = times_room();
     let mut reply = bytes_room();
@@ -72,50 +72,57 @@ fn walk(n: u8, kinds: [Kind; MOST_NODES], text: &[u8]) {
     let sent = runs::gather(text, runs::COMMAND, &mut command, &mut command_times);
     let came = runs::gather(text, runs::REPLY, &mut reply, &mut reply_times);
     let session = packets::replay(
+        rt,
         n,
         kinds,
         text::first(&command, sent),
         first_times(&command_times, sent),
         text::first(&reply, came),
         first_times(&reply_times, came),
-    );
-    record::put_record(session);
+    )?;
+    record::put_record(rt, session)
 }
 
 // Looks at all lines of runs before the first is walked through.
-fn check_and_walk(n: u8, kinds: [Kind; MOST_NODES], text: &[u8]) {
+fn check_and_walk(
+    rt: &(impl Print + Eprint),
+    n: u8,
+    kinds: [Kind; MOST_NODES],
+    text: &[u8],
+) -> io::Result<()> {
     let seen = runs::survey(text);
     if 0 < seen.malformed {
-        say_line(seen.malformed, b": not a run of bytes\n");
-        return;
+        return say_line(rt, seen.malformed, ": not a run of bytes\n");
     }
     if 0 < seen.backward {
-        say_line(
+        return say_line(
+            rt,
             seen.backward,
-            b": its time is less than the one before it\n",
+            ": its time is less than the one before it\n",
         );
-        return;
     }
-    walk(n, kinds, text);
+    walk(rt, n, kinds, text)
 }
 
-fn main() {
+fn main(rt: HostRuntime) -> io::Result<()> {
     let mut room = input_room();
-    let size = io::read_full(STDIN_FILENO, &mut room);
+    let size = reading::read_full(&mut rt.stdin(), &mut room)?;
     if MOST < size {
-        say(b"the recording is longer than 64 KiB\n");
-        return;
+        return say(&rt, "the recording is longer than 64 KiB\n");
     }
     let input = &room[..size];
     let line = text::first_line(input);
     let n = kinds::read_count(line);
     if n < 1 {
-        say(b"the first line is not a node count, 1 to 31, alone or with the kind of each node\n");
-        return;
+        return say(
+            &rt,
+            "the first line is not a node count, 1 to 31, alone or with the kind of each node\n",
+        );
     }
     check_and_walk(
+        &rt,
         n,
         kinds::read_kinds(line),
         text::rest(input, line.len() + 1),
-    );
+    )
 }

@@ -1,5 +1,5 @@
 // The walk: a line for each packet, when it came, on which line, its bytes, what it says, and what it did; and how the walk ended.
-ghost use Rattle.std.specs.Prelude.{◌≡◌, get_or};
+ghost use Rattle.std.specs.Prelude.{◌≡◌, IfOk, get_or};
 ghost use Rattle.recording.specs.Recording.{replay_of};
 
 use crate::record::put_changes;
@@ -7,6 +7,7 @@ use crate::words::{kind_of_call, kind_of_foreign, put_judged, put_spoken};
 use crate::writing::{put, put_bytes, put_decimal};
 use recording::{Event, Moved, Stage};
 use session::{End, Session};
+use std::io;
 use wire::{Kind, MOST_NODES};
 
 // The time of a byte.
@@ -31,94 +32,117 @@ fn is_waiting(s: Session) -> bool {
 }
 
 // What silence did to the command that waited.
-fn put_silence(s: Session) {
+fn put_silence(rt: &impl Print, s: Session) -> io::Result<()> {
     let step = reports::silence(s);
-    put(b"silence before it: ");
-    put_changes(s, step.session);
+    put(rt, b"silence before it: ")?;
+    put_changes(rt, s, step.session)
 }
 
 // A command's line: the kind of node by which it is read, the session before it, and what it did.
-fn put_command_line(time: u32, kind: Kind, bytes: &[u8], before: Session, did: &[u8]) {
-    put_decimal(time as u64);
-    put(b" >");
-    put_bytes(bytes);
-    put(b" | ");
-    put_spoken(kind, bytes);
-    put(b" | ");
+fn put_command_line(
+    rt: &impl Print,
+    time: u32,
+    kind: Kind,
+    bytes: &[u8],
+    before: Session,
+    did: &[u8],
+) -> io::Result<()> {
+    put_decimal(rt, time as u64)?;
+    put(rt, b" >")?;
+    put_bytes(rt, bytes)?;
+    put(rt, b" | ")?;
+    put_spoken(rt, kind, bytes)?;
+    put(rt, b" | ")?;
     if is_waiting(before) {
-        put_silence(before);
-        put(b"; ");
+        put_silence(rt, before)?;
+        put(rt, b"; ")?;
     }
-    put(did);
+    put(rt, did)
 }
 
 // A command that the host sent, by the session behind it.
-fn put_sent(time: u32, kind: Kind, bytes: &[u8], before: Session, after: Session) {
+fn put_sent(
+    rt: &impl Print,
+    time: u32,
+    kind: Kind,
+    bytes: &[u8],
+    before: Session,
+    after: Session,
+) -> io::Result<()> {
     if session::is_closed(after) {
         put_command_line(
+            rt,
             time,
             kind,
             bytes,
             before,
             b"sent, the session closes, all in doubt\n",
-        );
+        )
     } else {
-        put_command_line(time, kind, bytes, before, b"sent\n");
+        put_command_line(rt, time, kind, bytes, before, b"sent\n")
     }
 }
 
 // A command that the host couldn't have sent.
-fn put_foreign(time: u32, bytes: &[u8], before: Session) {
+fn put_foreign(rt: &impl Print, time: u32, bytes: &[u8], before: Session) -> io::Result<()> {
     let kind = kind_of_foreign(before, bytes);
     put_command_line(
+        rt,
         time,
         kind,
         bytes,
         before,
         b"not the host's, the walk ends\n",
-    );
+    )
 }
 
 // A reply's line, up to what it did.
-fn put_reply(time: u32, bytes: &[u8]) {
-    put_decimal(time as u64);
-    put(b" <");
-    put_bytes(bytes);
-    put(b" | ");
-    put_judged(bytes);
-    put(b" | ");
+fn put_reply(rt: &impl Print, time: u32, bytes: &[u8]) -> io::Result<()> {
+    put_decimal(rt, time as u64)?;
+    put(rt, b" <")?;
+    put_bytes(rt, bytes)?;
+    put(rt, b" | ")?;
+    put_judged(rt, bytes)?;
+    put(rt, b" | ")
 }
 
 // A reply that a command waited for: the sessions before and behind it.
-fn put_answered(time: u32, bytes: &[u8], before: Session, after: Session) {
-    put_reply(time, bytes);
-    put_changes(before, after);
-    put(b"\n");
+fn put_answered(
+    rt: &impl Print,
+    time: u32,
+    bytes: &[u8],
+    before: Session,
+    after: Session,
+) -> io::Result<()> {
+    put_reply(rt, time, bytes)?;
+    put_changes(rt, before, after)?;
+    put(rt, b"\n")
 }
 
-fn put_unawaited(time: u32, bytes: &[u8]) {
-    put_reply(time, bytes);
-    put(b"nobody waits for it\n");
+fn put_unawaited(rt: &impl Print, time: u32, bytes: &[u8]) -> io::Result<()> {
+    put_reply(rt, time, bytes)?;
+    put(rt, b"nobody waits for it\n")
 }
 
-fn put_end(before: Session) {
-    put(b"end of the recording");
+fn put_end(rt: &impl Print, before: Session) -> io::Result<()> {
+    put(rt, b"end of the recording")?;
     if is_waiting(before) {
-        put(b" | ");
-        put_silence(before);
+        put(rt, b" | ")?;
+        put_silence(rt, before)?;
     }
-    put(b"\n");
+    put(rt, b"\n")
 }
 
 // The line of a step: the stage before it, and what it did.
 fn put_step<'a>(
+    rt: &impl Print,
     command: &'a [u8],
     command_times: &[u32],
     reply: &'a [u8],
     reply_times: &[u32],
     before: Stage,
     moved: Moved,
-) {
+) -> io::Result<()> {
     let at = before.at;
     let old = before.session;
     let stage = moved.stage;
@@ -128,33 +152,34 @@ fn put_step<'a>(
     let came_at = time_at(reply_times, at.reply);
     let event = moved.event;
     match event {
-        Event::Sent(call) => put_sent(sent_at, kind_of_call(call), bytes, old, new),
-        Event::Foreign => put_foreign(sent_at, bytes, old),
-        Event::Answered => put_answered(came_at, bytes, old, new),
-        Event::Unawaited => put_unawaited(came_at, bytes),
-        Event::End => put_end(old),
+        Event::Sent(call) => put_sent(rt, sent_at, kind_of_call(call), bytes, old, new),
+        Event::Foreign => put_foreign(rt, sent_at, bytes, old),
+        Event::Answered => put_answered(rt, came_at, bytes, old, new),
+        Event::Unawaited => put_unawaited(rt, came_at, bytes),
+        Event::End => put_end(rt, old),
     }
 }
 
 // Walks through a recording of n nodes of these kinds, and writes a line for each step. The session at its end is the one that `recording::replay` gives.
 pub(crate) fn replay<'a>(
+    rt: &impl Print,
     n: u8,
     kinds: [Kind; MOST_NODES],
     command: &'a [u8],
     command_times: &[u32],
     reply: &'a [u8],
     reply_times: &[u32],
-) -> Session
-    ensures { result ≡ (replay_of n kinds command.now command_times.now reply.now reply_times.now).session }
+) -> io::Result<Session>
+    ensures { IfOk result (λ last. last ≡ (replay_of n kinds command.now command_times.now reply.now reply_times.now).session) }
 {
     let begun = recording::begin(n, kinds, command, command_times, reply, reply_times);
     let mut stage = begun.stage;
     loop {
         let moved = recording::advance(command, command_times, reply, reply_times, stage);
-        put_step(command, command_times, reply, reply_times, stage, moved);
+        put_step(rt, command, command_times, reply, reply_times, stage, moved)?;
         let next = moved.stage;
         if next.over {
-            return next.session;
+            return Ok(next.session);
         }
         stage = next;
     }

@@ -7,6 +7,7 @@ use crate::writing::{put, put_byte, put_decimal};
 use command::Place;
 use entry::Entry;
 use session::{Session, Shown};
+use std::io;
 use wire::{Individual, Kind};
 
 // Some of a node's settings; those of the other kind are of no use.
@@ -64,38 +65,38 @@ impl Chosen {
 // ---- one node
 
 // The chosen settings of an entry, in the sequence of RECORDINGS' tables.
-fn put_settings(e: Entry, chosen: Chosen) {
+fn put_settings(rt: &impl Print, e: Entry, chosen: Chosen) -> io::Result<()> {
     let settings = e.settings;
     let known = e.known;
     let gate = chosen.gate;
     let drive = chosen.drive;
     if chosen.place {
-        put(b"place ");
-        put_place(settings.place);
-        put_doubt(known.place);
+        put(rt, b"place ")?;
+        put_place(rt, settings.place)?;
+        put_doubt(rt, known.place)?;
     }
     if chosen.mask {
-        put_name(chosen.place, b"mask ");
-        put_byte(settings.mask);
-        put_doubt(known.mask);
+        put_name(rt, chosen.place, b"mask ")?;
+        put_byte(rt, settings.mask)?;
+        put_doubt(rt, known.mask)?;
     }
     let behind_mask = chosen.place | chosen.mask;
     if chosen.divisor {
-        put_name(behind_mask, b"divisor ");
-        put_byte(settings.divisor);
-        put_doubt(known.divisor);
+        put_name(rt, behind_mask, b"divisor ")?;
+        put_byte(rt, settings.divisor)?;
+        put_doubt(rt, known.divisor)?;
     }
     let behind = behind_mask | chosen.divisor;
     let kind = e.kind;
     match kind {
-        Kind::Gate => gate.put(settings.gate, known.gate, behind),
-        Kind::Drive => drive.put(settings.drive, known.drive, behind),
+        Kind::Gate => gate.put(rt, settings.gate, known.gate, behind),
+        Kind::Drive => drive.put(rt, settings.drive, known.drive, behind),
     }
 }
 
-fn put_node_name(node: u8) {
-    put(b"node ");
-    put_decimal(node as u64);
+fn put_node_name(rt: &impl Print, node: u8) -> io::Result<()> {
+    put(rt, b"node ")?;
+    put_decimal(rt, node as u64)
 }
 
 // A node's entry.
@@ -110,76 +111,83 @@ fn entry_of(s: Session, node: u8) -> Entry {
 // ---- all nodes
 
 // The changes at a node, if there are any, behind those of others. Whether there are some by now.
-fn put_node_changes(before: Session, after: Session, node: u8, some: bool) -> bool {
+fn put_node_changes(
+    rt: &impl Print,
+    before: Session,
+    after: Session,
+    node: u8,
+    some: bool,
+) -> io::Result<bool> {
     let old = entry_of(before, node);
     let new = entry_of(after, node);
     let chosen = Chosen::changed(old, new);
     let kind = new.kind;
     if chosen.has_any(kind) {
         if some {
-            put(b"; ");
+            put(rt, b"; ")?;
         }
-        put_node_name(node);
-        put(b": ");
-        put_settings(new, chosen);
-        return true;
+        put_node_name(rt, node)?;
+        put(rt, b": ")?;
+        put_settings(rt, new, chosen)?;
+        return Ok(true);
     }
-    some
+    Ok(some)
 }
 
 // The settings that the record shows otherwise than before, node by node.
-pub(crate) fn put_changes(before: Session, after: Session) {
+pub(crate) fn put_changes(rt: &impl Print, before: Session, after: Session) -> io::Result<()> {
     let mut some = false;
     let mut i: u8 = 0;
     while i < after.n {
-        some = put_node_changes(before, after, i + 1, some);
+        some = put_node_changes(rt, before, after, i + 1, some)?;
         i += 1;
     }
     if !some {
-        put(b"no change");
+        put(rt, b"no change")?;
     }
+    Ok(())
 }
 
 // How many nodes there are, and how far their walk is.
-fn put_walk(s: Session) {
-    put_decimal(s.n as u64);
+fn put_walk(rt: &impl Print, s: Session) -> io::Result<()> {
+    put_decimal(rt, s.n as u64)?;
     if s.n == 1 {
-        put(b" node, ");
+        put(rt, b" node, ")?;
     } else {
-        put(b" nodes, ");
+        put(rt, b" nodes, ")?;
     }
     if session::is_closed(s) {
-        put(b"closed\n");
-        return;
+        return put(rt, b"closed\n");
     }
     if s.walk < s.n {
-        put(b"walk at ");
-        put_decimal(s.walk as u64);
-        put(b"\n");
+        put(rt, b"walk at ")?;
+        put_decimal(rt, s.walk as u64)?;
+        put(rt, b"\n")
     } else {
-        put(b"ready\n");
+        put(rt, b"ready\n")
     }
 }
 
 // A node's line: its kind, if it is a drive, and all of its settings.
-fn put_node(s: Session, node: u8) {
+fn put_node(rt: &impl Print, s: Session, node: u8) -> io::Result<()> {
     let e = entry_of(s, node);
-    put_node_name(node);
+    put_node_name(rt, node)?;
     let kind = e.kind;
     match kind {
-        Kind::Gate => put(b": "),
-        Kind::Drive => put(b", drive: "),
-    }
-    put_settings(e, Chosen::ALL);
-    put(b"\n");
+        Kind::Gate => put(rt, b": "),
+        Kind::Drive => put(rt, b", drive: "),
+    }?;
+    put_settings(rt, e, Chosen::ALL)?;
+    put(rt, b"\n")
 }
 
 // The record: a line for the session, and a line for each node.
-pub(crate) fn put_record(s: Session) {
-    put_walk(s);
+pub(crate) fn put_record(rt: &impl Print, s: Session) -> io::Result<()> {
+    put_walk(rt, s)?;
     let mut i: u8 = 0;
     while i < s.n {
-        put_node(s, i + 1);
+        put_node(rt, s, i + 1)?;
         i += 1;
     }
+    Ok(())
 }

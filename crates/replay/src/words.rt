@@ -5,81 +5,84 @@ use calls::{Call, Spoken};
 use command::{Command, Loads, Motion, Role, Stop};
 use session::{Session, Shown};
 use status::Answer;
+use std::io;
 use wire::{Address, Individual, Kind, Refusal};
 
 // ---- a command's data
 
 // A name and a position.
-fn put_with_position(name: &[u8], position: u32) {
-    put(name);
-    put_position(position);
+fn put_with_position(rt: &impl Print, name: &[u8], position: u32) -> io::Result<()> {
+    put(rt, name)?;
+    put_position(rt, position)
 }
 
 // A control byte, and each value that it loads.
-fn put_load(m: Motion) {
+fn put_load(rt: &impl Print, m: Motion) -> io::Result<()> {
     let brought = Loads::of(m.control);
-    put_byte(m.control);
+    put_byte(rt, m.control)?;
     if brought.position {
-        put_with_position(b" position ", m.position);
+        put_with_position(rt, b" position ", m.position)?;
     }
     if brought.velocity {
-        put(b" velocity ");
-        put_long(m.velocity);
+        put(rt, b" velocity ")?;
+        put_long(rt, m.velocity)?;
     }
     if brought.acceleration {
-        put(b" acceleration ");
-        put_long(m.acceleration);
+        put(rt, b" acceleration ")?;
+        put_long(rt, m.acceleration)?;
     }
     if brought.pwm {
-        put_with_byte(b" PWM ", m.pwm);
+        put_with_byte(rt, b" PWM ", m.pwm)?;
     }
+    Ok(())
 }
 
 // A stop byte, and the position to stop at where it brings one.
-fn put_stop(s: Stop) {
-    put_byte(s.byte);
+fn put_stop(rt: &impl Print, s: Stop) -> io::Result<()> {
+    put_byte(rt, s.byte)?;
     if command::is_stop_here(s.byte) {
-        put_with_position(b" position ", s.position);
+        put_with_position(rt, b" position ", s.position)?;
     }
+    Ok(())
 }
 
 // A command's name and its data.
-fn put_command(c: Command) {
+fn put_command(rt: &impl Print, c: Command) -> io::Result<()> {
     match c {
         Command::SetAddress(place) => {
-            put(b"Set Address ");
-            put_place(place);
+            put(rt, b"Set Address ")?;
+            put_place(rt, place)
         }
-        Command::DefineStatus(mask) => put_with_byte(b"Define Status ", mask),
-        Command::ReadStatus(mask) => put_with_byte(b"Read Status ", mask),
+        Command::DefineStatus(mask) => put_with_byte(rt, b"Define Status ", mask),
+        Command::ReadStatus(mask) => put_with_byte(rt, b"Read Status ", mask),
         Command::SetPwm(pwm) => {
-            put(b"Set PWM ");
-            put_pwm(pwm);
+            put(rt, b"Set PWM ")?;
+            put_pwm(rt, pwm)
         }
-        Command::SynchOutput => put(b"Synch Output"),
-        Command::SetOutputs(outputs) => put_with_word(b"Set Outputs ", outputs),
+        Command::SynchOutput => put(rt, b"Synch Output"),
+        Command::SetOutputs(outputs) => put_with_word(rt, b"Set Outputs ", outputs),
         Command::SetSynchOutput(held) => {
-            put(b"Set Synch Output ");
-            put_held(held);
+            put(rt, b"Set Synch Output ")?;
+            put_held(rt, held)
         }
-        Command::SetTimerMode(mode) => put_with_byte(b"Set Timer Mode ", mode),
-        Command::SetBaudRate(divisor) => put_with_byte(b"Set Baud Rate ", divisor),
-        Command::SynchInput => put(b"Synch Input"),
-        Command::Nop => put(b"Nop"),
-        Command::HardReset => put(b"Hard Reset"),
-        Command::ResetPosition => put(b"Reset Position"),
+        Command::SetTimerMode(mode) => put_with_byte(rt, b"Set Timer Mode ", mode),
+        Command::SetBaudRate(divisor) => put_with_byte(rt, b"Set Baud Rate ", divisor),
+        Command::SynchInput => put(rt, b"Synch Input"),
+        Command::Nop => put(rt, b"Nop"),
+        Command::HardReset => put(rt, b"Hard Reset"),
+        Command::ResetPosition => put(rt, b"Reset Position"),
         Command::LoadTrajectory(motion) => {
-            put(b"Load Trajectory ");
-            put_load(motion);
+            put(rt, b"Load Trajectory ")?;
+            put_load(rt, motion)
         }
-        Command::StartMotion => put(b"Start Motion"),
+        Command::StartMotion => put(rt, b"Start Motion"),
         Command::SetGain(gains) => {
-            put(b"Set Gain ");
-            put_gains(gains);
+            put(rt, b"Set Gain ")?;
+            put_gains(rt, gains)
         }
         Command::StopMotor(stop) => {
-            put(b"Stop Motor ");
-            put_stop(stop);
+            put(rt, b"Stop Motor ")?;
+            put_stop(rt, stop)
         }
     }
 }
@@ -87,21 +90,20 @@ fn put_command(c: Command) {
 // ---- whom it is for
 
 // A node by its number; address 00 is no node's.
-fn put_individual(a: u8) {
+fn put_individual(rt: &impl Print, a: u8) -> io::Result<()> {
     if a < 1 {
-        put(b" to address 00");
-        return;
+        return put(rt, b" to address 00");
     }
-    put(b" to node ");
-    put_decimal(a as u64);
+    put(rt, b" to node ")?;
+    put_decimal(rt, a as u64)
 }
 
-fn put_to(to: Address) {
+fn put_to(rt: &impl Print, to: Address) -> io::Result<()> {
     match to {
-        Address::Individual(i) => put_individual(i.0),
+        Address::Individual(i) => put_individual(rt, i.0),
         Address::Group(g) => {
-            put(b" to group ");
-            put_byte(g.0);
+            put(rt, b" to group ")?;
+            put_byte(rt, g.0)
         }
     }
 }
@@ -154,13 +156,13 @@ pub(crate) fn kind_of_foreign(s: Session, bytes: &[u8]) -> Kind {
 // ---- a packet
 
 // Why some bytes are no packet.
-fn put_refusal(why: Refusal) {
+fn put_refusal(rt: &impl Print, why: Refusal) -> io::Result<()> {
     match why {
-        Refusal::Short => put(b"cut short"),
-        Refusal::Header => put(b"no header"),
-        Refusal::Sum => put(b"wrong sum"),
+        Refusal::Short => put(rt, b"cut short"),
+        Refusal::Header => put(rt, b"no header"),
+        Refusal::Sum => put(rt, b"wrong sum"),
         // 3: understanding has no other refusal.
-        _ => put(b"bytes left over"),
+        _ => put(rt, b"bytes left over"),
     }
 }
 
@@ -173,26 +175,25 @@ fn is_untaken(kind: Kind, c: Command) -> bool {
 }
 
 // What a packet of the command line says to a kind of node.
-pub(crate) fn put_spoken(kind: Kind, bytes: &[u8]) {
+pub(crate) fn put_spoken(rt: &impl Print, kind: Kind, bytes: &[u8]) -> io::Result<()> {
     match calls::understand(kind, bytes) {
         Spoken::Command { to, command } => {
             if is_untaken(kind, command) {
-                put(b"another command");
-                return;
+                return put(rt, b"another command");
             }
-            put_command(command);
-            put_to(to);
+            put_command(rt, command)?;
+            put_to(rt, to)
         }
-        Spoken::Other => put(b"another command"),
-        Spoken::Refused(why) => put_refusal(why),
+        Spoken::Other => put(rt, b"another command"),
+        Spoken::Refused(why) => put_refusal(rt, why),
     }
 }
 
 // What a packet of the reply line says, by itself.
-pub(crate) fn put_judged(bytes: &[u8]) {
+pub(crate) fn put_judged(rt: &impl Print, bytes: &[u8]) -> io::Result<()> {
     match status::judge(bytes) {
-        Answer::Clear => put(b"clear"),
-        Answer::Marked => put(b"not clear"),
-        Answer::Silent => put(b"not good"),
+        Answer::Clear => put(rt, b"clear"),
+        Answer::Marked => put(rt, b"not clear"),
+        Answer::Silent => put(rt, b"not good"),
     }
 }

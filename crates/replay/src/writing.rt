@@ -1,56 +1,57 @@
 // Words, numbers and bytes, written to standard output.
-use libc::STDOUT_FILENO;
+use std::io;
 
-pub(crate) fn put(words: &[u8]) {
-    io::write_all(STDOUT_FILENO, words);
+pub(crate) fn put(rt: &impl Print, words: &[u8]) -> io::Result<()> {
+    rt.write_all(words)
 }
 
-pub(crate) fn put_decimal(n: u64) {
-    io::print_decimal(STDOUT_FILENO, n);
+pub(crate) fn put_decimal(rt: &impl Print, n: u64) -> io::Result<()> {
+    rt.print(n)
 }
 
 // Two capitals.
-pub(crate) fn put_byte(b: u8) {
+pub(crate) fn put_byte(rt: &impl Print, b: u8) -> io::Result<()> {
     let mut line = [0; 3];
     hexadecimal::write_line(&[b], &mut line);
-    put(text::first(&line, 2));
+    put(rt, text::first(&line, 2))
 }
 
 // Four capitals, most significant first.
-pub(crate) fn put_word(w: u16) {
-    put_byte((w / 256) as u8);
-    put_byte((w % 256) as u8);
+pub(crate) fn put_word(rt: &impl Print, w: u16) -> io::Result<()> {
+    put_byte(rt, (w / 256) as u8)?;
+    put_byte(rt, (w % 256) as u8)
 }
 
 // Eight.
-pub(crate) fn put_long(v: u32) {
-    put_word((v / 65536) as u16);
-    put_word((v % 65536) as u16);
+pub(crate) fn put_long(rt: &impl Print, v: u32) -> io::Result<()> {
+    put_word(rt, (v / 65536) as u16)?;
+    put_word(rt, (v % 65536) as u16)
 }
 
 // A name and a byte.
-pub(crate) fn put_with_byte(name: &[u8], b: u8) {
-    put(name);
-    put_byte(b);
+pub(crate) fn put_with_byte(rt: &impl Print, name: &[u8], b: u8) -> io::Result<()> {
+    put(rt, name)?;
+    put_byte(rt, b)
 }
 
 // A name and a word.
-pub(crate) fn put_with_word(name: &[u8], w: u16) {
-    put(name);
-    put_word(w);
+pub(crate) fn put_with_word(rt: &impl Print, name: &[u8], w: u16) -> io::Result<()> {
+    put(rt, name)?;
+    put_word(rt, w)
 }
 
 // A space and two capitals.
-fn put_next(b: u8) {
-    put(b" ");
-    put_byte(b);
+fn put_next(rt: &impl Print, b: u8) -> io::Result<()> {
+    put(rt, b" ")?;
+    put_byte(rt, b)
 }
 
 // The same for each byte.
-pub(crate) fn put_bytes(bytes: &[u8]) {
+pub(crate) fn put_bytes(rt: &impl Print, bytes: &[u8]) -> io::Result<()> {
     let mut i = 0;
     while i < bytes.len() {
-        put_next(bytes[i]);
+        put_next(rt, bytes[i])?;
         i += 1;
     }
+    Ok(())
 }

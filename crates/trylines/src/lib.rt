@@ -2,7 +2,9 @@
 // Promised: what a line is answered, but for that of a recording, which tryrecording promises; the session after it; and the session after all lines of an input.
 // Left to others: the lines of each topic (trypacket, trychain, tryhost, trysheet, tryrecording), and what comes in (trials, carousels, divisors).
 // What is written to standard output no contract can say: it is run, and compared.
-ghost use Rattle.std.specs.Prelude.{◌≡◌, ◌≤◌, length, take};
+#![tactic(auto)]
+
+ghost use Rattle.std.specs.Prelude.{◌≡◌, ◌≤◌, IfOk, length, take};
 ghost use Rattle.start.specs.Start.{fresh_of};
 ghost use Rattle.text.specs.Lines.{lines_of};
 ghost use Rattle.trylines.specs.Trying.{input_room, trylines_answer, trylines_attempt, trylines_read_line, try_bytes, try_line, try_lines, try_all};
@@ -10,8 +12,8 @@ ghost use Rattle.trylines.specs.Trying.{input_room, trylines_answer, trylines_at
 use buffer::Built;
 use fields::{Answer, byte, malformed};
 use hexadecimal::Parsed;
-use libc::STDOUT_FILENO;
 use session::Session;
+use std::io;
 use tryhost::Tried;
 
 // The longest input.
@@ -52,28 +54,26 @@ fn recording_line_room() -> [u8; 3 * tryrecording::MOST_BYTES]
 }
 
 // Writes bytes as a line, which `line` has room for.
-fn show_bytes(bytes: &[u8], line: &mut [u8]) {
+fn show_bytes(rt: &impl Print, bytes: &[u8], line: &mut [u8]) -> io::Result<()> {
     match hexadecimal::write_line(bytes, line) {
-        Built::Bytes(n) => {
-            io::write_all(STDOUT_FILENO, text::first(line, n));
-        }
-        Built::Refused(_) => {}
+        Built::Bytes(n) => rt.write_all(text::first(line, n)),
+        Built::Refused(_) => Ok(()),
     }
 }
 
 // Writes an answer as a line.
-fn show(a: Answer) {
+fn show(rt: &impl Print, a: Answer) -> io::Result<()> {
     let bytes = a.bytes;
     let mut line = line_room();
-    show_bytes(text::first(&bytes, a.length), &mut line);
+    show_bytes(rt, text::first(&bytes, a.length), &mut line)
 }
 
 // Tries a recording, and writes its answer.
-fn try_recording(args: &[u8]) {
+fn try_recording(rt: &impl Print, args: &[u8]) -> io::Result<()> {
     let mut bytes = recording_room();
     let mut line = recording_line_room();
     let n = tryrecording::replay(args, &mut bytes);
-    show_bytes(text::first(&bytes, n), &mut line);
+    show_bytes(rt, text::first(&bytes, n), &mut line)
 }
 
 // What a line is answered that leaves the session as it is.
@@ -114,57 +114,57 @@ fn read_line(line: &[u8], bytes: &mut [u8]) -> usize
 }
 
 // Writes what a line is answered; the session after it.
-fn show_tried(tried: Tried) -> Session
-    ensures { result ≡ tried.session }
+fn show_tried(rt: &impl Print, tried: Tried) -> io::Result<Session>
+    ensures { IfOk result (λ after. after ≡ tried.session) }
 {
     let answer = tried.answer;
-    show(answer);
-    tried.session
+    show(rt, answer)?;
+    Ok(tried.session)
 }
 
 // Tries a line by its first byte and those behind it; the session after it.
-fn try_bytes(s: Session, kind: u8, args: &[u8]) -> Session
-    ensures { result ≡ try_bytes s kind args.now }
+fn try_bytes(rt: &impl Print, s: Session, kind: u8, args: &[u8]) -> io::Result<Session>
+    ensures { IfOk result (λ after. after ≡ try_bytes s kind args.now) }
 {
     if kind == 0x50 {
-        try_recording(args);
-        return s;
+        try_recording(rt, args)?;
+        return Ok(s);
     }
-    show_tried(attempt(s, kind, args))
+    show_tried(rt, attempt(s, kind, args))
 }
 
 // Tries a line; the session after it.
-fn try_line(s: Session, line: &[u8]) -> Session
-    ensures { result ≡ try_line s line.now }
+fn try_line(rt: &impl Print, s: Session, line: &[u8]) -> io::Result<Session>
+    ensures { IfOk result (λ after. after ≡ try_line s line.now) }
 {
     let mut room = bytes_room();
     let n = read_line(line, &mut room);
     let bytes = text::first(&room, n);
-    try_bytes(s, byte(bytes, 0), text::rest(bytes, 1))
+    try_bytes(rt, s, byte(bytes, 0), text::rest(bytes, 1))
 }
 
 // Tries each line, with one session from line to line; the session after the last.
-fn try_lines(input: &[u8]) -> Session
+fn try_lines(rt: &impl Print, input: &[u8]) -> io::Result<Session>
     requires { length input.now ≤ 65536 }
-    ensures { result ≡ try_lines fresh_of (lines_of input.now) }
+    ensures { IfOk result (λ last. last ≡ try_lines fresh_of (lines_of input.now)) }
 {
     let mut s = start::fresh();
     let mut at = 0;
     while at < input.len() {
         let line = text::first_line(text::rest(input, at));
-        s = try_line(s, line);
+        s = try_line(rt, s, line)?;
         at = at + line.len() + 1;
     }
-    s
+    Ok(s)
 }
 
 // Tries each line of an input, and writes what it is answered; the session after the last. A longer input than the longest answers the single line `FF`.
-pub fn try_all(input: &[u8]) -> Session
-    ensures { result ≡ try_all input.now }
+pub fn try_all(rt: &impl Print, input: &[u8]) -> io::Result<Session>
+    ensures { IfOk result (λ last. last ≡ try_all input.now) }
 {
     if MOST < input.len() {
-        show(malformed());
-        return start::fresh();
+        show(rt, malformed())?;
+        return Ok(start::fresh());
     }
-    try_lines(input)
+    try_lines(rt, input)
 }

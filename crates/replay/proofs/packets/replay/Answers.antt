@@ -2,13 +2,13 @@ use Rattle.replay.proofs.Onward.{onward_start, onward_less, onward_on, onward_en
 use Rattle.replay.proofs.packets.replay.Goals as goal
 
 pub loop-next-init : goal.loop-next-init
-loop-next-init c = search onward_start
+loop-next-init g c = search onward_start
 
 pub returns-then-next : goal.returns-then-next
-returns-then-next c = search onward_end
+returns-then-next g c = search onward_end
 
 pub loop-next-smaller : goal.loop-next-smaller
-loop-next-smaller c = search onward_less
+loop-next-smaller g c = search onward_less
 
 pub loop-next-preserved : goal.loop-next-preserved
-loop-next-preserved c = search onward_on
+loop-next-preserved g c = search onward_on

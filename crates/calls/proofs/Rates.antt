@@ -1,17 +1,15 @@
 -- Document 02, request 7: Set Baud Rate "ends the walk" of a recording, as no call that is looked for gives its bytes.
 use Prim.Native.Nat.{ℕ}
-use mathlib.Core.Bool.{true, false, true≢false}
+use mathlib.Core.Bool.{false, true≢false}
 use mathlib.Core.List.{List}
 use mathlib.Core.Path.{◌≡◌, refl, sym, ap, ◌∙◌}
 use Rattle.wire.specs.Numbers.{done}
 use Rattle.wire.specs.declared.address.Address.{Address}
-use Rattle.wire.specs.declared.kind.Kind.{Kind}
 use Rattle.wire.specs.declared.kind.Kind.TheVariants.{Gate}
 use Rattle.packet.specs.Packet.{data_part}
 use Rattle.command.specs.declared.Command.{Command}
 use Rattle.command.specs.declared.Command.TheVariants.{SetBaudRate}
 use Rattle.command.specs.Role.{role_of, is_pacing}
-use Rattle.command.specs.Owner.{has}
 use Rattle.codec.specs.Reading.{ReadsAs}
 use Rattle.codec.proofs.Commands.{shared_alike}
 use Rattle.node.specs.Effect.{divisor_up}

@@ -5,7 +5,7 @@ use Rattle.wire.specs.declared.kind.Kind.{Kind}
 use Rattle.command.specs.declared.Command.{Command}
 use Rattle.status.specs.declared.Answer.{Answer}
 use Rattle.status.specs.declared.Answer.TheVariants.{Clear, Marked, Silent}
-use Rattle.node.specs.Setting.{GateSetting, outputs, pwm, held, timer, MotionPart, control, position, velocity, acceleration, power, DriveSetting, gains, stop, waiting, inForce, Setting, place, mask, divisor, gate, drive, get_make, make_same}
+use Rattle.node.specs.Setting.{GateSetting, outputs, pwm, held, timer, MotionPart, control, position, velocity, acceleration, power, DriveSetting, gains, stop, waiting, in_force, Setting, place, mask, divisor, gate, drive, get_make, make_same}
 use Rattle.node.specs.Effect.{Effect, keeps, stores, copies, effect, writes}
 use Rattle.entry.specs.declared.gate.GateKnown.{GateKnown}
 use Rattle.entry.specs.declared.drive.MotionKnown.{MotionKnown}
@@ -33,7 +33,7 @@ flag_drive : (f : DriveSetting → Bool) (d : DriveSetting) → drive_flag (driv
 flag_drive f gains = refl
 flag_drive f stop = refl
 flag_drive f (waiting m) = flag_motion (λ p. f (waiting p)) m
-flag_drive f (inForce m) = flag_motion (λ p. f (inForce p)) m
+flag_drive f (in_force m) = flag_motion (λ p. f (in_force p)) m
 
 flag_flags : (f : Setting → Bool) (s : Setting) → flag (flags f) s ≡ f s
 flag_flags f place = refl
@@ -51,7 +51,7 @@ motion_same f k h = rw (h control, h position, h velocity, h acceleration, h pow
 
 drive_same : (f : DriveSetting → Bool) (k : DriveKnown) → ((d : DriveSetting) → f d ≡ drive_flag k d) → drive_flags f ≡ k
 drive_same f k h =
-    rw (h gains, h stop, motion_same (λ m. f (waiting m)) k.waiting (λ m. h (waiting m)), motion_same (λ m. f (inForce m)) k.in_force (λ m. h (inForce m)))
+    rw (h gains, h stop, motion_same (λ m. f (waiting m)) k.waiting (λ m. h (waiting m)), motion_same (λ m. f (in_force m)) k.in_force (λ m. h (in_force m)))
 
 flags_same : (f : Setting → Bool) (k : Known) → ((s : Setting) → f s ≡ flag k s) → flags f ≡ k
 flags_same f k h =

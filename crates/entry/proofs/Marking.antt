@@ -11,7 +11,7 @@ use Rattle.command.specs.declared.Role.TheVariants.{Plain, Places, Paces, Masks,
 use Rattle.command.specs.Role.{role_of}
 use Rattle.command.specs.Control.{loads_of}
 use Rattle.node.specs.declared.state.Settings.{Settings}
-use Rattle.node.specs.Setting.{MotionPart, Setting, place, mask, divisor, gate, drive, waiting, inForce, Value, get_motion}
+use Rattle.node.specs.Setting.{MotionPart, Setting, place, mask, divisor, gate, drive, waiting, in_force, Value, get_motion}
 use Rattle.node.specs.Effect.{Effect, keeps, stores, settings_power_up, brings, starting, effect}
 use Rattle.node.proofs.Laws.{place_effect, place_effect_lem, divisor_effect, divisor_effect_lem}
 use Rattle.entry.specs.declared.gate.GateKnown.{GateKnown}
@@ -41,7 +41,7 @@ stored_or_kept : (s : Setting) (b sure : Bool) (v : Value s) (k : Known) → con
 stored_or_kept s true sure v k = refl
 stored_or_kept s false sure v k = refl
 
-loaded_and_copied : (p : MotionPart) (b sure : Bool) (v : Value (drive (inForce p))) (k : Known)
+loaded_and_copied : (p : MotionPart) (b sure : Bool) (v : Value (drive (in_force p))) (k : Known)
     → (sure && cond b sure (motion_flag k.drive.waiting p)) ≡ new_flag sure (cond b (stores v) (starting p)) k
 loaded_and_copied p true true v k = refl
 loaded_and_copied p true false v k = refl

@@ -4,7 +4,7 @@ use Rattle.wire.specs.declared.kind.Kind.{Kind}
 use Rattle.command.specs.declared.Command.{Command}
 use Rattle.status.specs.declared.Answer.{Answer}
 use Rattle.status.specs.declared.Answer.TheVariants.{Clear, Marked, Silent}
-use Rattle.node.specs.Setting.{GateSetting, outputs, pwm, held, timer, MotionPart, control, position, velocity, acceleration, power, DriveSetting, gains, stop, waiting, inForce, Setting, place, mask, divisor, gate, drive, Value, get, make}
+use Rattle.node.specs.Setting.{GateSetting, outputs, pwm, held, timer, MotionPart, control, position, velocity, acceleration, power, DriveSetting, gains, stop, waiting, in_force, Setting, place, mask, divisor, gate, drive, Value, get, make}
 use Rattle.node.specs.Effect.{Effect, keeps, stores, copies, effect, writes, settings_power_up}
 use Rattle.entry.specs.declared.gate.GateKnown.{GateKnown}
 use Rattle.entry.specs.declared.drive.MotionKnown.{MotionKnown}
@@ -32,7 +32,7 @@ abbrev pub drive_flag : DriveKnown → DriveSetting → Bool
 drive_flag k gains = k.gains
 drive_flag k stop = k.stop
 drive_flag k (waiting m) = motion_flag k.waiting m
-drive_flag k (inForce m) = motion_flag k.in_force m
+drive_flag k (in_force m) = motion_flag k.in_force m
 
 abbrev pub flag : Known → Setting → Bool
 flag k place = k.place
@@ -49,7 +49,7 @@ abbrev pub motion_flags : (MotionPart → Bool) → MotionKnown
 motion_flags f = record { control = f control; position = f position; velocity = f velocity; acceleration = f acceleration; pwm = f power }
 
 abbrev pub drive_flags : (DriveSetting → Bool) → DriveKnown
-drive_flags f = record { gains = f gains; stop = f stop; waiting = motion_flags (λ m. f (waiting m)); in_force = motion_flags (λ m. f (inForce m)) }
+drive_flags f = record { gains = f gains; stop = f stop; waiting = motion_flags (λ m. f (waiting m)); in_force = motion_flags (λ m. f (in_force m)) }
 
 abbrev pub flags : (Setting → Bool) → Known
 flags f = record { place = f place; mask = f mask; divisor = f divisor; gate = gate_flags (λ g. f (gate g)); drive = drive_flags (λ d. f (drive d)) }

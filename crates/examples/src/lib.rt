@@ -1,3 +1,2 @@
 // The paper's worked examples, packets and record. Statements and proofs only.
 #![tactic(auto)]
-

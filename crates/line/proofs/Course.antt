@@ -38,7 +38,7 @@ use Rattle.line.proofs.Refusing.{refused_power, refused_call, refused_report}
 use Rattle.line.proofs.Due.{Due, CallSends, call_sends}
 use Rattle.line.proofs.Closing.{waiting_at, Concluded, settles, walk_on, due_waits, due_opens, reported_finished, reported_concludes, conclusion}
 use Rattle.line.proofs.Exactly.{Exactly, noted, exactly_step}
-use Rattle.line.proofs.Invariant.{at, Invariant, Exchanged}
+use Rattle.line.proofs.Invariant.{Invariant, Exchanged}
 use Rattle.line.proofs.Getting.{parted_none}
 use Rattle.line.proofs.Peace.{none_collided}
 use Rattle.line.proofs.Delivery.{nothing_silent, exchanged}

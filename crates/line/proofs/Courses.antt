@@ -7,7 +7,6 @@ use lib.ListN.{get_or}
 use Rattle.buffer.specs.Sum.{total, ends_in_sum}
 use Rattle.buffer.specs.Buffer.{written}
 use Rattle.packet.specs.Packet.{data_part, frame_of, is_intact}
-use Rattle.wire.specs.declared.kind.Kind.TheVariants.{Gate}
 use Rattle.command.specs.declared.Place.{Place}
 use Rattle.command.specs.declared.Command.TheVariants.{SetOutputs, Nop}
 use Rattle.codec.specs.Reading.{shared_rows, gate_rows, drive_rows, motion_of, codec_read}
@@ -23,7 +22,7 @@ use Rattle.survey.specs.Chain.{blank_node, after}
 use Rattle.survey.specs.Delivery.{frame_alone}
 use Rattle.node.specs.Effect.{divisor_up}
 use Rattle.entry.specs.declared.Entry.{Entry}
-use Rattle.entry.specs.Entry.{knows, shows, entry_power_up}
+use Rattle.entry.specs.Entry.{knows, shows}
 use Rattle.ledger.specs.Ledger.{ledger_power_up, ledger_least, each_from, settle_of, is_lacked, any_from, all_gates, telling, is_unlisted, is_off_list}
 use Rattle.session.specs.declared.Exchange.TheVariants.{Idle, Waiting}
 use Rattle.session.specs.Session.{is_valid, is_closed, is_ask_due, entry_of, node_at, given_place}

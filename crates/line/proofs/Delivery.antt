@@ -14,7 +14,7 @@ use Rattle.wire.specs.declared.kind.Kind.TheVariants.{Gate, Drive}
 use Rattle.wire.specs.declared.address.Address.{Address}
 use Rattle.wire.specs.declared.address.Address.TheVariants as address
 use Rattle.wire.proofs.Choice.{both}
-use Rattle.packet.specs.Packet.{read_of, data_part, frame_of, is_intact}
+use Rattle.packet.specs.Packet.{frame_of, is_intact}
 use Rattle.packet.specs.declared.Framed.TheVariants.{Whole}
 use Rattle.buffer.proofs.Sums.{changed_length}
 use Rattle.packet.proofs.Packets.{read_says, damaged_frames, damaged_spoilt}

@@ -4,7 +4,6 @@ use mathlib.Core.Bool.{Bool, true, false, cond, ◌||◌}
 use mathlib.Core.List.{List, [], ◌∷◌}
 use mathlib.Core.Path.{refl}
 use lib.Dec.{eqb}
-use Rattle.wire.specs.declared.address.Address.TheVariants as address
 use Rattle.wire.specs.declared.kind.Kind.TheVariants.{Gate}
 use Rattle.buffer.specs.Sum.{total, ends_in_sum}
 use Rattle.buffer.specs.Buffer.{written}

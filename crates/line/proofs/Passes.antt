@@ -39,7 +39,7 @@ use Rattle.line.specs.History.{sends}
 use Rattle.line.specs.Line.{quiet}
 use Rattle.line.specs.World.{Comes}
 use Rattle.line.specs.Courses.{walked, group80, in_group, opened, armed, passed, handed, leader_in_doubt}
-use Rattle.line.proofs.Rounds.{rest, world_at, Round, round, replied, unheard, placed, walks, gate_up}
+use Rattle.line.proofs.Rounds.{rest, world_at, Round, round, replied, unheard, placed, walks}
 
 -- both nodes have their addresses; what waits, and the two entries
 abbrev session : Exchange → Entry → Entry → Session

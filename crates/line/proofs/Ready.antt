@@ -1,6 +1,6 @@
 -- A command once the session is ready: to a node or a group, and "regroup".
-use Prim.Native.Nat.{ℕ, zero, suc, ◌<◌}
-use mathlib.Core.Bool.{Bool, true, false, cond, ◌&&◌, or-true, true≢false, false≢true}
+use Prim.Native.Nat.{ℕ, suc, ◌<◌}
+use mathlib.Core.Bool.{Bool, true, false, cond, ◌&&◌, true≢false, false≢true}
 use mathlib.Core.List.{List}
 use mathlib.Core.Logic.{◌⊎◌, inl, inr}
 use mathlib.Core.Path.{◌≡◌, refl, sym, ap, ◌∙◌}

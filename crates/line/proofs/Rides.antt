@@ -1,5 +1,5 @@
 -- The courses of a carousel, step by step: node 1 is a gate, node 2 a drive.
-use Prim.Native.Nat.{ℕ, zero, suc, ◌+◌}
+use Prim.Native.Nat.{ℕ, zero, suc}
 use mathlib.Core.Bool.{true}
 use mathlib.Core.List.{List, [], ◌∷◌}
 use mathlib.Core.Path.{refl}
@@ -9,13 +9,11 @@ use Rattle.wire.specs.declared.kind.Kind.TheVariants.{Gate, Drive}
 use Rattle.buffer.specs.Sum.{total, ends_in_sum}
 use Rattle.buffer.specs.Buffer.{written}
 use Rattle.packet.specs.Packet.{data_part, frame_of, is_intact}
-use Rattle.command.specs.declared.Command.{Command}
 use Rattle.command.specs.declared.Command.TheVariants.{SetAddress, LoadTrajectory, StartMotion}
 use Rattle.codec.specs.Reading.{shared_rows, gate_rows, drive_rows, motion_of, codec_read}
 use Rattle.command.specs.Divisors.{is_listed}
 use Rattle.codec.specs.Build.{load_data, build_for, codec_build}
 use Rattle.status.specs.Status.{counts, judge_of}
-use Rattle.status.specs.declared.Answer.TheVariants.{Clear}
 use Rattle.node.specs.declared.state.Node.{Node}
 use Rattle.node.specs.Node.{act_as}
 use Rattle.reply.specs.Items.{reply_items}

@@ -13,14 +13,12 @@ use Rattle.wire.specs.declared.address.Address.TheVariants as address
 use Rattle.wire.proofs.Choice.{both, same}
 use Rattle.command.specs.declared.Command.{Command}
 use Rattle.command.specs.declared.Command.TheVariants.{SetBaudRate, Nop}
-use Rattle.command.specs.Role.{role_of, is_nop}
 use Rattle.command.proofs.Roles.{only_nop}
-use Rattle.status.specs.declared.Answer.{Answer}
-use Rattle.status.specs.declared.Answer.TheVariants.{Clear, Marked, Silent}
+use Rattle.status.specs.declared.Answer.TheVariants.{Clear}
 use Rattle.node.specs.declared.state.Settings.{Settings}
 use Rattle.node.specs.declared.state.Node.{Node}
-use Rattle.node.specs.Setting.{place, divisor, get}
-use Rattle.node.specs.Effect.{effect, settings_after}
+use Rattle.node.specs.Setting.{place}
+use Rattle.node.specs.Effect.{settings_after}
 use Rattle.node.proofs.Laws.{paced_again}
 use Rattle.survey.specs.One.{is_answering}
 use Rattle.survey.specs.Chain.{near_at, hears_at}
@@ -35,13 +33,13 @@ use Rattle.session.specs.declared.Session.{Session}
 use Rattle.session.specs.Session.{node_at, off_chain}
 use Rattle.session.proofs.Sessions.{on_chain_lem}
 use Rattle.reports.specs.Report.{is_telling, told_of}
-use Rattle.line.specs.History.{Sending, gives, asks, sends, Counted, tells, learnt}
+use Rattle.line.specs.History.{Sending, sends, Counted, tells, learnt}
 use Rattle.line.proofs.Exact.{exact_step}
 use Rattle.line.proofs.Exactly.{Exactly}
 use Rattle.line.proofs.Due.{Due, next, ask, order, regroup, paces}
 use Rattle.line.proofs.Closing.{entry_at}
 use Rattle.line.proofs.Sound.{Sound, told, fits_test, hits_test, noted_sound}
-use Rattle.line.proofs.Invariant.{at, Edge, EdgeAt, Invariant, Answered, Exchanged}
+use Rattle.line.proofs.Invariant.{at, EdgeAt, Invariant, Answered, Exchanged}
 use Rattle.line.proofs.Peace.{numbered_by}
 
 -- the session t, told that node k heard at divisor v

@@ -8,7 +8,7 @@ use Rattle.command.specs.declared.Held.{Held}
 use Rattle.command.specs.declared.Motion.{Motion}
 use Rattle.command.specs.declared.Command.TheVariants.{SetAddress, SynchOutput, SetOutputs, SetSynchOutput, SetBaudRate, Nop, LoadTrajectory, StartMotion}
 use Rattle.status.specs.declared.Answer.TheVariants.{Clear, Silent}
-use Rattle.node.specs.Setting.{outputs, position, waiting, inForce, Setting, place, divisor, gate, drive, Value, get}
+use Rattle.node.specs.Setting.{outputs, position, waiting, in_force, Setting, place, divisor, gate, drive, Value, get}
 use Rattle.node.specs.Effect.{group_up, settings_power_up, divisor_up}
 use Rattle.entry.specs.Entry.{knows, shows}
 use Rattle.session.specs.declared.Exchange.TheVariants.{Idle}
@@ -128,8 +128,8 @@ pub record Courses : Type 0 where
   pub alone : Course handed (Stands 2 (gate outputs) true 5 5)
   pub unknown : Course leader_in_doubt (Stands 1 (gate outputs) false 0 5)
   pub loading : Course load_lost (Stands 2 (drive (waiting position)) false 0 0x2800)
-  pub starting : Course motion_started (Stands 2 (drive (inForce position)) false 0 0x2800)
-  pub turning : Course load_started (λ w. Stands 2 (drive (waiting position)) true 0x2800 0x2800 w × Stands 2 (drive (inForce position)) true 0x2800 0x2800 w)
+  pub starting : Course motion_started (Stands 2 (drive (in_force position)) false 0 0x2800)
+  pub turning : Course load_started (λ w. Stands 2 (drive (waiting position)) true 0x2800 0x2800 w × Stands 2 (drive (in_force position)) true 0x2800 0x2800 w)
   pub pacing : Course rate_set (λ w. Stands 1 divisor false divisor_up fast w × Stands 2 divisor false divisor_up fast w)
   pub hearing : Course heard_one (λ w. Stands 1 divisor true fast fast w × Stands 2 divisor false divisor_up fast w)
   pub quick : Course heard_both (λ w. Stands 1 divisor true fast fast w × Stands 2 divisor true fast fast w)

@@ -10,7 +10,7 @@ use Rattle.command.specs.Control.{loads_of}
 use Rattle.node.specs.declared.gate.GateSettings.{GateSettings}
 use Rattle.node.specs.declared.drive.DriveSettings.{DriveSettings}
 use Rattle.node.specs.declared.state.Settings.{Settings}
-use Rattle.node.specs.Setting.{GateSetting, outputs, pwm, held, timer, MotionPart, control, position, velocity, acceleration, power, DriveSetting, gains, stop, waiting, inForce, Setting, place, mask, divisor, gate, drive, owns, Value, get_motion, make_motion, get, make, get_make}
+use Rattle.node.specs.Setting.{GateSetting, outputs, pwm, held, timer, MotionPart, control, position, velocity, acceleration, power, DriveSetting, gains, stop, waiting, in_force, Setting, place, mask, divisor, gate, drive, owns, Value, get_motion, make_motion, get, make, get_make}
 
 -- what becomes of setting s: it stays, it is stored anew, or it is copied from another
 pub data Effect (s : Setting) : Type 0 where
@@ -102,12 +102,12 @@ gate_row a b c d held = c
 gate_row a b c d timer = d
 
 -- a drive's own: gains, stop byte, and the five values in waiting and in force
-abbrev pub drive_row : Effect (drive gains) → Effect (drive stop) → ((m : MotionPart) → Effect (drive (waiting m))) → ((m : MotionPart) → Effect (drive (inForce m)))
+abbrev pub drive_row : Effect (drive gains) → Effect (drive stop) → ((m : MotionPart) → Effect (drive (waiting m))) → ((m : MotionPart) → Effect (drive (in_force m)))
     → (d : DriveSetting) → Effect (drive d)
 drive_row a b c d gains = a
 drive_row a b c d stop = b
 drive_row a b c d (waiting m) = c m
-drive_row a b c d (inForce m) = d m
+drive_row a b c d (in_force m) = d m
 
 -- a row that writes one or two of a gate's
 abbrev pub on_outputs : Effect (gate outputs) → (s : Setting) → Effect s
@@ -132,7 +132,7 @@ on_gains e = on_drive (drive_row e keeps (λ m. keeps) (λ m. keeps))
 abbrev pub on_stop : Effect (drive stop) → (s : Setting) → Effect s
 on_stop e = on_drive (drive_row keeps e (λ m. keeps) (λ m. keeps))
 
-abbrev pub on_motion : ((m : MotionPart) → Effect (drive (waiting m))) → ((m : MotionPart) → Effect (drive (inForce m))) → (s : Setting) → Effect s
+abbrev pub on_motion : ((m : MotionPart) → Effect (drive (waiting m))) → ((m : MotionPart) → Effect (drive (in_force m))) → (s : Setting) → Effect s
 on_motion c d = on_drive (drive_row keeps keeps c d)
 
 -- which of the five a load brings: always the control byte, the others by its bits
@@ -148,11 +148,11 @@ abbrev pub loading : Motion → (m : MotionPart) → Effect (drive (waiting m))
 loading x m = cond (brings x m) (stores (get_motion x m)) keeps
 
 -- "Start Motion copies the waiting ones as Synch Output does"
-abbrev pub starting : (m : MotionPart) → Effect (drive (inForce m))
+abbrev pub starting : (m : MotionPart) → Effect (drive (in_force m))
 starting m = copies (drive (waiting m)) (λ v. v)
 
 -- "with the start bit, it is loaded, then started at once": what it brings, and what waits already
-abbrev pub starting_now : Motion → (m : MotionPart) → Effect (drive (inForce m))
+abbrev pub starting_now : Motion → (m : MotionPart) → Effect (drive (in_force m))
 starting_now x m = cond (loads_of x.control).starts (cond (brings x m) (stores (get_motion x m)) (starting m)) keeps
 
 -- "the other Set commands store their data, no more. Synch Output copies the held set to outputs and PWM pair"; "Stop Motor writes the stop byte only"

@@ -24,7 +24,7 @@ pub data MotionPart : Type 0 where
 -- a drive's own
 pub data DriveSetting : Type 0 where
   gains stop : DriveSetting
-  waiting inForce : MotionPart → DriveSetting
+  waiting in_force : MotionPart → DriveSetting
 
 -- every node's, and its kind's own
 pub data Setting : Type 0 where
@@ -51,7 +51,7 @@ abbrev pub DriveValue : DriveSetting → Type 0
 DriveValue gains = Gains
 DriveValue stop = ℕ
 DriveValue (waiting m) = ℕ
-DriveValue (inForce m) = ℕ
+DriveValue (in_force m) = ℕ
 
 abbrev pub Value : Setting → Type 0
 Value place = Place
@@ -78,7 +78,7 @@ abbrev pub get_drive : DriveSettings → (d : DriveSetting) → DriveValue d
 get_drive x gains = x.gains
 get_drive x stop = x.stop
 get_drive x (waiting m) = get_motion x.waiting m
-get_drive x (inForce m) = get_motion x.in_force m
+get_drive x (in_force m) = get_motion x.in_force m
 
 abbrev pub get : Settings → (s : Setting) → Value s
 get x place = x.place
@@ -95,7 +95,7 @@ abbrev pub make_motion : (MotionPart → ℕ) → Motion
 make_motion f = record { position = f position; velocity = f velocity; acceleration = f acceleration; control = f control; pwm = f power }
 
 abbrev pub make_drive : ((d : DriveSetting) → DriveValue d) → DriveSettings
-make_drive f = record { waiting = make_motion (λ m. f (waiting m)); in_force = make_motion (λ m. f (inForce m)); gains = f gains; stop = f stop }
+make_drive f = record { waiting = make_motion (λ m. f (waiting m)); in_force = make_motion (λ m. f (in_force m)); gains = f gains; stop = f stop }
 
 abbrev pub make : ((s : Setting) → Value s) → Settings
 make f = record { drive = make_drive (λ d. f (drive d)); gate = make_gate (λ g. f (gate g)); place = f place; mask = f mask; divisor = f divisor }
@@ -133,7 +133,7 @@ drive_make : (f : (d : DriveSetting) → DriveValue d) (d : DriveSetting) → ge
 drive_make f gains = refl
 drive_make f stop = refl
 drive_make f (waiting m) = motion_make (λ p. f (waiting p)) m
-drive_make f (inForce m) = motion_make (λ p. f (inForce p)) m
+drive_make f (in_force m) = motion_make (λ p. f (in_force p)) m
 
 pub get_make : (f : (s : Setting) → Value s) (s : Setting) → get (make f) s ≡ f s
 get_make f place = refl
@@ -151,7 +151,7 @@ motion_same f x h = rw (h control, h position, h velocity, h acceleration, h pow
 
 drive_same : (f : (d : DriveSetting) → DriveValue d) (x : DriveSettings) → ((d : DriveSetting) → f d ≡ get_drive x d) → make_drive f ≡ x
 drive_same f x h =
-    rw (h gains, h stop, motion_same (λ m. f (waiting m)) x.waiting (λ m. h (waiting m)), motion_same (λ m. f (inForce m)) x.in_force (λ m. h (inForce m)))
+    rw (h gains, h stop, motion_same (λ m. f (waiting m)) x.waiting (λ m. h (waiting m)), motion_same (λ m. f (in_force m)) x.in_force (λ m. h (in_force m)))
 
 pub make_same : (f : (s : Setting) → Value s) (x : Settings) → ((s : Setting) → f s ≡ get x s) → make f ≡ x
 make_same f x h =

@@ -11,7 +11,6 @@ use Rattle.wire.specs.declared.kind.Kind.{Kind}
 use Rattle.node.specs.Effect.{divisor_up}
 use Rattle.status.specs.Status.{judge_of}
 use Rattle.status.specs.declared.Answer.TheVariants.{Silent}
-use Rattle.survey.specs.Chain.{silence}
 use Rattle.session.specs.declared.Exchange.TheVariants.{Idle}
 use Rattle.session.specs.declared.Session.{Session}
 use Rattle.session.specs.declared.Step.{Step}

@@ -2,4 +2,3 @@
 // Promised: for every course of events, with no exchange open, the walk through what the recorder captured ends with the host's session.
 // Left to the reader: that specs/Trace says what a recorder captures of such a course.
 #![tactic(auto)]
-

@@ -10,10 +10,9 @@ use Rattle.session.specs.declared.Exchange.TheVariants.{Idle, Waiting}
 use Rattle.session.specs.declared.Session.{Session}
 use Rattle.session.specs.Session.{is_closed}
 use Rattle.session.proofs.Sessions.{Bounds, valid_says, closed_not}
-use Rattle.sending.specs.declared.Check.{Check}
 use Rattle.sending.specs.declared.Tests.{Tests}
 use Rattle.sending.specs.declared.Check.TheVariants.{Passed, Refuse}
-use Rattle.sending.specs.Sending.{refuse_if, does_wait, is_waiting, refusing, sequence, test_of}
+use Rattle.sending.specs.Sending.{does_wait, is_waiting, refusing, sequence, test_of}
 
 -- each of some tests failed
 abbrev pub AllFailed : List (Bool × Refusal) → Type 0

@@ -1,8 +1,8 @@
 -- What the exits of the functions need, in the form in which the code gives it.
 use Prim.Native.Nat.{ℕ, ◌-◌, ◌<◌, ◌≤◌}
-use mathlib.Core.Bool.{Bool, true, false, not, cond, ◌&&◌}
+use mathlib.Core.Bool.{Bool, true, false, not}
 use mathlib.Core.List.{List}
-use mathlib.Core.Path.{◌≡◌, sym, ap, ◌∙◌}
+use mathlib.Core.Path.{◌≡◌, ap, ◌∙◌}
 use native.Mathlib.Nat.{sub-zero}
 use lib.ListN.{take, drop}
 use borrow.Author.Tests.{not-true, not-false, lt-ltb, le-ltb}

@@ -7,7 +7,7 @@ use native.Mathlib.Omega.{arith}
 use native.Mathlib.Nat.{sub-zero}
 use borrow.Author.Tests.{leb-true}
 use lib.Dec.{leb, eqb}
-use lib.ListN.{length, take, drop, length-take}
+use lib.ListN.{length, take, length-take}
 use Rattle.wire.specs.Numbers.{number_of}
 use Rattle.wire.specs.Promise.{Promise}
 use Rattle.wire.specs.declared.kind.Kind.{Kind}

@@ -11,8 +11,7 @@ loop-i-smaller-then-is_gate c =
 pub loop-i-preserved-then-is_gate : goal.loop-i-preserved-then-is_gate
 loop-i-preserved-then-is_gate c =
     let spans : c.span-n.result ≡ span_of (length c.loop-i.table) = c.span-n.ensures ∙ ap span_of (sym c.loop-i.invariant.1) in
-    let taken = by_gate c.args.decided.messages _ _ _ c.is_gate.ensures c.if-is_gate.true c.take_gate.ensures in
-    (
+    let taken = by_gate c.args.decided.messages _ _ _ c.is_gate.ensures c.if-is_gate.true c.take_gate.ensures in (
       c.first-i-in-loop-i.ensures,
       simp length-set c.loop-i.invariant.1,
       kept c.args.decided.messages _ _ c.loop-i.i _ c.loop-i.table c.loop-i.invariant.0 spans _ _ _ c.loop-i-test.true c.without_first-rest.ensures taken c.loop-i.invariant.2,
@@ -27,8 +26,7 @@ loop-i-smaller c =
 pub loop-i-preserved : goal.loop-i-preserved
 loop-i-preserved c =
     let spans : c.span-n.result ≡ span_of (length c.loop-i.table) = c.span-n.ensures ∙ ap span_of (sym c.loop-i.invariant.1) in
-    let taken = by_drive c.args.decided.messages _ _ _ c.is_gate.ensures c.if-is_gate.false c.take_drive.ensures in
-    (
+    let taken = by_drive c.args.decided.messages _ _ _ c.is_gate.ensures c.if-is_gate.false c.take_drive.ensures in (
       c.first-i-in-loop-i.ensures,
       simp length-set c.loop-i.invariant.1,
       kept c.args.decided.messages _ _ c.loop-i.i _ c.loop-i.table c.loop-i.invariant.0 spans _ _ _ c.loop-i-test.true c.without_first-rest.ensures taken c.loop-i.invariant.2,

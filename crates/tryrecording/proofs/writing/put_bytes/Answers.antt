@@ -1,4 +1,3 @@
-use Prim.Native.Nat.{◌-◌}
 use native.Mathlib.Omega.{arith}
 use borrow.Author.Rules.{rules}
 use Rattle.tryrecording.proofs.Writes.{bytes_start, bytes_long, bytes_more, bytes_all}

@@ -7,6 +7,8 @@ use native.Mathlib.Omega.{arith}
 use lib.Dec.{eqb}
 use lib.ListN.{length, take, drop, replicate, drop_of_length-le}
 use borrow.Author.Tests.{eq-eqb, ne_eqb, lt-ltb, le-ltb}
+use Rattle.std.proofs.Common.{Result, IfOk}
+use Rattle.std.proofs.lemmas.Result.{IfOk-weaker}
 use Rattle.wire.specs.Promise.{Lending}
 use Rattle.wire.proofs.Impossible.{impossible}
 use Rattle.text.specs.Lines.{first_line, lines_of}
@@ -154,3 +156,18 @@ all_long input s h e = rw (lt-ltb most_input (length input) h) e
 pub all_tried : (input : List ℕ) (s : Session) → length input ≤ most_input → s ≡ try_lines fresh_of (lines_of input) → s ≡ try_all input
 unfolding try_all
 all_tried input s h e = rw (le-ltb most_input (length input) h) e
+
+-- ---- where the last call writes, and what it gives is given on
+
+module _ {E : Type 0} (r : Result Session E) where
+  pub ok_other : (s : Session) (kind : ℕ) (args : List ℕ) (t : Tried) → (kind ≡ 0x50 → ⊥) → t ≡ trylines_attempt s kind args
+      → IfOk r (λ x. x ≡ t.session) → IfOk r (λ x. x ≡ try_bytes s kind args)
+  ok_other s kind args t p q = IfOk-weaker r (λ x. x ≡ t.session) (λ x. x ≡ try_bytes s kind args) (λ x h. after_other s kind args t x p q h)
+
+  pub ok_line : (s : Session) (line room left b args : List ℕ) (n kind : ℕ) → 21846 ≡ length room → take n left ≡ take (length room) (said_bytes (bytes_in line)) → b ≡ take n left
+      → kind ≡ fields_byte b 0 → args ≡ drop 1 b → IfOk r (λ x. x ≡ try_bytes s kind args) → IfOk r (λ x. x ≡ try_line s line)
+  ok_line s line room left b args n kind e f g h i =
+      IfOk-weaker r (λ x. x ≡ try_bytes s kind args) (λ x. x ≡ try_line s line) (λ x q. line_tried s x line room left b args n kind e f g h i q)
+
+  pub ok_tried : (input : List ℕ) → length input ≤ most_input → IfOk r (λ x. x ≡ try_lines fresh_of (lines_of input)) → IfOk r (λ x. x ≡ try_all input)
+  ok_tried input h = IfOk-weaker r (λ x. x ≡ try_lines fresh_of (lines_of input)) (λ x. x ≡ try_all input) (λ x e. all_tried input x h e)

@@ -1,5 +1,10 @@
 -- A second result that meets a contract is equal to the first, for each public function.
 use mathlib.Core.Path.{sym, ◌∙◌}
+use denote.RattleType.{RattleType}
+use denote.Param.Laws.{Laws}
+use mir.Syntax.{Dict}
+use Rattle.std.specs.Prelude.{Ok}
+use Rattle.std.specs.declared.io.Print.{Ghosts}
 use Rattle.wire.proofs.OneResult.{OneResult}
 use Rattle.trylines.proofs.input_room.Reads as input-room
 use Rattle.trylines.proofs.attempt.Reads as attempt
@@ -11,5 +16,7 @@ input_room_unique κs a r r' s s' p q = p ∙ sym q
 pub attempt_unique : OneResult attempt.Post
 attempt_unique κs a r r' s s' p q = p ∙ sym q
 
-pub try_all_unique : OneResult try-all.Post
-try_all_unique κs a r r' s s' p q = p ∙ sym q
+-- of the sessions that it gives: where a write fails, it gives none
+module _ (T : RattleType) (L : Laws T) (P : Ghosts T.Denot) (D : Dict) where
+  pub try_all_unique : OneResult (λ κs a r s. try-all.Post T L P D κs a (Ok r) s)
+  try_all_unique κs a r r' s s' p q = p ∙ sym q

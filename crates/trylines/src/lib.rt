@@ -1,7 +1,7 @@
 // The lines of `trials` by their first byte, and all lines of an input: each topic of lines is a crate of its own, and has a row here.
 // Promised: what a line is answered, but for that of a recording, which tryrecording promises; the session after it; and the session after all lines of an input.
 // Left to others: the lines of each topic (trypacket, trychain, tryhost, trysheet, tryrecording), and what comes in (trials, carousels, divisors).
-// What is written to standard output no contract can say: it is run, and compared.
+// What is written to standard output no contract can say: it is run, and compared. Where a write fails, its error comes in place of the session.
 #![tactic(auto)]
 
 ghost use Rattle.std.specs.Prelude.{◌≡◌, ◌≤◌, IfOk, length, take};

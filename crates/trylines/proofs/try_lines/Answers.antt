@@ -6,10 +6,10 @@ use Rattle.trylines.proofs.Tries.{lines_on, lines_done}
 use Rattle.trylines.proofs.try_lines.Goals as goal
 
 pub loop-at-init : goal.loop-at-init
-loop-at-init c = (search rules, refl)
+loop-at-init g c = (search rules, refl)
 
 pub loop-at-preserved : goal.loop-at-preserved
-loop-at-preserved c = (search next_line, search lines_on)
+loop-at-preserved g c = (search next_line, search (lines_on, c.in_ok-s.ensures))
 
 pub returns : goal.returns
-returns c = search lines_done
+returns g c = search lines_done

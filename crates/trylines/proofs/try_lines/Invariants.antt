@@ -7,7 +7,7 @@ use Rattle.trylines.specs.Trying.{try_lines}
 use Rattle.trylines.proofs.try_lines.Given as goal
 
 abbrev pub invariant-loop-at : goal.invariant-loop-at
-invariant-loop-at l = (l.at ≤ length l.input + 1) × (try_lines l.s (lines_of (drop l.at l.input)) ≡ try_lines l.initial.s (lines_of l.input))
+invariant-loop-at g l = (l.at ≤ length l.input + 1) × (try_lines l.s (lines_of (drop l.at l.input)) ≡ try_lines l.initial.s (lines_of l.input))
 
 abbrev pub decreases-loop-at : goal.decreases-loop-at
-decreases-loop-at l = (length l.input + 1) - l.at
+decreases-loop-at g l = (length l.input + 1) - l.at

@@ -1,4 +1,3 @@
-use Prim.Native.Nat.{◌-◌}
 use borrow.Author.Rules.{rules}
 use Rattle.packet.proofs.Ends.{by_read, end_fits, end_within, end_less, end_count}
 use Rattle.export.proofs.first_fault.Goals as goal

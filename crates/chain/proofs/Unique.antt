@@ -1,4 +1,4 @@
--- A second result that meets a contract is equal to the first. `deliver` is walked by hand, so its contract is read off its clauses.
+-- A second result that meets a contract is equal to the first. The contract of `deliver` is read off its clauses.
 use mathlib.Core.Path.{◌≡◌, refl, sym, ap, ◌∙◌}
 use seplogic.Ra.Ura.{Ura}
 use prog.Memory.{Memory}

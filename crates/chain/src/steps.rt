@@ -1,4 +1,4 @@
-// The steps of a delivery that build a struct or read a field: functions of their own, since a walk by hand pays for each of these.
+// The steps of a delivery that build a struct or read a field, each a function with a contract of its own.
 ghost use Rattle.std.specs.Prelude.{◌≡◌};
 ghost use Rattle.wire.specs.Kind.{is_gate};
 ghost use Rattle.node.specs.Node.{take_gate, take_drive};

@@ -1,6 +1,6 @@
 // A line of `trials`: its fields, and the bytes of its answer.
 // Promised: one to four bytes at a place of a line; what it lends; each byte put into an answer, in its place, and nothing past its room.
-// Left to others: what the fields mean (layout, state, and the crates whose names start with try), and how bytes are written as text (hex).
+// Left to others: what the fields mean (layout, state, and the crates whose names start with try), and how bytes are written as text (hexadecimal).
 #![tactic(auto)]
 
 mod answer;

@@ -41,7 +41,7 @@ fn least(n: usize) -> usize
 }
 
 // The nodes, their count and the answer, as one.
-// A function of its own, since `lend` is walked by hand, and a literal of a large struct is the costly part of a check.
+// A function of its own: a literal of a large struct is the costly part of a check.
 fn delivered_with(nodes: [Node; ROOM], count: usize, answer: Delivery) -> Delivered
     ensures { result ≡ delivered_with nodes count answer }
 {

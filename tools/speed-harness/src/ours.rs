@@ -1,8 +1,9 @@
 //! The proved code as it is called from Rust, compiled for this machine by
 //! `tools/speed`. The compiler lays a struct out field by field in the order
-//! of its declaration, as C does; it hands structs, enums and slices over by
-//! address, and has the answer written where the first argument points. An
-//! enum is the number of its case in one byte, then what the case carries.
+//! of its declaration, as C does; it hands structs and enums over by address,
+//! a slice by two arguments, where it starts and how long it is, and has the
+//! answer written where the first argument points. An enum is the number of
+//! its case in one byte, then what the case carries.
 
 use crate::plain::{Answer, Kind, Node};
 use crate::plain_recording::{Capture, Ending, Entry, Replayed, ENTRIES};
@@ -10,13 +11,6 @@ use crate::plain_sheet::Refused;
 
 /// The number of a collision, which no refusal has.
 const COLLISION: u8 = 13;
-
-/// A slice as the compiler has it: where it starts, and how long it is.
-#[repr(C)]
-struct Slice<T> {
-    start: *const T,
-    length: usize,
-}
 
 /// Room for an answer of two to four cases, which carry a number or a refusal.
 #[repr(C)]
@@ -55,41 +49,50 @@ struct Exchange {
 }
 
 extern "C" {
-    fn ours_rehearse(said: *mut Said, input: *const Slice<u8>, output: *const Slice<u8>);
+    fn ours_rehearse(
+        said: *mut Said,
+        input: *const u8,
+        input_length: usize,
+        output: *mut u8,
+        output_length: usize,
+    );
     fn ours_deliver(
         said: *mut Said,
-        table: *const Slice<Node>,
+        table: *mut Node,
+        table_length: usize,
         at: u8,
-        packet: *const Slice<u8>,
-        reply: *const Slice<u8>,
+        packet: *const u8,
+        packet_length: usize,
+        reply: *mut u8,
+        reply_length: usize,
     );
-    fn ours_import(said: *mut Said, sheet: *const Slice<u8>, out: *const Slice<u8>);
-    fn ours_export(said: *mut Said, packets: *const Slice<u8>, out: *const Slice<u8>);
+    fn ours_import(
+        said: *mut Said,
+        sheet: *const u8,
+        sheet_length: usize,
+        out: *mut u8,
+        out_length: usize,
+    );
+    fn ours_export(
+        said: *mut Said,
+        packets: *const u8,
+        packets_length: usize,
+        out: *mut u8,
+        out_length: usize,
+    );
     fn ours_replay(
         walked: *mut Walked,
         nodes: u8,
         kinds: *const [Kind; ENTRIES],
-        command: *const Slice<u8>,
-        command_times: *const Slice<u32>,
-        reply: *const Slice<u8>,
-        reply_times: *const Slice<u32>,
+        command: *const u8,
+        command_length: usize,
+        command_times: *const u32,
+        command_times_length: usize,
+        reply: *const u8,
+        reply_length: usize,
+        reply_times: *const u32,
+        reply_times_length: usize,
     );
-}
-
-impl<T> Slice<T> {
-    fn of(lent: &[T]) -> Slice<T> {
-        Slice {
-            start: lent.as_ptr(),
-            length: lent.len(),
-        }
-    }
-
-    fn of_mut(lent: &mut [T]) -> Slice<T> {
-        Slice {
-            start: lent.as_mut_ptr(),
-            length: lent.len(),
-        }
-    }
 }
 
 impl Said {
@@ -133,13 +136,19 @@ fn number_of(refusal: u8) -> u8 {
 /// `chain::deliver`.
 pub fn deliver(table: &mut [Node], at: u8, packet: &[u8], reply: &mut [u8]) -> Answer {
     let mut said = Said::NOTHING;
-    let (table, packet, reply) = (
-        Slice::of_mut(table),
-        Slice::of(packet),
-        Slice::of_mut(reply),
-    );
     // SAFETY: the proved code reads and writes within the slices it is lent.
-    unsafe { ours_deliver(&mut said, &table, at, &packet, &reply) };
+    unsafe {
+        ours_deliver(
+            &mut said,
+            table.as_mut_ptr(),
+            table.len(),
+            at,
+            packet.as_ptr(),
+            packet.len(),
+            reply.as_mut_ptr(),
+            reply.len(),
+        )
+    };
     match said.case {
         0 => Answer::Silent,
         1 => Answer::Replied(said.number),
@@ -151,9 +160,16 @@ pub fn deliver(table: &mut [Node], at: u8, packet: &[u8], reply: &mut [u8]) -> A
 /// `script::rehearse`: how long the text is, or the refusal.
 pub fn rehearse(input: &[u8], output: &mut [u8]) -> Result<usize, u8> {
     let mut said = Said::NOTHING;
-    let (input, output) = (Slice::of(input), Slice::of_mut(output));
     // SAFETY: as above.
-    unsafe { ours_rehearse(&mut said, &input, &output) };
+    unsafe {
+        ours_rehearse(
+            &mut said,
+            input.as_ptr(),
+            input.len(),
+            output.as_mut_ptr(),
+            output.len(),
+        )
+    };
     match said.case {
         0 => Ok(said.number),
         _ => Err(said.refused()),
@@ -163,9 +179,16 @@ pub fn rehearse(input: &[u8], output: &mut [u8]) -> Result<usize, u8> {
 /// `sheet::import`: how many bytes of packets, or the refusal.
 pub fn import(sheet: &[u8], out: &mut [u8]) -> Result<usize, Refused> {
     let mut said = Said::NOTHING;
-    let (sheet, out) = (Slice::of(sheet), Slice::of_mut(out));
     // SAFETY: as above.
-    unsafe { ours_import(&mut said, &sheet, &out) };
+    unsafe {
+        ours_import(
+            &mut said,
+            sheet.as_ptr(),
+            sheet.len(),
+            out.as_mut_ptr(),
+            out.len(),
+        )
+    };
     match said.case {
         0 => Ok(said.number),
         1 => Err(Refused::with(said.refused())),
@@ -179,9 +202,16 @@ pub fn import(sheet: &[u8], out: &mut [u8]) -> Result<usize, Refused> {
 /// `sheet::export`: how long the sheet is, or the refusal.
 pub fn export(packets: &[u8], out: &mut [u8]) -> Result<usize, Refused> {
     let mut said = Said::NOTHING;
-    let (packets, out) = (Slice::of(packets), Slice::of_mut(out));
     // SAFETY: as above.
-    unsafe { ours_export(&mut said, &packets, &out) };
+    unsafe {
+        ours_export(
+            &mut said,
+            packets.as_ptr(),
+            packets.len(),
+            out.as_mut_ptr(),
+            out.len(),
+        )
+    };
     match said.case {
         0 => Ok(said.number),
         _ => Err(Refused::with(said.refused())),
@@ -191,18 +221,20 @@ pub fn export(packets: &[u8], out: &mut [u8]) -> Result<usize, Refused> {
 /// `recording::replay`.
 pub fn replay(nodes: u8, kinds: &[Kind; ENTRIES], commands: Capture, replies: Capture) -> Replayed {
     let mut walked = Walked::NOTHING;
-    let (command, command_times) = (Slice::of(commands.bytes), Slice::of(commands.times));
-    let (reply, reply_times) = (Slice::of(replies.bytes), Slice::of(replies.times));
     // SAFETY: as above.
     unsafe {
         ours_replay(
             &mut walked,
             nodes,
             kinds,
-            &command,
-            &command_times,
-            &reply,
-            &reply_times,
+            commands.bytes.as_ptr(),
+            commands.bytes.len(),
+            commands.times.as_ptr(),
+            commands.times.len(),
+            replies.bytes.as_ptr(),
+            replies.bytes.len(),
+            replies.times.as_ptr(),
+            replies.times.len(),
         )
     };
     let session = walked.session;

@@ -39,8 +39,12 @@ module _ (c : Incoming) where
     unfolding survey_all
     by_plan = ap (λ (i : ℕ). survey_with p (get_or ns i nobody)) spoken ∙ ap (λ (q : Plan). survey_with q (get_or ns (speaker_of q) nobody)) (planned ∙ ap (λ (t : Seen). plan_of c t (length ns)) seen)
 
-    pub survey_within : (d : Node) (r : Survey) → k < length ns → r ≡ survey_with p (get_or ns k d) → r ≡ survey_all c ns
-    survey_within d r h e = e ∙ ap (λ (n : Node). survey_with p n) (get_or_default ns k d nobody h) ∙ by_plan
+    pub survey_within : (r : Survey) → r ≡ survey_with p (get_or ns k nobody) → r ≡ survey_all c ns
+    survey_within r e = e ∙ by_plan
+
+    -- as the code reads it: within the table, whatever stands for what is past it
+    pub survey_read : (d : Node) (r : Survey) → k < length ns → r ≡ survey_with p (get_or ns k d) → r ≡ survey_all c ns
+    survey_read d r h e = survey_within r (e ∙ ap (λ (n : Node). survey_with p n) (get_or_default ns k d nobody h))
 
     pub survey_past : (r : Survey) → length ns ≤ k → r ≡ survey_alone p → r ≡ survey_all c ns
     survey_past r l e = e ∙ sym (ap (λ (n : Node). survey_with p n) (get_or-eq_default ns nobody {n = k} l)) ∙ by_plan

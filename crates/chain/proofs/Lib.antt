@@ -1,3 +1,5 @@
-pub mod Unique
+pub mod Walk
+pub mod Record
 mod Seeing
 mod Acting
+pub mod Unique

@@ -1,3 +1,4 @@
+mod Prefix
 mod Owner
 pub mod Refusals
 pub mod Unique

@@ -1,5 +1,5 @@
 -- Document 01, "Numbers returned", and the later numbers of document 02: a refusal's number stands only here.
-use Rattle.std.specs.Prelude.{ℕ}
+use Rattle.std.specs.Prelude.{ℕ, Result, Ok, Err}
 use Rattle.wire.specs.declared.refusal.Refusal.{Refusal}
 use Rattle.wire.specs.declared.refusal.Refusal.TheVariants as refusal
 
@@ -27,6 +27,11 @@ number_of refusal.Backward = 16
 number_of refusal.Lacked = 17
 number_of refusal.Divisor = 18
 number_of refusal.Answerable = 19
+
+-- the number of what a call answers: "done", or the refusal's
+abbrev pub number_by : {A : Type 0} → Result A Refusal → ℕ
+number_by (Ok a) = done
+number_by (Err why) = number_of why
 
 -- "several nodes replied (not a refusal)"
 abbrev pub collision : ℕ

@@ -9,7 +9,7 @@ mod refusal;
 
 pub use address::{Address, Group, Individual};
 pub use kind::Kind;
-pub use refusal::{COLLISION, DONE, Refusal};
+pub use refusal::{COLLISION, DONE, Refusal, number};
 
 // The longest chain.
 pub const MOST_NODES: usize = 31;

@@ -1,6 +1,6 @@
 // Document 01, "Numbers returned", and document 02's later numbers. specs/Numbers.antt has the number of each case.
 ghost use Rattle.std.specs.Prelude.{◌≡◌, [], ◌∷◌};
-ghost use Rattle.wire.specs.Numbers.{done, number_of, collision};
+ghost use Rattle.wire.specs.Numbers.{done, number_of, number_by, collision};
 
 // Why a call is refused. A refused call changes nothing.
 #[derive(Clone, Copy)]
@@ -80,5 +80,15 @@ impl Refusal {
             Refusal::Divisor => 18,
             Refusal::Answerable => 19,
         }
+    }
+}
+
+// The paper's number of what a call answers: 0 for what it found or did, or the refusal's own.
+pub fn number<T: Copy>(answer: Result<T, Refusal>) -> u8
+    ensures { result ≡ number_by answer }
+{
+    match answer {
+        Ok(_) => DONE,
+        Err(why) => why.number(),
     }
 }

@@ -3,7 +3,6 @@
 
 ghost use Rattle.std.specs.Prelude.{◌≡◌, length};
 
-use buffer::Built;
 use std::io;
 
 // Room for the longest input, 64 KiB, and one byte more, which tells that it is longer.
@@ -27,8 +26,8 @@ fn main(rt: HostRuntime) -> io::Result<()> {
     let n = reading::read_full(&mut rt.stdin(), &mut input)?;
     let done = script::rehearse(&input[..n], &mut output);
     match done {
-        Built::Bytes(m) => rt.write_all(&output[..m]),
+        Ok(m) => rt.write_all(&output[..m]),
         // It never comes to this: the output has room.
-        Built::Refused(_) => Ok(()),
+        Err(_) => Ok(()),
     }
 }

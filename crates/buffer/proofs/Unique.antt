@@ -1,14 +1,10 @@
 -- A second result that meets a contract is equal to the first, for each public function.
 use Rattle.std.proofs.Common.{◌≡◌, sym, ◌∙◌}
 use Rattle.wire.proofs.OneResult.{OneResult}
-use Rattle.buffer.proofs.Built.number.Reads as built-number
 use Rattle.buffer.proofs.put.Reads as put
 use Rattle.buffer.proofs.store.Reads as store
 use Rattle.buffer.proofs.sum.Reads as sum
 use Rattle.buffer.proofs.ends_in_sum.Reads as ends-in-sum
-
-pub built_number_unique : OneResult built-number.Post
-built_number_unique κs a r r' s s' p q = p ∙ sym q
 
 pub sum_unique : OneResult sum.Post
 sum_unique κs a r r' s s' p q = p ∙ sym q

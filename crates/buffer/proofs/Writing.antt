@@ -1,12 +1,11 @@
 -- A packet laid out by stores, and what writing it leaves in the buffer: `packet::build`, `reply::reply`.
-use Rattle.std.proofs.Common.{◌≡◌, ℕ, suc, ◌+◌, ◌<◌, ◌≤◌, Bool, true, false, cond, ltb, List, [], ◌∷◌, ◌++◌, length, take, drop, set, sym, refl, ap, ◌∙◌, le_of_suc-le-suc, not-suc-le-zero, add-zero, add-suc, suc-add, zero-add, arith, length-append, length-drop, drop-drop, take_at, ltb-false, le-ltb, lt-ltb}
+use Rattle.std.proofs.Common.{◌≡◌, ℕ, suc, ◌+◌, ◌<◌, ◌≤◌, Bool, true, false, cond, ltb, List, [], ◌∷◌, ◌++◌, length, take, drop, set, sym, refl, ap, ◌∙◌, le_of_suc-le-suc, not-suc-le-zero, add-zero, add-suc, suc-add, zero-add, arith, length-append, length-drop, drop-drop, take_at, ltb-false, le-ltb, lt-ltb, Result, Ok, Err}
+use Rattle.wire.specs.Numbers.{number_by}
 use lib.Seq.{paste, sets, sets-eq, length-sets, length-paste, take-length}
 use Rattle.wire.specs.Promise.{Outcome, Lending, lent}
-use Rattle.buffer.specs.Buffer.{put_of, at_start, refused, written, built_number}
+use Rattle.buffer.specs.Buffer.{put_of, at_start, refused, written}
 use Rattle.wire.specs.declared.refusal.Refusal.{Refusal}
 use Rattle.wire.specs.declared.refusal.Refusal.TheVariants.{Room}
-use Rattle.buffer.specs.declared.Built.{Built}
-use Rattle.buffer.specs.declared.Built.TheVariants.{Bytes, Refused}
 use Rattle.wire.proofs.Choice.{chose_second}
 use Rattle.wire.proofs.Impossible.{impossible}
 
@@ -51,12 +50,12 @@ laid p d out o m e f g k =
     ∙ ap (λ (l : List ℕ). (p ++ (d ++ (m ∷ []))) ++ l) (drop-drop (suc (length d)) (length p) out ∙ ap (λ (n : ℕ). drop n out) w)
 
 -- a packet p that is longer than the buffer
-pub no_room : (p out : List ℕ) → length out < length p → Lending built_number (Refused Room) out (written p out)
+pub no_room : (p out : List ℕ) → length out < length p → Lending number_by (Err Room) out (written p out)
 unfolding written
 no_room p out h = lent (rw (lt-ltb (length out) (length p) h))
 
 -- a packet p of n bytes that fits, and stands at the start of what is left
-pub has_room_lem : (p out : List ℕ) (n : ℕ) (o : List ℕ) → length p ≡ n → n ≤ length out → o ≡ p ++ drop n out → Lending built_number (Bytes n) o (written p out)
+pub has_room_lem : (p out : List ℕ) (n : ℕ) (o : List ℕ) → length p ≡ n → n ≤ length out → o ≡ p ++ drop n out → Lending number_by (Ok n) o (written p out)
 unfolding written
 has_room_lem p out n o e h f = lent (rw (le-ltb (length out) (length p) (omega arith), e, f))
 
@@ -66,12 +65,12 @@ unfolding written
 written_fits p out h = rw (le-ltb (length out) (length p) h)
 
 -- a builder answered n bytes, number 0, and left this
-abbrev pub wrote : ℕ → List ℕ → Outcome Built (List ℕ)
-wrote n left = record { answer = Bytes n; left = left }
+abbrev pub wrote : ℕ → List ℕ → Outcome (Result ℕ Refusal) (List ℕ)
+wrote n left = record { answer = Ok n; left = left }
 
 pub wrote_not : (why : Refusal) (out left : List ℕ) (n : ℕ) → refused why out ≡ wrote n left → ⊥
 wrote_not why out left n e =
-    let f : Refused why ≡ Bytes n = ap (λ (o : Outcome Built (List ℕ)). o.answer) e in
+    let f : Err why ≡ Ok n = ap (λ (o : Outcome (Result ℕ Refusal) (List ℕ)). o.answer) e in
     impossible cc
 
 -- then the packet has n bytes
@@ -79,7 +78,7 @@ pub written_count : (p out left : List ℕ) (n : ℕ) → written p out ≡ wrot
 unfolding written
 written_count p out left n e =
     let w = (chose_second (ltb (length out) (length p)) e (wrote_not Room out left n)).1 in
-    let b : Bytes (length p) ≡ Bytes n = ap (λ (o : Outcome Built (List ℕ)). o.answer) w in
+    let b : Ok (length p) ≡ Ok n = ap (λ (o : Outcome (Result ℕ Refusal) (List ℕ)). o.answer) w in
     cc
 
 -- which are the first of what is left
@@ -87,7 +86,7 @@ pub written_wrote : (p out left : List ℕ) (n : ℕ) → written p out ≡ wrot
 unfolding written
 written_wrote p out left n e =
     let w = (chose_second (ltb (length out) (length p)) e (wrote_not Room out left n)).1 in
-    rw (← (ap (λ (o : Outcome Built (List ℕ)). o.left) w)) (take_at p (drop (length p) out) n (written_count p out left n e))
+    rw (← (ap (λ (o : Outcome (Result ℕ Refusal) (List ℕ)). o.left) w)) (take_at p (drop (length p) out) n (written_count p out left n e))
 
 at_start_long : (t : Bool) (p out : List ℕ) → ltb (length out) (length p) ≡ t → length (cond t (refused Room out) (at_start p out)).left ≡ length out
 at_start_long true p out e = refl

@@ -4,8 +4,9 @@
 #![tactic(auto)]
 
 ghost use Rattle.std.specs.Prelude.{◌≡◌, slice_set};
+ghost use Rattle.wire.specs.Numbers.{number_by};
 ghost use Rattle.buffer.specs.Sum.{sum_of, ends_in_sum};
-ghost use Rattle.buffer.specs.Buffer.{built_number, put_of};
+ghost use Rattle.buffer.specs.Buffer.{put_of};
 
 use wire::Refusal;
 
@@ -32,25 +33,6 @@ pub fn ends_in_sum(s: &[u8]) -> bool
     }
     let last = n - 1;
     sum(&s[..last]) == s[last]
-}
-
-// What building a packet answers: how many bytes it has, at the start of the lent buffer, or the refusal.
-#[derive(Clone, Copy)]
-pub enum Built {
-    Bytes(usize),
-    Refused(Refusal),
-}
-
-impl Built {
-    // The paper's number.
-    pub fn number(self) -> u8
-        ensures { result ≡ built_number self }
-    {
-        match self {
-            Built::Bytes(_) => wire::DONE,
-            Built::Refused(why) => why.number(),
-        }
-    }
 }
 
 // Copies `src` into `out` from `at` on, if all of it has room there.

@@ -1,6 +1,9 @@
 -- The call that is found for some bytes gives them in that session with number 0, and where none is found no call does: "a command the host couldn't have sent".
 -- Where two calls give them, either may be found: the sessions after them are alike.
 use Prim.Native.Nat.{ℕ}
+use Rattle.wire.specs.declared.refusal.Refusal.{Refusal}
+use Rattle.packet.specs.declared.Framed.{Framed}
+use Rattle.std.specs.Prelude.{Result, Err, Option, Some, None}
 use mathlib.Core.Bool.{Bool, true, false, cond, true≢false}
 use mathlib.Core.List.{List, ◌++◌}
 use mathlib.Core.Path.{◌≡◌, refl, sym, ap, subst, ◌∙◌}
@@ -16,12 +19,8 @@ use Rattle.text.specs.Same.{is_same}
 use Rattle.text.proofs.Sameness.{same_self, same_says}
 use Rattle.wire.specs.declared.kind.Kind.{Kind}
 use Rattle.wire.specs.declared.kind.Kind.TheVariants.{Gate, Drive}
-use Rattle.packet.specs.Packet.{read_of, data_part}
-use Rattle.packet.specs.declared.Framed.{Framed}
-use Rattle.packet.specs.declared.Framed.TheVariants as framed
+use Rattle.packet.specs.Packet.{read_of, data_part, whole}
 use Rattle.command.specs.declared.Command.{Command}
-use Rattle.command.specs.declared.Reading.{Reading}
-use Rattle.command.specs.declared.Reading.TheVariants as reading
 use Rattle.command.specs.declared.Role.{Role}
 use Rattle.command.specs.declared.Role.TheVariants.{Plain, Places, Paces, Masks, Captures, Zeroes, Idles, Resets}
 use Rattle.command.specs.Role.{role_of, is_placing}
@@ -44,8 +43,6 @@ use Rattle.calls.specs.declared.Call.TheVariants.{Next, Ask, Order, Regroup, Set
 use Rattle.calls.specs.declared.Spoken.{Spoken}
 use Rattle.calls.specs.declared.Spoken.TheVariants as spoken
 use Rattle.calls.specs.declared.Sought.{Sought}
-use Rattle.calls.specs.declared.Source.{Source}
-use Rattle.calls.specs.declared.Source.TheVariants.{Found, Missing}
 use Rattle.calls.specs.Calls.{call_perform, TypedCall, sets_rate, Gives, session_after, Unsendable}
 use Rattle.calls.specs.Understanding.{understand_of, spoken_as, spoken_to}
 use Rattle.calls.specs.Finding.{missed_of, sought_by, sought_of, try_call, early_call, late_by, late_call, by_source, seek_of, find_by, find_as, find_of}
@@ -53,10 +50,10 @@ use Rattle.calls.specs.Alike.{Alike}
 use Rattle.calls.proofs.Standing.{CallWent, call_went}
 use Rattle.calls.proofs.Twice.{had, sent_done, went_by, packet_is, after_is, reads_back, gives_alike}
 
-found_not : {k : Call} → Found k ≡ Missing → ⊥
+found_not : {k : Call} → Some k ≡ None → ⊥
 found_not e = impossible cc
 
-found_call : {k j : Call} → Found k ≡ Found j → k ≡ j
+found_call : {k j : Call} → Some k ≡ Some j → k ≡ j
 found_call e = cc
 
 spoken_command : {a to : Address} {d c : Command} → spoken.Command a d ≡ spoken.Command to c → d ≡ c
@@ -64,28 +61,28 @@ spoken_command e = cc
 
 -- sent as these bytes, it is found
 sent_found : (s : Session) (k : Call) (p left : List ℕ) (after : Session) (n : ℕ) → take n left ≡ p
-    → sought_by s k p after left (end.Sent n) ≡ record { source = Found k; session = after }
+    → sought_by s k p after left (end.Sent n) ≡ record { source = Some k; session = after }
 sent_found s k p left after n e = rw (e, same_self p)
 
 -- ---- a call that is made is found by the reading of a kind that has its command
 
 -- as that call, with the session that it gave
 abbrev FoundBy : {s : Session} {k : Call} {p : List ℕ} → Gives s k p → Sought → Type 0
-FoundBy {s} {k} g x = x ≡ record { source = Found k; session = session_after g }
+FoundBy {s} {k} g x = x ≡ record { source = Some k; session = session_after g }
 
 module _ {s : Session} {k : Call} {p : List ℕ} (g : Gives s k p) (w : CallWent k s divisor_up g.out) where
   abbrev packet : List ℕ
   packet = packet_for w.called w.command
 
   -- tried with room for the longest packet
-  tried : try_call s k p ≡ record { source = Found k; session = session_after g }
+  tried : try_call s k p ≡ record { source = Some k; session = session_after g }
   unfolding try_call
   tried =
       let e : call_perform k s divisor_up (replicate 19 0) ≡ sending s divisor_up w.called w.to w.command (replicate 19 0) = (w.sends (replicate 19 0)).room (omega (arith, built_few w.called w.command, length-replicate {A = ℕ} 19 0)) in
       let f : take (length packet) (packet ++ drop (length packet) (replicate 19 0)) ≡ p = take_at packet (drop (length packet) (replicate 19 0)) _ refl ∙ sym (packet_is g w) in
       ap (sought_of s k p) e
       ∙ sent_found s k p (packet ++ drop (length packet) (replicate 19 0)) (open_exchange s divisor_up w.to w.command) (length packet) f
-      ∙ ap (λ (t : Session). record { source = Found k; session = t }) (sym (after_is g w))
+      ∙ ap (λ (t : Session). record { source = Some k; session = t }) (sym (after_is g w))
 
   module _ (kind : Kind) (h : has kind w.command ≡ true) where
     -- its packet is understood
@@ -149,17 +146,17 @@ found_had s (Regroup i j leader) p g kind h =
 found_had s (SetBaudRate j d) p g kind h = absurd (true≢false g.unpaced)
 
 -- where none is found, none is found by either reading
-missing_by : (x : Source) (y z : Sought) → y.source ≡ x → (by_source x y z).source ≡ Missing → (y.source ≡ Missing) × (z.source ≡ Missing)
-missing_by (Found k) y z e f = absurd (found_not (sym e ∙ f))
-missing_by Missing y z e f = (e, f)
+missing_by : (x : Option Call) (y z : Sought) → y.source ≡ x → (by_source x y z).source ≡ None → (y.source ≡ None) × (z.source ≡ None)
+missing_by (Some k) y z e f = absurd (found_not (sym e ∙ f))
+missing_by None y z e f = (e, f)
 
-missing_as : (kind : Kind) (s : Session) (p : List ℕ) → (find_of s p).source ≡ Missing → (find_as kind s p).source ≡ Missing
+missing_as : (kind : Kind) (s : Session) (p : List ℕ) → (find_of s p).source ≡ None → (find_as kind s p).source ≡ None
 unfolding find_of
 missing_as Gate s p e = (missing_by (find_as Gate s p).source (find_as Gate s p) (find_as Drive s p) refl e).0
 missing_as Drive s p e = (missing_by (find_as Gate s p).source (find_as Gate s p) (find_as Drive s p) refl e).1
 
 -- "where it finds none there is none"
-pub missing_unsendable : (s : Session) (p : List ℕ) → (find_of s p).source ≡ Missing → Unsendable s p
+pub missing_unsendable : (s : Session) (p : List ℕ) → (find_of s p).source ≡ None → Unsendable s p
 missing_unsendable s p e k g =
     let h = had (went_by g).command in
     found_not (sym (ap (λ (x : Sought). x.source) (found_had s k p g h.kind h.by)) ∙ missing_as h.kind s p e)
@@ -173,11 +170,11 @@ pub record Made (s : Session) (k : Call) (p : List ℕ) (after : Session) : Type
 
 -- what was found is such a call
 abbrev FoundAs : Session → List ℕ → Call → Sought → Type 0
-FoundAs s p j x = x.source ≡ Found j → Made s j p x.session
+FoundAs s p j x = x.source ≡ Some j → Made s j p x.session
 
 module _ (s : Session) (k : Call) (p : List ℕ) (typed : TypedCall k) (unpaced : sets_rate k ≡ false) (j : Call) where
   by_same : (b : Bool) (n : ℕ) → (call_perform k s divisor_up (replicate 19 0)).answer.end ≡ end.Sent n → is_same (take n (call_perform k s divisor_up (replicate 19 0)).left) p ≡ b
-      → FoundAs s p j (cond b (record { source = Found k; session = (call_perform k s divisor_up (replicate 19 0)).answer.session }) (missed_of s))
+      → FoundAs s p j (cond b (record { source = Some k; session = (call_perform k s divisor_up (replicate 19 0)).answer.session }) (missed_of s))
   by_same true n e h f =
       let g : Gives s k p = record { typed = typed; unpaced = unpaced; out = replicate 19 0; count = n; sent = e; bytes = same_says _ p h } in
       let i : k ≡ j = found_call f in
@@ -225,26 +222,26 @@ late_unpaced to c Idles = refl
 late_unpaced to c Resets = refl
 
 module _ (kind : Kind) (p : List ℕ) (to : Address) (c : Command) where
-  by_reading : (r : Reading) (a : Address) (k n : ℕ) → read_of p ≡ framed.Whole a k n → codec_read kind k (data_part p) ≡ r
+  by_reading : (r : Option Command) (a : Address) (k n : ℕ) → read_of p ≡ whole a k n → codec_read kind k (data_part p) ≡ r
       → spoken_to a r ≡ spoken.Command to c → Typed c
-  by_reading (reading.Known d) a k n e f h =
+  by_reading (Some d) a k n e f h =
       let i : d ≡ c = spoken_command h in
       subst Typed i (reads_in_range kind p a d n (record { command = k; whole = e; known = f })).2
-  by_reading reading.Other a k n e f h = impossible cc
+  by_reading None a k n e f h = impossible cc
 
-  by_framed : (f : Framed) → read_of p ≡ f → spoken_as kind p f ≡ spoken.Command to c → Typed c
-  by_framed (framed.Whole a k n) e h =
+  by_framed : (f : Result Framed Refusal) → read_of p ≡ f → spoken_as kind p f ≡ spoken.Command to c → Typed c
+  by_framed (whole a k n) e h =
       by_reading (codec_read kind k (data_part p)) a k n e refl (chose_second (ltb n (length p)) h (λ i. impossible cc)).1
-  by_framed (framed.Refused why) e h = impossible cc
+  by_framed (Err why) e h = impossible cc
 
   spoken_typed : understand_of kind p ≡ spoken.Command to c → Typed c
   unfolding understand_of
   spoken_typed h = by_framed (read_of p) refl h
 
 -- the first that is found
-by_first : (x : Source) (s : Session) (p : List ℕ) (j : Call) (y z : Sought) → FoundAs s p j y → FoundAs s p j z → FoundAs s p j (by_source x y z)
-by_first (Found k) s p j y z f g = f
-by_first Missing s p j y z f g = g
+by_first : (x : Option Call) (s : Session) (p : List ℕ) (j : Call) (y z : Sought) → FoundAs s p j y → FoundAs s p j z → FoundAs s p j (by_source x y z)
+by_first (Some k) s p j y z f g = f
+by_first None s p j y z f g = g
 
 by_spoken : (kind : Kind) (x : Spoken) (s : Session) (p : List ℕ) (j : Call) → understand_of kind p ≡ x → FoundAs s p j (find_by s p x)
 unfolding seek_of
@@ -259,7 +256,7 @@ unfolding find_as
 made_as kind s p k = by_spoken kind (understand_of kind p) s p k refl
 
 -- "what the code finds is such a call"
-pub found_gives : (s : Session) (p : List ℕ) (k : Call) → (find_of s p).source ≡ Found k → Made s k p (find_of s p).session
+pub found_gives : (s : Session) (p : List ℕ) (k : Call) → (find_of s p).source ≡ Some k → Made s k p (find_of s p).session
 unfolding find_of
 found_gives s p k = by_first (find_as Gate s p).source s p k _ _ (made_as Gate s p k) (made_as Drive s p k)
 
@@ -268,14 +265,14 @@ found_gives s p k = by_first (find_as Gate s p).source s p k _ _ (made_as Gate s
 -- the bytes of a call are found to be a call's, with a session like the one that it gave
 pub record Again (s : Session) (p : List ℕ) (after : Session) : Type 0 where
   pub call : Call
-  pub found : (find_of s p).source ≡ Found call
+  pub found : (find_of s p).source ≡ Some call
   pub session : Alike (find_of s p).session after
 
 pub found_again : (s : Session) (k : Call) (p : List ℕ) (g : Gives s k p) → Again s p (session_after g)
 found_again s k p g = go (find_of s p).source refl
   where
-    go : (x : Source) → (find_of s p).source ≡ x → Again s p (session_after g)
-    go (Found j) e =
+    go : (x : Option Call) → (find_of s p).source ≡ x → Again s p (session_after g)
+    go (Some j) e =
         let m = found_gives s p j e in
         record { call = j; found = e; session = subst (λ (t : Session). Alike t (session_after g)) (sym m.session) (gives_alike m.gives g) }
-    go Missing e = absurd (missing_unsendable s p e k g)
+    go None e = absurd (missing_unsendable s p e k g)

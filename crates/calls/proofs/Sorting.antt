@@ -1,5 +1,8 @@
 -- A law for each exit of the code.
 use Prim.Native.Nat.{ℕ, ◌<◌, ◌≤◌}
+use Rattle.packet.specs.declared.Framed.{Framed}
+use Rattle.std.specs.Prelude.{Result, Err, Option, Some, None}
+use Rattle.wire.specs.Numbers.{number_by}
 use mathlib.Core.Bool.{Bool, true, false}
 use mathlib.Core.List.{List}
 use mathlib.Core.Path.{◌≡◌}
@@ -14,13 +17,9 @@ use Rattle.wire.specs.declared.kind.Kind.{Kind}
 use Rattle.wire.specs.declared.kind.Kind.TheVariants.{Gate, Drive}
 use Rattle.wire.specs.declared.refusal.Refusal.{Refusal}
 use Rattle.wire.specs.declared.refusal.Refusal.TheVariants.{Long}
-use Rattle.packet.specs.Packet.{framed_number, read_of, data_part}
-use Rattle.packet.specs.declared.Framed.{Framed}
-use Rattle.packet.specs.declared.Framed.TheVariants as framed
+use Rattle.packet.specs.Packet.{read_of, data_part, whole}
 use Rattle.command.specs.declared.Command.{Command}
 use Rattle.command.specs.declared.Place.{Place}
-use Rattle.command.specs.declared.Reading.{Reading}
-use Rattle.command.specs.declared.Reading.TheVariants as reading
 use Rattle.command.specs.declared.Role.{Role}
 use Rattle.command.specs.declared.Role.TheVariants.{Plain, Places, Paces, Masks, Captures, Zeroes, Idles, Resets}
 use Rattle.command.specs.Role.{role_of}
@@ -37,7 +36,6 @@ use Rattle.calls.specs.declared.Call.TheVariants.{Next, Ask, Order, Regroup, Set
 use Rattle.calls.specs.declared.Spoken.{Spoken}
 use Rattle.calls.specs.declared.Spoken.TheVariants as spoken
 use Rattle.calls.specs.declared.Sought.{Sought}
-use Rattle.calls.specs.declared.Source.TheVariants.{Found, Missing}
 use Rattle.calls.specs.Calls.{call_perform}
 use Rattle.calls.specs.Understanding.{spoken_number, spoken_to, understand_of}
 use Rattle.calls.specs.Finding.{missed_of, try_call, early_call, late_call, seek_of, find_as, find_of}
@@ -63,23 +61,23 @@ module _ (k : Call) (s : Session) (at : ℕ) (out o : List ℕ) (r : Step) where
 
 -- ---- understand
 
-pub says_known : (to : Address) (r : Reading) (c : Command) → r ≡ reading.Known c → spoken.Command to c ≡ spoken_to to r
+pub says_known : (to : Address) (r : Option Command) (c : Command) → r ≡ Some c → spoken.Command to c ≡ spoken_to to r
 says_known to r c e = rw e
 
-pub says_other : (to : Address) (r : Reading) → r ≡ reading.Other → spoken.Other ≡ spoken_to to r
+pub says_other : (to : Address) (r : Option Command) → r ≡ None → spoken.Other ≡ spoken_to to r
 says_other to r e = rw e
 
-module _ (kind : Kind) (p : List ℕ) (f : Framed) (by : Promise framed_number f (read_of p)) where
-  pub understood_long : (to : Address) (k end : ℕ) → f ≡ framed.Whole to k end → end < length p → Promise spoken_number (spoken.Refused Long) (understand_of kind p)
+module _ (kind : Kind) (p : List ℕ) (f : Result Framed Refusal) (by : Promise number_by f (read_of p)) where
+  pub understood_long : (to : Address) (k end : ℕ) → f ≡ whole to k end → end < length p → Promise spoken_number (spoken.Refused Long) (understand_of kind p)
   unfolding understand_of
   understood_long to k end e h = promised (rw (← by.answer, e, lt-ltb _ _ h))
 
-  pub understood : (to : Address) (k end : ℕ) (d : List ℕ) (r : Reading) (x : Spoken) → f ≡ framed.Whole to k end → length p ≤ end → d ≡ data_part p
+  pub understood : (to : Address) (k end : ℕ) (d : List ℕ) (r : Option Command) (x : Spoken) → f ≡ whole to k end → length p ≤ end → d ≡ data_part p
       → r ≡ codec_read kind k d → x ≡ spoken_to to r → Promise spoken_number x (understand_of kind p)
   unfolding understand_of
   understood to k end d r x e h i j l = promised (rw (← by.answer, e, le-ltb _ _ h, ← i, ← j) l)
 
-  pub understood_not : (why : Refusal) → f ≡ framed.Refused why → Promise spoken_number (spoken.Refused why) (understand_of kind p)
+  pub understood_not : (why : Refusal) → f ≡ Err why → Promise spoken_number (spoken.Refused why) (understand_of kind p)
   unfolding understand_of
   understood_not why e = promised (rw (← by.answer, e))
 
@@ -114,7 +112,7 @@ module _ (to : Address) (c : Command) (r : Role) (by : r ≡ role_of c) where
 
 module _ (s : Session) (c : Call) (p o : List ℕ) (r : Step) (by : Lending step_number r o (call_perform c s divisor_up (replicate 19 0))) where
   pub tried_same : (n : ℕ) (d : List ℕ) (g : Bool) → r.end ≡ end.Sent n → d ≡ take n o → g ≡ is_same d p → g ≡ true
-      → record { source = Found c; session = r.session } ≡ try_call s c p
+      → record { source = Some c; session = r.session } ≡ try_call s c p
   unfolding try_call
   tried_same n d g e f h i = rw (← by.answer, ← by.leaves, e, ← f, ← h, i)
 
@@ -131,11 +129,11 @@ module _ (s : Session) (c : Call) (p o : List ℕ) (r : Step) (by : Lending step
   tried_refused m why e j = rw (← by.answer, e) j
 
 module _ (s : Session) (early late : Call) (p : List ℕ) (x : Sought) (by : x ≡ try_call s early p) where
-  pub sought_early : (c : Call) → x.source ≡ Found c → x ≡ seek_of s early late p
+  pub sought_early : (c : Call) → x.source ≡ Some c → x ≡ seek_of s early late p
   unfolding seek_of
   sought_early c e = rw (← by, e)
 
-  pub sought_late : (y : Sought) → x.source ≡ Missing → y ≡ try_call s late p → y ≡ seek_of s early late p
+  pub sought_late : (y : Sought) → x.source ≡ None → y ≡ try_call s late p → y ≡ seek_of s early late p
   unfolding seek_of
   sought_late y e f = rw (← by, e) f
 
@@ -154,10 +152,10 @@ module _ (kind : Kind) (s : Session) (p : List ℕ) (x : Spoken) (by : Promise s
   found_refused m why e j = rw (← by.answer, e) j
 
 module _ (s : Session) (p : List ℕ) (x : Sought) (by : x ≡ find_as Gate s p) where
-  pub found_gate : (c : Call) → x.source ≡ Found c → x ≡ find_of s p
+  pub found_gate : (c : Call) → x.source ≡ Some c → x ≡ find_of s p
   unfolding find_of
   found_gate c e = rw (← by, e)
 
-  pub found_drive : (y : Sought) → x.source ≡ Missing → y ≡ find_as Drive s p → y ≡ find_of s p
+  pub found_drive : (y : Sought) → x.source ≡ None → y ≡ find_as Drive s p → y ≡ find_of s p
   unfolding find_of
   found_drive y e f = rw (← by, e) f

@@ -1,6 +1,7 @@
 -- Two calls that give the same bytes in one session: some kind of node has both commands, and then they are one and the same;
 -- or each kind has one of them, and then no node may be reached, since 17 refuses neither. The sessions after them are alike.
 use Prim.Native.Nat.{ℕ}
+use Rattle.std.specs.Prelude.{Err, Some, None}
 use mathlib.Core.Bool.{Bool, true, false, true≢false, false≢true}
 use mathlib.Core.List.{List, [], append-nil}
 use mathlib.Core.Path.{◌≡◌, refl, sym, ap, subst, ◌∙◌}
@@ -10,12 +11,10 @@ use Rattle.wire.specs.Promise.{Outcome}
 use Rattle.wire.specs.declared.address.Address.{Address}
 use Rattle.wire.specs.declared.kind.Kind.{Kind}
 use Rattle.wire.specs.declared.kind.Kind.TheVariants.{Gate, Drive}
-use Rattle.packet.specs.declared.Framed.TheVariants as framed
-use Rattle.packet.specs.Packet.{data_part}
+use Rattle.packet.specs.Packet.{data_part, whole}
 use Rattle.command.specs.declared.Command.{Command}
 use Rattle.command.specs.declared.Owner.{Owner}
 use Rattle.command.specs.declared.Owner.TheVariants as owner
-use Rattle.command.specs.declared.Reading.TheVariants as reading
 use Rattle.command.specs.Role.{role_of, is_reset}
 use Rattle.command.specs.Owner.{owner_of, has_by, has}
 use Rattle.command.proofs.Roles.{only_reset}
@@ -94,10 +93,10 @@ module _ {s : Session} {k : Call} {p : List ℕ} (g : Gives s k p) (w : CallWent
 
 -- ---- what two of them have in common
 
-whole_parts : {a b : Address} {k j n m : ℕ} → framed.Whole a k n ≡ framed.Whole b j m → (a ≡ b) × (k ≡ j)
+whole_parts : {a b : Address} {k j n m : ℕ} → whole a k n ≡ whole b j m → (a ≡ b) × (k ≡ j)
 whole_parts e = (cc, cc)
 
-known_command : {c d : Command} → reading.Known c ≡ reading.Known d → c ≡ d
+known_command : {c d : Command} → Some c ≡ Some d → c ≡ d
 known_command e = cc
 
 -- bytes say one address, whoever reads them, and one command to a kind of node

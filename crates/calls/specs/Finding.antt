@@ -1,5 +1,5 @@
 -- The call that gives some bytes, as the code looks for it. Whoever wants to know what it means reads Calls: what is found is such a call, and where none is found there is none (proofs/Finding).
-use Rattle.std.specs.Prelude.{ℕ, cond, List, take, replicate}
+use Rattle.std.specs.Prelude.{ℕ, cond, List, take, replicate, Option, Some, None}
 use Rattle.wire.specs.Promise.{Outcome}
 use Rattle.text.specs.Same.{is_same}
 use Rattle.wire.specs.declared.address.Address.{Address}
@@ -19,18 +19,16 @@ use Rattle.calls.specs.declared.Call.TheVariants.{Next, Ask, Order, Regroup}
 use Rattle.calls.specs.declared.Spoken.{Spoken}
 use Rattle.calls.specs.declared.Spoken.TheVariants as spoken
 use Rattle.calls.specs.declared.Sought.{Sought}
-use Rattle.calls.specs.declared.Source.{Source}
-use Rattle.calls.specs.declared.Source.TheVariants.{Found, Missing}
 use Rattle.calls.specs.Calls.{call_perform}
 use Rattle.calls.specs.Understanding.{understand_of}
 
 -- none gives these bytes
 abbrev pub missed_of : Session → Sought
-missed_of s = record { source = Missing; session = s }
+missed_of s = record { source = None; session = s }
 
 -- found, if the call was sent as these bytes
 abbrev pub sought_by : Session → Call → List ℕ → Session → List ℕ → End → Sought
-sought_by s c p after left (end.Sent n) = cond (is_same (take n left) p) (record { source = Found c; session = after }) (missed_of s)
+sought_by s c p after left (end.Sent n) = cond (is_same (take n left) p) (record { source = Some c; session = after }) (missed_of s)
 sought_by s c p after left end.Done = missed_of s
 sought_by s c p after left (end.Refused why) = missed_of s
 
@@ -62,9 +60,9 @@ abbrev pub late_call : Address → Command → Call
 late_call to c = late_by to c (role_of c)
 
 -- by whether a call was found
-abbrev pub by_source : {A : Type 0} → Source → A → A → A
-by_source (Found c) x y = x
-by_source Missing x y = y
+abbrev pub by_source : {A : Type 0} → Option Call → A → A → A
+by_source (Some c) x y = x
+by_source None x y = y
 
 -- the first that is found
 unfoldable pub seek_of : Session → Call → Call → List ℕ → Sought

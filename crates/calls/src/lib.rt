@@ -12,9 +12,8 @@ ghost use Rattle.calls.specs.Calls.{call_perform};
 ghost use Rattle.calls.specs.Understanding.{spoken_number, spoken_to, understand_of};
 ghost use Rattle.calls.specs.Finding.{missed_of, try_call, early_call, late_call, seek_of, find_as, find_of};
 
-use command::{Command, Reading, Role};
+use command::{Command, Role};
 use node::Node;
-use packet::Framed;
 use session::{End, Session, Step};
 use wire::{Address, Group, Individual, Kind, Refusal};
 
@@ -80,27 +79,20 @@ impl Spoken {
     }
 }
 
-// Whose bytes some are: those of a call, or of none.
-#[derive(Clone, Copy)]
-pub enum Source {
-    Found(Call),
-    Missing,
-}
-
 // The call that gives some bytes and the session after it; where none does, the session as it was handed in.
 #[derive(Clone, Copy)]
 pub struct Sought {
-    pub source: Source,
+    pub source: Option<Call>,
     pub session: Session,
 }
 
 // What the command of a packet to an address says.
-fn spoken_to(to: Address, reading: Reading) -> Spoken
+fn spoken_to(to: Address, reading: Option<Command>) -> Spoken
     ensures { result ≡ spoken_to to reading }
 {
     match reading {
-        Reading::Known(command) => Spoken::Command { to, command },
-        Reading::Other => Spoken::Other,
+        Some(command) => Spoken::Command { to, command },
+        None => Spoken::Other,
     }
 }
 
@@ -109,7 +101,7 @@ pub fn understand(kind: Kind, bytes: &[u8]) -> Spoken
     ensures { Promise spoken_number result (understand_of kind bytes.now) }
 {
     match packet::read(bytes) {
-        Framed::Whole {
+        whole {
             address,
             command,
             end,
@@ -122,7 +114,7 @@ pub fn understand(kind: Kind, bytes: &[u8]) -> Spoken
                 codec::read(kind, command, packet::data_part(bytes)),
             )
         }
-        Framed::Refused(why) => Spoken::Refused(why),
+        Err(why) => Spoken::Refused(why),
     }
 }
 
@@ -131,7 +123,7 @@ fn missed(s: Session) -> Sought
     ensures { result ≡ missed_of s }
 {
     Sought {
-        source: Source::Missing,
+        source: None,
         session: s,
     }
 }
@@ -148,7 +140,7 @@ fn try_call(s: Session, call: Call, bytes: &[u8]) -> Sought
         End::Sent(n) => {
             if text::is_same(text::first(&out, n), bytes) {
                 return Sought {
-                    source: Source::Found(call),
+                    source: Some(call),
                     session,
                 };
             }
@@ -201,8 +193,8 @@ fn seek(s: Session, early: Call, late: Call, bytes: &[u8]) -> Sought
     let sought = try_call(s, early, bytes);
     let source = sought.source;
     match source {
-        Source::Found(_) => sought,
-        Source::Missing => try_call(s, late, bytes),
+        Some(_) => sought,
+        None => try_call(s, late, bytes),
     }
 }
 
@@ -227,7 +219,7 @@ pub fn find(s: Session, bytes: &[u8]) -> Sought
     let sought = find_as(Kind::Gate, s, bytes);
     let source = sought.source;
     match source {
-        Source::Found(_) => sought,
-        Source::Missing => find_as(Kind::Drive, s, bytes),
+        Some(_) => sought,
+        None => find_as(Kind::Drive, s, bytes),
     }
 }

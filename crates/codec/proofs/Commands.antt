@@ -1,6 +1,7 @@
 -- Commands: what the builder writes, whatever follows it, reads back as the same command for each kind of node that has it, and ends at its length;
 -- up to its end an accepted packet is what it writes from its parts; what both kinds have they read alike; a refused builder leaves the buffer as it stood.
 use Prim.Native.Nat.{ℕ, ◌+◌, ◌%◌, ◌<◌, ◌≤◌}
+use Rattle.std.specs.Prelude.{Some}
 use mathlib.Core.Bool.{Bool, true, false, cond, true≢false, false≢true}
 use mathlib.Core.List.{List, ◌++◌}
 use mathlib.Core.Path.{◌≡◌, refl, sym, ap, ◌∙◌}
@@ -20,8 +21,7 @@ use Rattle.wire.proofs.Choice.{chose_first, both}
 use Rattle.wire.proofs.Impossible.{impossible}
 use Rattle.buffer.proofs.Writing.{written_fits, wrote, wrote_not, written_count, written_wrote}
 use Rattle.buffer.proofs.Refusals.{Spares, written_spares, else_spares}
-use Rattle.packet.specs.Packet.{read_of, data_part}
-use Rattle.packet.specs.declared.Framed.TheVariants.{Whole}
+use Rattle.packet.specs.Packet.{read_of, data_part, whole}
 use Rattle.packet.proofs.Packets as packets
 use Rattle.packet.proofs.Laws as packet
 use Rattle.command.specs.Role.{role_of, is_placing}
@@ -36,7 +36,6 @@ use Rattle.command.specs.declared.Command.{Command}
 use Rattle.command.specs.declared.Command.TheVariants.{SetAddress, DefineStatus, ReadStatus, SetPwm, SynchOutput, SetOutputs, SetSynchOutput, SetTimerMode, SetBaudRate, SynchInput, Nop, HardReset, ResetPosition, LoadTrajectory, StartMotion, SetGain, StopMotor}
 use Rattle.command.specs.declared.Role.{Role}
 use Rattle.command.specs.declared.Role.TheVariants.{Plain, Places, Paces, Masks, Captures, Zeroes, Idles, Resets}
-use Rattle.command.specs.declared.Reading.TheVariants.{Known}
 use Rattle.codec.specs.Reading.{place_of, load_count, stop_count, motion_of, gains_of, stop_of, shared_rows, gate_rows, drive_rows, codec_read, ReadsAs}
 use Rattle.codec.specs.Build.{code_of, own_data, group_byte, typed_by, Typed, load_data, gain_data, stop_data, packet_for, build_for, codec_build}
 use Rattle.codec.proofs.Values.{word_back}
@@ -57,28 +56,28 @@ place_back a g false h k =
 
 -- a drive's commands that have data bytes
 module _ (d : List ℕ) where
-  load_row : (m : Motion) → length d ≡ load_count (get_or d 0 0) → motion_of d ≡ m → fits_of (LoadTrajectory m) ≡ true → codec_read Drive 0x4 d ≡ Known (LoadTrajectory m)
+  load_row : (m : Motion) → length d ≡ load_count (get_or d 0 0) → motion_of d ≡ m → fits_of (LoadTrajectory m) ≡ true → codec_read Drive 0x4 d ≡ Some (LoadTrajectory m)
   unfolding codec_read shared_rows drive_rows
   load_row m n e h = rw (eq-eqb (length d) (load_count (get_or d 0 0)) n, e, h)
 
-  gain_row : (g : Gains) → length d ≡ 14 → get_or d 9 0 ≡ 0 → gains_of d ≡ g → fits_of (SetGain g) ≡ true → codec_read Drive 0x6 d ≡ Known (SetGain g)
+  gain_row : (g : Gains) → length d ≡ 14 → get_or d 9 0 ≡ 0 → gains_of d ≡ g → fits_of (SetGain g) ≡ true → codec_read Drive 0x6 d ≡ Some (SetGain g)
   unfolding codec_read shared_rows drive_rows
   gain_row g n z e h = rw (n, z, e, h)
 
-  stop_row : (s : Stop) → length d ≡ stop_count (get_or d 0 0) → stop_of d ≡ s → fits_of (StopMotor s) ≡ true → codec_read Drive 0x7 d ≡ Known (StopMotor s)
+  stop_row : (s : Stop) → length d ≡ stop_count (get_or d 0 0) → stop_of d ≡ s → fits_of (StopMotor s) ≡ true → codec_read Drive 0x7 d ≡ Some (StopMotor s)
   unfolding codec_read shared_rows drive_rows
   stop_row s n e h = rw (eq-eqb (length d) (stop_count (get_or d 0 0)) n, e, h)
 
-load_back : (m : Motion) → fits_of (LoadTrajectory m) ≡ true → codec_read Drive 0x4 (load_data m) ≡ Known (LoadTrajectory m)
+load_back : (m : Motion) → fits_of (LoadTrajectory m) ≡ true → codec_read Drive 0x4 (load_data m) ≡ Some (LoadTrajectory m)
 load_back m h = load_row (load_data m) m (sym (load_count_lem m) ∙ ap (λ (x : ℕ). load_count x) (load_first m)) (motion_back m h) h
 
-gain_back : (g : Gains) → fits_of (SetGain g) ≡ true → codec_read Drive 0x6 (gain_data g) ≡ Known (SetGain g)
+gain_back : (g : Gains) → fits_of (SetGain g) ≡ true → codec_read Drive 0x6 (gain_data g) ≡ Some (SetGain g)
 gain_back g h = gain_row (gain_data g) g (sym (gain_count g)) (gain_tenth g) (gains_back g) h
 
-halt_back : (s : Stop) → fits_of (StopMotor s) ≡ true → codec_read Drive 0x7 (stop_data s) ≡ Known (StopMotor s)
+halt_back : (s : Stop) → fits_of (StopMotor s) ≡ true → codec_read Drive 0x7 (stop_data s) ≡ Some (StopMotor s)
 halt_back s h = stop_row (stop_data s) s (sym (stop_count_lem s) ∙ ap (λ (x : ℕ). stop_count x) (stop_first s)) (stop_back s h) h
 
-pub read_back : (kind : Kind) (c : Command) → has kind c ≡ true → fits_of c ≡ true → Typed c → codec_read kind (code_of c) (own_data c) ≡ Known c
+pub read_back : (kind : Kind) (c : Command) → has kind c ≡ true → fits_of c ≡ true → Typed c → codec_read kind (code_of c) (own_data c) ≡ Some c
 unfolding codec_read shared_rows gate_rows drive_rows
 read_back kind (SetAddress p) o h t =
     let f = both (individual_in_range p.address.0) (group_in_range p.group.0) h in
@@ -112,7 +111,7 @@ read_back Drive (SetGain g) o h t = gain_back g h
 read_back Drive (StopMotor s) o h t = halt_back s h
 
 -- and a command that is read comes from its own number and data bytes, and is of its range,
-pub read_from : (kind : Kind) (k : ℕ) (d : List ℕ) (c : Command) → AllBytes d → codec_read kind k d ≡ Known c → (code_of c ≡ k) × (own_data c ≡ d) × (fits_of c ≡ true)
+pub read_from : (kind : Kind) (k : ℕ) (d : List ℕ) (c : Command) → AllBytes d → codec_read kind k d ≡ Some c → (code_of c ≡ k) × (own_data c ≡ d) × (fits_of c ≡ true)
 read_from kind k d c h e =
     split kind k d c e
     (λ e. let s = says_shared k (length d) d c e in (s.code, s.bytes refl h, s.fits))
@@ -123,13 +122,13 @@ own_has Gate = refl
 own_has Drive = refl
 
 -- and the kind has it
-pub read_has : (kind : Kind) (k : ℕ) (d : List ℕ) (c : Command) → codec_read kind k d ≡ Known c → has kind c ≡ true
+pub read_has : (kind : Kind) (k : ℕ) (d : List ℕ) (c : Command) → codec_read kind k d ≡ Some c → has kind c ≡ true
 read_has kind k d c e =
     split kind k d c e
     (λ e. ap (λ (o : Owner). has_by kind o) (says_shared k (length d) d c e).owned)
     (λ e. ap (λ (o : Owner). has_by kind o) (says_own kind k (length d) d c e).owned ∙ own_has kind)
 
-read_typed : (kind : Kind) (k : ℕ) (d : List ℕ) (c : Command) → codec_read kind k d ≡ Known c → (fits_of c ≡ true) × Typed c
+read_typed : (kind : Kind) (k : ℕ) (d : List ℕ) (c : Command) → codec_read kind k d ≡ Some c → (fits_of c ≡ true) × Typed c
 read_typed kind k d c e =
     split kind k d c e
     (λ e. let s = says_shared k (length d) d c e in (s.fits, s.typed))
@@ -140,7 +139,7 @@ own_not_both : (kind : Kind) → own_owner kind ≡ owner.Both → ⊥
 own_not_both Gate e = impossible cc
 own_not_both Drive e = impossible cc
 
-pub shared_alike : (kind other : Kind) (k : ℕ) (d : List ℕ) (c : Command) → owner_of c ≡ owner.Both → codec_read kind k d ≡ Known c → codec_read other k d ≡ Known c
+pub shared_alike : (kind other : Kind) (k : ℕ) (d : List ℕ) (c : Command) → owner_of c ≡ owner.Both → codec_read kind k d ≡ Some c → codec_read other k d ≡ Some c
 shared_alike kind other k d c o e =
     split kind k d c e
     (λ e. shared_known other k d c e)
@@ -171,7 +170,7 @@ built_few a c = let z = sized c in omega (arith, built_length a c)
 
 -- some bytes begin with a packet with a right sum, which ends at n and has the number and the data bytes of command c, to address a: whatever kind of node reads it
 pub record Frames (s : List ℕ) (a : Address) (c : Command) (n : ℕ) : Type 0 where
-  pub whole : read_of s ≡ Whole a (code_of c) n
+  pub whole : read_of s ≡ whole a (code_of c) n
   pub bytes : data_part s ≡ own_data c
 
 -- so does a built packet, whatever follows it, and it ends at its length

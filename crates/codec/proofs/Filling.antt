@@ -1,5 +1,8 @@
 -- A command's packet is built by the raw builder: its 6 can't occur, since a number is a nibble and no command has more than fourteen data bytes.
 use Prim.Native.Nat.{ℕ, ◌+◌, ◌-◌, ◌*◌, ◌%◌, ◌/◌, ◌≤◌}
+use Rattle.wire.specs.declared.refusal.Refusal.{Refusal}
+use Rattle.std.specs.Prelude.{Result, Err, ℕ}
+use Rattle.wire.specs.Numbers.{number_by}
 use mathlib.Core.Bool.{Bool, true, false}
 use mathlib.Core.List.{List, [], ◌∷◌, ◌++◌, append_assoc, append-nil}
 use mathlib.Core.Path.{◌≡◌, sym, ap, ◌∙◌}
@@ -9,11 +12,9 @@ use lib.Seq.{length-take-le, take-append_seam, take_at, take_all}
 use borrow.Author.Tests.{le-ltb}
 use Rattle.wire.specs.Promise.{Lending, lent}
 use Rattle.wire.specs.Address.{in_range, byte_of}
-use Rattle.buffer.specs.Buffer.{built_number, put_of, written}
+use Rattle.buffer.specs.Buffer.{put_of, written}
 use Rattle.wire.specs.declared.address.Address.{Address}
 use Rattle.wire.specs.declared.refusal.Refusal.TheVariants.{Range}
-use Rattle.buffer.specs.declared.Built.{Built}
-use Rattle.buffer.specs.declared.Built.TheVariants.{Refused}
 use Rattle.packet.specs.Build.{build_of}
 use Rattle.command.specs.Control.{loads_of, is_stop_here}
 use Rattle.command.specs.Ranges.{fits_of}
@@ -164,8 +165,8 @@ module _ (c : Command) (h : ℕ) (d : List ℕ) (eh : h ≡ command_head c) (ed 
   in_front = rw (eh, ed, count c) (take-append_seam (own_data c) _)
 
   -- the number and data bytes of a command were handed to the raw builder
-  pub handed : (a : ℕ) (out o : List ℕ) (r : Built)
-      → Lending built_number r o (build_of a (h % 16) (take (h / 16) d) out) → Lending built_number r o (written (packet_to a c) out)
+  pub handed : (a : ℕ) (out o : List ℕ) (r : Result ℕ Refusal)
+      → Lending number_by r o (build_of a (h % 16) (take (h / 16) d) out) → Lending number_by r o (written (packet_to a c) out)
   unfolding build_of
   handed a out o r l =
       let z = sized c in
@@ -173,16 +174,16 @@ module _ (c : Command) (h : ℕ) (d : List ℕ) (eh : h ≡ command_head c) (ed 
 
 -- an address and a command of their ranges are built, all others are refused
 module _ (to : Address) (k : Command) (out : List ℕ) (ok : Bool) (e : ok ≡ in_range to) where
-  pub no_address : ok ≡ false → Lending built_number (Refused Range) out (codec_build to k out)
+  pub no_address : ok ≡ false → Lending number_by (Err Range) out (codec_build to k out)
   unfolding codec_build
   no_address h = lent (rw (sym e ∙ h))
 
   module _ (yes : ok ≡ true) (fit : Bool) (f : fit ≡ fits_of k) where
-    pub unfit : fit ≡ false → Lending built_number (Refused Range) out (codec_build to k out)
+    pub unfit : fit ≡ false → Lending number_by (Err Range) out (codec_build to k out)
     unfolding codec_build build_for
     unfit h = lent (rw (sym e ∙ yes, sym f ∙ h))
 
-    pub sent : (a : ℕ) (r : Built) (o : List ℕ) → fit ≡ true → a ≡ byte_of to → Lending built_number r o (written (packet_to a k) out)
-        → Lending built_number r o (codec_build to k out)
+    pub sent : (a : ℕ) (r : Result ℕ Refusal) (o : List ℕ) → fit ≡ true → a ≡ byte_of to → Lending number_by r o (written (packet_to a k) out)
+        → Lending number_by r o (codec_build to k out)
     unfolding codec_build build_for
     sent a r o h b l = rw (sym e ∙ yes, sym f ∙ h) (rw b at l)

@@ -1,5 +1,6 @@
--- Reading goes by rows, and each row is a command's number and count: what is read has them, and comes from no other bytes.
+-- (Option Command) goes by rows, and each row is a command's number and count: what is read has them, and comes from no other bytes.
 use Prim.Native.Nat.{ℕ, ◌+◌, ◌%◌, ◌<◌, ◌≤◌}
+use Rattle.std.specs.Prelude.{Option, Some, None}
 use mathlib.Core.Bool.{Bool, true, false, cond}
 use mathlib.Core.List.{List, [], ◌∷◌, ◌++◌}
 use mathlib.Core.Path.{◌≡◌, refl, sym, ap, ◌∙◌}
@@ -20,8 +21,6 @@ use Rattle.command.specs.declared.Command.{Command}
 use Rattle.command.specs.declared.Command.TheVariants.{SetAddress, DefineStatus, ReadStatus, SetPwm, SynchOutput, SetOutputs, SetSynchOutput, SetTimerMode, SetBaudRate, SynchInput, Nop, HardReset, ResetPosition, LoadTrajectory, StartMotion, SetGain, StopMotor}
 use Rattle.command.specs.declared.Owner.{Owner}
 use Rattle.command.specs.declared.Owner.TheVariants as owner
-use Rattle.command.specs.declared.Reading.{Reading}
-use Rattle.command.specs.declared.Reading.TheVariants.{Known, Other}
 use Rattle.codec.specs.Reading.{word_at, place_of, load_count, motion_of, gains_of, stop_count, stop_of, shared_rows, gate_rows, drive_rows, own_rows, or_else, codec_read}
 use Rattle.codec.specs.Build.{code_of, own_data, word_bytes, group_byte, Typed}
 use Rattle.codec.proofs.Values.{byte_from, word_from, byte_if_ends}
@@ -56,18 +55,18 @@ pub record Says (o : Owner) (k n : ℕ) (d : List ℕ) (c : Command) : Type 0 wh
   pub fits : fits_of c ≡ true
   pub typed : Typed c
 
-pub other_not : {c : Command} → Other ≡ Known c → ⊥
+pub other_not : {c : Command} → None ≡ Some c → ⊥
 other_not e = impossible cc
 
 -- a command that is read is read by this row, or by those behind it
-pub met : {G : Type 0} (t u : Bool) {r rest : Reading} {c : Command} → cond t (cond u r Other) rest ≡ Known c
-    → (t ≡ true → u ≡ true → r ≡ Known c → G) → (rest ≡ Known c → G) → G
+pub met : {G : Type 0} (t u : Bool) {r rest : Option Command} {c : Command} → cond t (cond u r None) rest ≡ Some c
+    → (t ≡ true → u ≡ true → r ≡ Some c → G) → (rest ≡ Some c → G) → G
 met true true e f g = f refl refl e
 met true false e f g = absurd (other_not e)
 met false u e f g = g e
 
 -- the row of v, if the data bytes of v are those that are read
-said : (o : Owner) (k n : ℕ) (d : List ℕ) (c v : Command) → owner_of v ≡ o → eqb k (code_of v) ≡ true → eqb n (length (own_data v)) ≡ true → Known v ≡ Known c
+said : (o : Owner) (k n : ℕ) (d : List ℕ) (c v : Command) → owner_of v ≡ o → eqb k (code_of v) ≡ true → eqb n (length (own_data v)) ≡ true → Some v ≡ Some c
     → (length d ≡ length (own_data v) → AllBytes d → own_data v ≡ d) → fits_of v ≡ true → Typed v → Says o k n d c
 said o k n d c v w a b q h f t =
     let e : v ≡ c = cc in
@@ -104,7 +103,7 @@ placed : (d : List ℕ) → length d ≡ 2 → AllBytes d → get_or d 0 0 ∷ g
 placed d n h = rw (group_back (ltb (get_or d 1 0) 0x80) (get_or d 1 0) refl (byte_at d 1 h)) (two d n h)
 
 -- row by row: what the shared rows read both kinds have,
-pub says_shared : (k n : ℕ) (d : List ℕ) (c : Command) → shared_rows k n d ≡ Known c → Says owner.Both k n d c
+pub says_shared : (k n : ℕ) (d : List ℕ) (c : Command) → shared_rows k n d ≡ Some c → Says owner.Both k n d c
 unfolding shared_rows
 says_shared k n d c e =
     met (eqb k 0x1) (eqb n 2) e (λ a b q. let t = chose_first (fits_of (SetAddress (place_of (get_or d 0 0) (get_or d 1 0)))) q other_not in
@@ -117,7 +116,7 @@ says_shared k n d c e =
     (λ e. absurd (other_not e)))))))
 
 -- what a gate's own rows read a gate alone has,
-pub says_gate : (k n : ℕ) (d : List ℕ) (c : Command) → gate_rows k n d ≡ Known c → Says owner.Gate k n d c
+pub says_gate : (k n : ℕ) (d : List ℕ) (c : Command) → gate_rows k n d ≡ Some c → Says owner.Gate k n d c
 unfolding gate_rows
 says_gate k n d c e =
     met (eqb k 0x4) (eqb n 2) e (λ a b q. said owner.Gate k n d c _ refl a b q (two d) refl tt)
@@ -130,27 +129,27 @@ says_gate k n d c e =
 
 -- and what a drive's own rows read a drive alone
 module _ (k n : ℕ) (d : List ℕ) (c : Command) where
-  load_said : eqb k 0x4 ≡ true → eqb n (load_count (get_or d 0 0)) ≡ true → cond (fits_of (LoadTrajectory (motion_of d))) (Known (LoadTrajectory (motion_of d))) Other ≡ Known c
+  load_said : eqb k 0x4 ≡ true → eqb n (load_count (get_or d 0 0)) ≡ true → cond (fits_of (LoadTrajectory (motion_of d))) (Some (LoadTrajectory (motion_of d))) None ≡ Some c
       → Says owner.Drive k n d c
   load_said a b q =
       let t = chose_first (fits_of (LoadTrajectory (motion_of d))) q other_not in
       let m : load_count (get_or d 0 0) ≡ length (own_data (LoadTrajectory (motion_of d))) = load_read d in
       said owner.Drive k n d c (LoadTrajectory (motion_of d)) refl a (rw m at b) t.1 (λ i. loaded d (i ∙ sym m)) t.0 tt
 
-  gain_said : eqb k 0x6 ≡ true → eqb n 14 ≡ true → cond (eqb (get_or d 9 0) 0) (cond (fits_of (SetGain (gains_of d))) (Known (SetGain (gains_of d))) Other) Other ≡ Known c → Says owner.Drive k n d c
+  gain_said : eqb k 0x6 ≡ true → eqb n 14 ≡ true → cond (eqb (get_or d 9 0) 0) (cond (fits_of (SetGain (gains_of d))) (Some (SetGain (gains_of d))) None) None ≡ Some c → Says owner.Drive k n d c
   gain_said a b q =
       let z = chose_first (eqb (get_or d 9 0) 0) q other_not in
       let t = chose_first (fits_of (SetGain (gains_of d))) z.1 other_not in
       let m : 14 ≡ length (own_data (SetGain (gains_of d))) = gain_count (gains_of d) in
       said owner.Drive k n d c (SetGain (gains_of d)) refl a (rw m at b) t.1 (λ i. gained_bytes d (eqb-true (get_or d 9 0) 0 z.0) (i ∙ sym m)) t.0 tt
 
-  stop_said : eqb k 0x7 ≡ true → eqb n (stop_count (get_or d 0 0)) ≡ true → cond (fits_of (StopMotor (stop_of d))) (Known (StopMotor (stop_of d))) Other ≡ Known c → Says owner.Drive k n d c
+  stop_said : eqb k 0x7 ≡ true → eqb n (stop_count (get_or d 0 0)) ≡ true → cond (fits_of (StopMotor (stop_of d))) (Some (StopMotor (stop_of d))) None ≡ Some c → Says owner.Drive k n d c
   stop_said a b q =
       let t = chose_first (fits_of (StopMotor (stop_of d))) q other_not in
       let m : stop_count (get_or d 0 0) ≡ length (own_data (StopMotor (stop_of d))) = stop_read d in
       said owner.Drive k n d c (StopMotor (stop_of d)) refl a (rw m at b) t.1 (λ i. stopped d (i ∙ sym m)) t.0 tt
 
-  pub says_drive : drive_rows k n d ≡ Known c → Says owner.Drive k n d c
+  pub says_drive : drive_rows k n d ≡ Some c → Says owner.Drive k n d c
   unfolding drive_rows
   says_drive e =
       met (eqb k 0x0) (eqb n 0) e (λ a b q. said owner.Drive k n d c _ refl a b q (none d) refl tt)
@@ -165,38 +164,38 @@ abbrev pub own_owner : Kind → Owner
 own_owner Gate = owner.Gate
 own_owner Drive = owner.Drive
 
-pub says_own : (kind : Kind) (k n : ℕ) (d : List ℕ) (c : Command) → own_rows kind k n d ≡ Known c → Says (own_owner kind) k n d c
+pub says_own : (kind : Kind) (k n : ℕ) (d : List ℕ) (c : Command) → own_rows kind k n d ≡ Some c → Says (own_owner kind) k n d c
 says_own Gate k n d c e = says_gate k n d c e
 says_own Drive k n d c e = says_drive k n d c e
 
 -- what is read is read by the shared rows, which are every kind's, or by those of the kind
-pub split : {G : Type 0} (kind : Kind) (k : ℕ) (d : List ℕ) (c : Command) → codec_read kind k d ≡ Known c
-    → (shared_rows k (length d) d ≡ Known c → G) → (own_rows kind k (length d) d ≡ Known c → G) → G
+pub split : {G : Type 0} (kind : Kind) (k : ℕ) (d : List ℕ) (c : Command) → codec_read kind k d ≡ Some c
+    → (shared_rows k (length d) d ≡ Some c → G) → (own_rows kind k (length d) d ≡ Some c → G) → G
 unfolding codec_read
 split {G} kind k d c e f g = go (shared_rows k (length d) d) refl e
   where
-    go : (r : Reading) → shared_rows k (length d) d ≡ r → or_else r (own_rows kind k (length d) d) ≡ Known c → G
-    go (Known v) s e = f (s ∙ e)
-    go Other s e = g e
+    go : (r : Option Command) → shared_rows k (length d) d ≡ r → or_else r (own_rows kind k (length d) d) ≡ Some c → G
+    go (Some v) s e = f (s ∙ e)
+    go None s e = g e
 
 -- what the shared rows read every kind reads
-pub shared_known : (kind : Kind) (k : ℕ) (d : List ℕ) (c : Command) → shared_rows k (length d) d ≡ Known c → codec_read kind k d ≡ Known c
+pub shared_known : (kind : Kind) (k : ℕ) (d : List ℕ) (c : Command) → shared_rows k (length d) d ≡ Some c → codec_read kind k d ≡ Some c
 unfolding codec_read
-shared_known kind k d c e = ap (λ (r : Reading). or_else r (own_rows kind k (length d) d)) e
+shared_known kind k d c e = ap (λ (r : Option Command). or_else r (own_rows kind k (length d) d)) e
 
 -- what is no command is another one
-pub unknown : (r : Reading) → ((c : Command) → r ≡ Known c → ⊥) → Other ≡ r
-unknown (Known c) f = absurd (f c refl)
-unknown Other f = refl
+pub unknown : (r : Option Command) → ((c : Command) → r ≡ Some c → ⊥) → None ≡ r
+unknown (Some c) f = absurd (f c refl)
+unknown None f = refl
 
 module _ (kind : Kind) (k : ℕ) (d : List ℕ) where
-  misread : ((c : Command) → code_of c ≡ k → length (own_data c) ≡ length d → ⊥) → Other ≡ codec_read kind k d
+  misread : ((c : Command) → code_of c ≡ k → length (own_data c) ≡ length d → ⊥) → None ≡ codec_read kind k d
   misread f = unknown (codec_read kind k d) (λ c e. split kind k d c e
       (λ s. let t = says_shared k (length d) d c s in f c t.code t.count)
       (λ s. let t = says_own kind k (length d) d c s in f c t.code t.count))
 
-  pub above : 15 < k → Other ≡ codec_read kind k d
+  pub above : 15 < k → None ≡ codec_read kind k d
   above h = misread (λ c e n. let z = sized c in omega arith)
 
-  pub beyond : 15 < length d → Other ≡ codec_read kind k d
+  pub beyond : 15 < length d → None ≡ codec_read kind k d
   beyond h = misread (λ c e n. let z = sized c in omega arith)

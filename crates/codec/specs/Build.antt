@@ -1,11 +1,11 @@
 -- A command's number and data bytes, and what building its packet answers and leaves.
-use Rattle.std.specs.Prelude.{ℕ, ◌+◌, ◌%◌, ◌/◌, ◌<◌, Bool, cond, List, [], ◌∷◌, ◌++◌}
+use Rattle.std.specs.Prelude.{ℕ, ◌+◌, ◌%◌, ◌/◌, ◌<◌, Bool, cond, List, [], ◌∷◌, ◌++◌, Result}
+use Rattle.wire.specs.declared.refusal.Refusal.{Refusal}
 use Rattle.wire.specs.Promise.{Outcome}
 use Rattle.wire.specs.Address.{in_range, byte_of}
 use Rattle.buffer.specs.Buffer.{refused, written}
 use Rattle.wire.specs.declared.address.Address.{Address}
 use Rattle.wire.specs.declared.refusal.Refusal.TheVariants.{Range}
-use Rattle.buffer.specs.declared.Built.{Built}
 use Rattle.packet.specs.Build.{packet_of}
 use Rattle.command.specs.Role.{role_of}
 use Rattle.command.specs.Control.{loads_of, is_stop_here}
@@ -114,8 +114,8 @@ abbrev pub packet_for : Address → Command → List ℕ
 packet_for to c = packet_to (byte_of to) c
 
 -- 6, then 5
-unfoldable pub build_for : ℕ → Command → List ℕ → Outcome Built (List ℕ)
+unfoldable pub build_for : ℕ → Command → List ℕ → Outcome (Result ℕ Refusal) (List ℕ)
 build_for a c out = cond (fits_of c) (written (packet_to a c) out) (refused Range out)
 
-unfoldable pub codec_build : Address → Command → List ℕ → Outcome Built (List ℕ)
+unfoldable pub codec_build : Address → Command → List ℕ → Outcome (Result ℕ Refusal) (List ℕ)
 codec_build to c out = cond (in_range to) (build_for (byte_of to) c out) (refused Range out)

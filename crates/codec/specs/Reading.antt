@@ -1,11 +1,10 @@
 -- Document 01, "The node": "A command is one of these kinds, each with its own data"; and document 02, request 6: the LS-173AP's own ("source document 000 decides").
-use Rattle.std.specs.Prelude.{ℕ, ◌+◌, ◌*◌, ◌/◌, ◌%◌, Bool, cond, List, ◌≡◌, ltb, eqb, length, get_or}
+use Rattle.std.specs.Prelude.{ℕ, ◌+◌, ◌*◌, ◌/◌, ◌%◌, Bool, cond, List, ◌≡◌, ltb, eqb, length, get_or, Option, Some, None}
 use Rattle.wire.specs.declared.address.Address.{Address}
 use Rattle.wire.specs.declared.kind.Kind.{Kind}
 use Rattle.wire.specs.declared.kind.Kind.TheVariants.{Gate, Drive}
 use Rattle.buffer.specs.Wide.{word_of, long_of}
-use Rattle.packet.specs.Packet.{read_of, data_part}
-use Rattle.packet.specs.declared.Framed.TheVariants.{Whole}
+use Rattle.packet.specs.Packet.{read_of, data_part, whole}
 use Rattle.command.specs.Control.{loads_of, is_stop_here}
 use Rattle.command.specs.Ranges.{fits_of}
 use Rattle.command.specs.declared.Place.{Place}
@@ -14,8 +13,6 @@ use Rattle.command.specs.declared.Motion.{Motion}
 use Rattle.command.specs.declared.Stop.{Stop}
 use Rattle.command.specs.declared.Command.{Command}
 use Rattle.command.specs.declared.Command.TheVariants.{SetAddress, DefineStatus, ReadStatus, SetPwm, SynchOutput, SetOutputs, SetSynchOutput, SetTimerMode, SetBaudRate, SynchInput, Nop, HardReset, ResetPosition, LoadTrajectory, StartMotion, SetGain, StopMotor}
-use Rattle.command.specs.declared.Reading.{Reading}
-use Rattle.command.specs.declared.Reading.TheVariants.{Known, Other}
 use Rattle.codec.specs.declared.reading.Readings.{Readings}
 
 -- the number of the two data bytes from i on, and of the four
@@ -81,60 +78,60 @@ unfoldable pub stop_of : List ℕ → Stop
 stop_of d = record { position = long_if (is_stop_here (get_or d 0 0)) d 1; byte = get_or d 0 0 }
 
 -- r, if the data bytes, n of them, number m: "a count that isn't the one given" is another command
-abbrev pub if_counted : ℕ → ℕ → Reading → Reading
-if_counted n m r = cond (eqb n m) r Other
+abbrev pub if_counted : ℕ → ℕ → Option Command → Option Command
+if_counted n m r = cond (eqb n m) r None
 
 -- "a first byte of 0x80 or more changes nothing", and "A value outside the manual's ranges .. is replied to as a Nop is and not acted on": it is another command
-abbrev pub ranged : Command → Reading
-ranged c = cond (fits_of c) (Known c) Other
+abbrev pub ranged : Command → Option Command
+ranged c = cond (fits_of c) (Some c) None
 
 -- the tenth data byte of Set Gain is 0
-abbrev pub gained : List ℕ → Reading
-gained d = cond (eqb (get_or d 9 0) 0) (ranged (SetGain (gains_of d))) Other
+abbrev pub gained : List ℕ → Option Command
+gained d = cond (eqb (get_or d 9 0) 0) (ranged (SetGain (gains_of d))) None
 
 -- command k with data bytes d, n of them, row by row as the papers list them: the shared commands (document 02, request 7: "0xA is no longer an other"),
-unfoldable pub shared_rows : ℕ → ℕ → List ℕ → Reading
+unfoldable pub shared_rows : ℕ → ℕ → List ℕ → Option Command
 shared_rows k n d =
     cond (eqb k 0x1) (if_counted n 2 (ranged (SetAddress (place_of (get_or d 0 0) (get_or d 1 0)))))
-    (cond (eqb k 0x2) (if_counted n 1 (Known (DefineStatus (get_or d 0 0))))
-    (cond (eqb k 0x3) (if_counted n 1 (Known (ReadStatus (get_or d 0 0))))
-    (cond (eqb k 0xA) (if_counted n 1 (Known (SetBaudRate (get_or d 0 0))))
-    (cond (eqb k 0xE) (if_counted n 0 (Known Nop))
-    (cond (eqb k 0xF) (if_counted n 0 (Known HardReset))
-    Other)))))
+    (cond (eqb k 0x2) (if_counted n 1 (Some (DefineStatus (get_or d 0 0))))
+    (cond (eqb k 0x3) (if_counted n 1 (Some (ReadStatus (get_or d 0 0))))
+    (cond (eqb k 0xA) (if_counted n 1 (Some (SetBaudRate (get_or d 0 0))))
+    (cond (eqb k 0xE) (if_counted n 0 (Some Nop))
+    (cond (eqb k 0xF) (if_counted n 0 (Some HardReset))
+    None)))))
 
 -- the LS-773's own,
-unfoldable pub gate_rows : ℕ → ℕ → List ℕ → Reading
+unfoldable pub gate_rows : ℕ → ℕ → List ℕ → Option Command
 gate_rows k n d =
-    cond (eqb k 0x4) (if_counted n 2 (Known (SetPwm (record { first = get_or d 0 0; second = get_or d 1 0 }))))
-    (cond (eqb k 0x5) (if_counted n 0 (Known SynchOutput))
-    (cond (eqb k 0x6) (if_counted n 2 (Known (SetOutputs (word_at d 0))))
-    (cond (eqb k 0x7) (if_counted n 4 (Known (SetSynchOutput (record { outputs = word_at d 0; pwm = record { first = get_or d 2 0; second = get_or d 3 0 } }))))
-    (cond (eqb k 0x8) (if_counted n 1 (Known (SetTimerMode (get_or d 0 0))))
-    (cond (eqb k 0xC) (if_counted n 0 (Known SynchInput))
-    Other)))))
+    cond (eqb k 0x4) (if_counted n 2 (Some (SetPwm (record { first = get_or d 0 0; second = get_or d 1 0 }))))
+    (cond (eqb k 0x5) (if_counted n 0 (Some SynchOutput))
+    (cond (eqb k 0x6) (if_counted n 2 (Some (SetOutputs (word_at d 0))))
+    (cond (eqb k 0x7) (if_counted n 4 (Some (SetSynchOutput (record { outputs = word_at d 0; pwm = record { first = get_or d 2 0; second = get_or d 3 0 } }))))
+    (cond (eqb k 0x8) (if_counted n 1 (Some (SetTimerMode (get_or d 0 0))))
+    (cond (eqb k 0xC) (if_counted n 0 (Some SynchInput))
+    None)))))
 
 -- and the LS-173AP's own
-unfoldable pub drive_rows : ℕ → ℕ → List ℕ → Reading
+unfoldable pub drive_rows : ℕ → ℕ → List ℕ → Option Command
 drive_rows k n d =
-    cond (eqb k 0x0) (if_counted n 0 (Known ResetPosition))
+    cond (eqb k 0x0) (if_counted n 0 (Some ResetPosition))
     (cond (eqb k 0x4) (if_counted n (load_count (get_or d 0 0)) (ranged (LoadTrajectory (motion_of d))))
-    (cond (eqb k 0x5) (if_counted n 0 (Known StartMotion))
+    (cond (eqb k 0x5) (if_counted n 0 (Some StartMotion))
     (cond (eqb k 0x6) (if_counted n 14 (gained d))
     (cond (eqb k 0x7) (if_counted n (stop_count (get_or d 0 0)) (ranged (StopMotor (stop_of d))))
-    Other))))
+    None))))
 
-abbrev pub own_rows : Kind → ℕ → ℕ → List ℕ → Reading
+abbrev pub own_rows : Kind → ℕ → ℕ → List ℕ → Option Command
 own_rows Gate k n d = gate_rows k n d
 own_rows Drive k n d = drive_rows k n d
 
 -- what the first rows say, and where they say nothing what the second say
-abbrev pub or_else : Reading → Reading → Reading
-or_else (Known c) r = Known c
-or_else Other r = r
+abbrev pub or_else : Option Command → Option Command → Option Command
+or_else (Some c) r = Some c
+or_else None r = r
 
 -- what a packet's command and data bytes say to a kind of node, and to both
-unfoldable pub codec_read : Kind → ℕ → List ℕ → Reading
+unfoldable pub codec_read : Kind → ℕ → List ℕ → Option Command
 codec_read kind k d = or_else (shared_rows k (length d) d) (own_rows kind k (length d) d)
 
 abbrev pub readings_of : ℕ → List ℕ → Readings
@@ -143,5 +140,5 @@ readings_of k d = record { gate = codec_read Gate k d; drive = codec_read Drive 
 -- some bytes begin with a packet with a right sum, which ends at `end` and says command c to address a, for a kind of node
 pub record ReadsAs (kind : Kind) (s : List ℕ) (a : Address) (c : Command) (end : ℕ) : Type 0 where
   pub command : ℕ
-  pub whole : read_of s ≡ Whole a command end
-  pub known : codec_read kind command (data_part s) ≡ Known c
+  pub whole : read_of s ≡ whole a command end
+  pub known : codec_read kind command (data_part s) ≡ Some c

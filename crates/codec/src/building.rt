@@ -1,12 +1,12 @@
 // The packet of a command, built into a lent buffer.
 ghost use Rattle.std.specs.Prelude.{◌≡◌, ◌∷◌, ◌++◌, take};
+ghost use Rattle.wire.specs.Numbers.{number_by};
 ghost use Rattle.wire.specs.Promise.{Lending};
-ghost use Rattle.buffer.specs.Buffer.{built_number, written};
+ghost use Rattle.buffer.specs.Buffer.{written};
 ghost use Rattle.codec.specs.Build.{group_byte, bytes_if, long_bytes, load_data, gain_data, stop_data, own_data, packet_to, codec_build};
 ghost use Rattle.codec.specs.Filling.{command_head, filled, four_data, word_data, byte_data};
 
 use crate::reading::load_count;
-use buffer::Built;
 use command::{Command, Gains, Loads, Motion, Place, Stop};
 use wire::{Address, Refusal};
 
@@ -169,8 +169,8 @@ fn own_data(c: Command) -> [u8; 14]
 }
 
 // The packet of a command, to the address byte `a`, whatever its values: 5 where it has no room.
-pub fn put_packet_to(a: u8, c: Command, out: &mut [u8]) -> Built
-    ensures { Lending built_number result out.new (written (packet_to a c) out.old) }
+pub fn put_packet_to(a: u8, c: Command, out: &mut [u8]) -> Result<usize, Refusal>
+    ensures { Lending number_by result out.new (written (packet_to a c) out.old) }
 {
     let command_byte = command_head(c);
     let bytes = own_data(c);
@@ -179,13 +179,13 @@ pub fn put_packet_to(a: u8, c: Command, out: &mut [u8]) -> Built
 }
 
 // Builds the packet of a command at the start of `out`, whose rest stays. 6 where the address or the command is not of its range, then 5.
-pub fn build(to: Address, c: Command, out: &mut [u8]) -> Built
-    ensures { Lending built_number result out.new (codec_build to c out.old) }
+pub fn build(to: Address, c: Command, out: &mut [u8]) -> Result<usize, Refusal>
+    ensures { Lending number_by result out.new (codec_build to c out.old) }
 {
     if to.in_range() {
         if c.fits() {
             return put_packet_to(to.byte(), c, out);
         }
     }
-    Built::Refused(Refusal::Range)
+    Err(Refusal::Range)
 }

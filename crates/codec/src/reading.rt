@@ -1,18 +1,17 @@
 // A command read from a packet's command nibble and data bytes: for one kind of node, and for both in one look.
-ghost use Rattle.std.specs.Prelude.{◌≡◌, ◌%◌, ◌/◌, [], ◌∷◌, get_or};
+ghost use Rattle.std.specs.Prelude.{◌≡◌, ◌%◌, ◌/◌, [], ◌∷◌, get_or, Some, None};
 ghost use Rattle.buffer.specs.Wide.{word_of, long_of};
-ghost use Rattle.command.specs.declared.Reading.TheVariants.{Known, Other};
 ghost use Rattle.codec.specs.Reading.{word_at, long_if, byte_if, load_count, motion_of, gains_of, ranged, codec_read, readings_of};
 ghost use Rattle.codec.specs.Looking.{alike_of, placing_of, loading_of, gaining_of, stopping_of, listed_of, wide_rows};
 
-use command::{Command, Gains, Held, Loads, Motion, Place, Pwm, Reading, Stop};
+use command::{Command, Gains, Held, Loads, Motion, Place, Pwm, Stop};
 use wire::{Group, Individual, Kind};
 
 // What a packet says to each kind of node.
 #[derive(Clone, Copy)]
 pub struct Readings {
-    pub gate: Reading,
-    pub drive: Reading,
+    pub gate: Option<Command>,
+    pub drive: Option<Command>,
 }
 
 // The number of two bytes, least significant first.
@@ -74,23 +73,23 @@ fn byte_if(brought: bool, bytes: &[u8], at: u8) -> u8
 }
 
 // A command, if its values are of their ranges; else another one.
-fn ranged(c: Command) -> Reading
+fn ranged(c: Command) -> Option<Command>
     ensures { result ≡ ranged c }
 {
     if c.fits() {
-        return Reading::Known(c);
+        return Reading::Some(c);
     }
-    Reading::Other
+    Reading::None
 }
 
 // Set Address, of its two data bytes: any second byte gives a group.
-fn placing(address: u8, group: u8) -> Reading
+fn placing(address: u8, group: u8) -> Option<Command>
     ensures { result ≡ placing_of address group }
 {
     if 0x80 <= address {
-        return Reading::Other;
+        return Reading::None;
     }
-    Reading::Known(Command::SetAddress(Place {
+    Reading::Some(Command::SetAddress(Place {
         address: Individual(address),
         group: Group(group % 0x80 + 0x80),
         leader: group < 0x80,
@@ -123,21 +122,21 @@ pub(crate) fn motion_of(bytes: &[u8]) -> Motion
 }
 
 // Load Trajectory of so many data bytes.
-fn loading(count: u8, bytes: &[u8]) -> Reading
+fn loading(count: u8, bytes: &[u8]) -> Option<Command>
     ensures { result ≡ loading_of count bytes.now }
 {
     if count != load_count(byte(bytes, 0)) {
-        return Reading::Other;
+        return Reading::None;
     }
     ranged(Command::LoadTrajectory(motion_of(bytes)))
 }
 
 // Load Trajectory of two data bytes, which a gate reads as Set PWM: only a PWM value is brought, else it is none.
-fn loading_two(bytes: &[u8]) -> Reading
+fn loading_two(bytes: &[u8]) -> Option<Command>
     ensures { result ≡ loading_of 2 bytes.now }
 {
     if byte(bytes, 0) % 16 != 8 {
-        return Reading::Other;
+        return Reading::None;
     }
     loading(2, bytes)
 }
@@ -159,25 +158,25 @@ pub(crate) fn gains_of(bytes: &[u8]) -> Gains
 }
 
 // Set Gain of so many data bytes.
-fn gaining(count: u8, bytes: &[u8]) -> Reading
+fn gaining(count: u8, bytes: &[u8]) -> Option<Command>
     ensures { result ≡ gaining_of count bytes.now }
 {
     if count != 14 {
-        return Reading::Other;
+        return Reading::None;
     }
     if byte(bytes, 9) != 0 {
-        return Reading::Other;
+        return Reading::None;
     }
     ranged(Command::SetGain(gains_of(bytes)))
 }
 
 // Stop Motor of so many data bytes.
-fn stopping(count: u8, bytes: &[u8]) -> Reading
+fn stopping(count: u8, bytes: &[u8]) -> Option<Command>
     ensures { result ≡ stopping_of count bytes.now }
 {
     let stop = byte(bytes, 0);
     if count != 1 + stop / 16 % 2 * 4 {
-        return Reading::Other;
+        return Reading::None;
     }
     ranged(Command::StopMotor(Stop {
         position: long_if(command::is_stop_here(stop), bytes, 1),
@@ -186,19 +185,19 @@ fn stopping(count: u8, bytes: &[u8]) -> Reading
 }
 
 // A drive's commands that have data bytes: apart, so that what is said to gates doesn't wait for them.
-fn wide_rows(head: u8, bytes: &[u8]) -> Reading
+fn wide_rows(head: u8, bytes: &[u8]) -> Option<Command>
     ensures { result ≡ wide_rows (head % 16) (head / 16) bytes.now }
 {
     match head % 16 {
         0x4 => loading(head / 16, bytes),
         0x6 => gaining(head / 16, bytes),
         0x7 => stopping(head / 16, bytes),
-        _ => Reading::Other,
+        _ => Reading::None,
     }
 }
 
 // A command of both kinds, read alike.
-fn alike(r: Reading) -> Readings
+fn alike(r: Option<Command>) -> Readings
     ensures { result ≡ alike_of r }
 {
     Readings { gate: r, drive: r }
@@ -206,20 +205,20 @@ fn alike(r: Reading) -> Readings
 
 // A gate's own.
 fn for_gate(c: Command) -> Readings
-    ensures { result ≡ record { gate = Known c; drive = Other } }
+    ensures { result ≡ record { gate = Some c; drive = None } }
 {
     Readings {
-        gate: Reading::Known(c),
-        drive: Reading::Other,
+        gate: Option<Command>::Some(c),
+        drive: Option<Command>::None,
     }
 }
 
 // A drive's own.
-fn for_drive(r: Reading) -> Readings
-    ensures { result ≡ record { gate = Other; drive = r } }
+fn for_drive(r: Option<Command>) -> Readings
+    ensures { result ≡ record { gate = None; drive = r } }
 {
     Readings {
-        gate: Reading::Other,
+        gate: Option<Command>::None,
         drive: r,
     }
 }
@@ -230,21 +229,21 @@ fn listed(head: u8, one: u8, two: u8, three: u8, four: u8, bytes: &[u8]) -> Read
 {
     match head {
         0x21 => alike(placing(one, two)),
-        0x12 => alike(Reading::Known(Command::DefineStatus(one))),
-        0x13 => alike(Reading::Known(Command::ReadStatus(one))),
-        0x1A => alike(Reading::Known(Command::SetBaudRate(one))),
-        0x0E => alike(Reading::Known(Command::Nop)),
-        0x0F => alike(Reading::Known(Command::HardReset)),
+        0x12 => alike(Reading::Some(Command::DefineStatus(one))),
+        0x13 => alike(Reading::Some(Command::ReadStatus(one))),
+        0x1A => alike(Reading::Some(Command::SetBaudRate(one))),
+        0x0E => alike(Reading::Some(Command::Nop)),
+        0x0F => alike(Reading::Some(Command::HardReset)),
         0x24 => Readings {
-            gate: Reading::Known(Command::SetPwm(Pwm {
+            gate: Option<Command>::Some(Command::SetPwm(Pwm {
                 first: one,
                 second: two,
             })),
             drive: loading_two(bytes),
         },
         0x05 => Readings {
-            gate: Reading::Known(Command::SynchOutput),
-            drive: Reading::Known(Command::StartMotion),
+            gate: Option<Command>::Some(Command::SynchOutput),
+            drive: Option<Command>::Some(Command::StartMotion),
         },
         0x26 => for_gate(Command::SetOutputs(word(one, two))),
         0x47 => for_gate(Command::SetSynchOutput(Held {
@@ -256,7 +255,7 @@ fn listed(head: u8, one: u8, two: u8, three: u8, four: u8, bytes: &[u8]) -> Read
         })),
         0x18 => for_gate(Command::SetTimerMode(one)),
         0x0C => for_gate(Command::SynchInput),
-        0x00 => for_drive(Reading::Known(Command::ResetPosition)),
+        0x00 => for_drive(Reading::Some(Command::ResetPosition)),
         _ => for_drive(wide_rows(head, bytes)),
     }
 }
@@ -267,10 +266,10 @@ impl Readings {
         ensures { result ≡ readings_of command bytes.now }
     {
         if 15 < command {
-            return alike(Reading::Other);
+            return alike(Reading::None);
         }
         if 15 < bytes.len() {
-            return alike(Reading::Other);
+            return alike(Reading::None);
         }
         let head = command + (bytes.len() as u8) * 16;
         listed(
@@ -285,7 +284,7 @@ impl Readings {
 }
 
 // What they say to one kind.
-pub fn read(kind: Kind, command: u8, bytes: &[u8]) -> Reading
+pub fn read(kind: Kind, command: u8, bytes: &[u8]) -> Option<Command>
     ensures { result ≡ codec_read kind command bytes.now }
 {
     let both = Readings::of(command, bytes);

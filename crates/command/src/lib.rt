@@ -87,13 +87,6 @@ pub enum Command {
     StopMotor(Stop),
 }
 
-// What the parts of an intact packet say: a command, or another one, which is replied to as a Nop is and changes nothing.
-#[derive(Clone, Copy)]
-pub enum Reading {
-    Known(Command),
-    Other,
-}
-
 // What a command is beside its data. Whoever treats some commands alike asks for their role, so that a new command is one row of `role`.
 #[derive(Clone, Copy)]
 pub enum Role {

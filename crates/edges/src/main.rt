@@ -3,9 +3,7 @@
 // It has 5 bytes: a Nop and a Set Baud Rate have room there, a Set Address has not, so that 6 is seen to come before 5.
 #![tactic(auto)]
 
-use buffer::Built;
 use command::{Command, Motion, Place, Stop};
-use hexadecimal::Parsed;
 use node::Node;
 use session::{End, Session};
 use std::io;
@@ -67,10 +65,10 @@ fn set_address(number: u8, group: u8) -> Command {
 }
 
 // How many bytes were built.
-fn length(b: Built) -> usize {
+fn length(b: Result<usize, Refusal>) -> usize {
     match b {
-        Built::Bytes(n) => n,
-        Built::Refused(_) => 0,
+        Ok(n) => n,
+        Err(_) => 0,
     }
 }
 
@@ -223,8 +221,8 @@ fn read(rt: &impl Print, from: u8, count: u8) -> io::Result<()> {
     let mut number = wire::DONE;
     let mut bytes = 0;
     match hexadecimal::read_bytes(text::first(line, count as usize), &mut lent) {
-        Parsed::Bytes(n) => bytes = n,
-        Parsed::Malformed => number = Refusal::Range.number(),
+        Some(n) => bytes = n,
+        None => number = Refusal::Range.number(),
     }
     show(
         rt,

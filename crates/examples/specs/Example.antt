@@ -1,5 +1,6 @@
 -- Document 01, "Examples": what an example is, and when it holds. Each kind is held to the definitions that the contracts cite.
 use Rattle.std.specs.Prelude.{ℕ, Bool, true, false, List, [], ◌∷◌, ◌≡◌, length, replicate}
+use Rattle.wire.specs.Numbers.{number_by}
 use Rattle.wire.specs.Promise.{Outcome}
 use Rattle.wire.specs.Address.{byte_of}
 use Rattle.buffer.specs.Buffer.{written}
@@ -7,7 +8,7 @@ use Rattle.wire.specs.declared.kind.Kind.TheVariants.{Gate}
 use Rattle.wire.specs.declared.address.Individual.{Individual}
 use Rattle.wire.specs.declared.address.Group.{Group}
 use Rattle.wire.specs.declared.address.Address.{Address}
-use Rattle.packet.specs.Packet.{read_of, framed_number}
+use Rattle.packet.specs.Packet.{read_of}
 use Rattle.packet.specs.Build.{build_of}
 use Rattle.command.specs.declared.Place.{Place}
 use Rattle.command.specs.declared.Command.{Command}
@@ -114,7 +115,7 @@ pub record Packets (to : Address) (c : Command) (bytes : List ℕ) : Type 0 wher
 -- what an example says, whatever the further 29 entries are
 abbrev pub Holds : List Entry → Example → Type 0
 Holds rest (packet to c bytes) = Packets to c bytes
-Holds rest (number bytes n) = framed_number (read_of bytes) ≡ n
+Holds rest (number bytes n) = number_by (read_of bytes) ≡ n
 Holds rest (reading bytes to c end) = ReadsAs Gate bytes to c end
 Holds rest (course r es numbers t) = ran es (shown r rest) ≡ record { answer = numbers; left = shown t rest }
 

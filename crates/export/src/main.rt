@@ -3,8 +3,6 @@
 
 ghost use Rattle.std.specs.Prelude.{◌≡◌, length};
 
-use buffer::Built;
-use packet::Framed;
 use std::io;
 use wire::Refusal;
 
@@ -31,10 +29,10 @@ fn first_fault(packets: &[u8]) -> usize {
     let mut passed = 0;
     while at < packets.len() {
         match packet::read(text::rest(packets, at)) {
-            Framed::Refused(_) => {
+            Err(_) => {
                 return passed + 1;
             }
-            Framed::Whole {
+            whole {
                 address: _,
                 command: _,
                 end,
@@ -73,7 +71,7 @@ fn main(rt: HostRuntime) -> io::Result<()> {
     }
     let packets = &input[..n];
     match sheet::export(packets, &mut sheet) {
-        Built::Bytes(m) => rt.write_all(text::first(&sheet, m)),
-        Built::Refused(why) => say_fault(&rt, packets, why),
+        Ok(m) => rt.write_all(text::first(&sheet, m)),
+        Err(why) => say_fault(&rt, packets, why),
     }
 }

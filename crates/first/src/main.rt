@@ -6,13 +6,13 @@ mod bench;
 use bench::exchange;
 use command::Command;
 use node::Node;
-use session::{Session, Shown};
+use session::Session;
 use std::io;
 use wire::{Address, Individual, Kind, MOST_NODES};
 
 // Prints a node's number, whether its outputs are known, and the outputs.
 fn print(rt: &impl Print, s: Session, node: u8) -> io::Result<()> {
-    if let Shown::Found(entry) = session::look(s, Individual(node)) {
+    if let Ok(entry) = session::look(s, Individual(node)) {
         let known = if entry.known.gate.outputs { 1 } else { 0 };
         let outputs = entry.settings.gate.outputs;
         let low = (outputs % 256) as u8;

@@ -1,5 +1,6 @@
 -- A line of bytes, read pair by pair.
 use Prim.Native.Nat.{ℕ, suc, ◌+◌, ◌*◌, ◌≤◌, ◌<◌}
+use Rattle.std.specs.Prelude.{Option, Some, None, ℕ}
 use mathlib.Core.Bool.{Bool, true, false, cond, false≢true}
 use mathlib.Core.List.{List, [], ◌∷◌}
 use mathlib.Core.Path.{◌≡◌, refl, sym, ap, ◌∙◌}
@@ -17,8 +18,6 @@ use Rattle.hexadecimal.specs.Gathering.{Gathered, whole, none, gathered, read_pa
 use Rattle.hexadecimal.proofs.Storing.{laid_before}
 use Rattle.hexadecimal.specs.declared.pairs.Pair.{Pair}
 use Rattle.hexadecimal.specs.declared.pairs.Pair.TheVariants.{Last, More, Bad}
-use Rattle.hexadecimal.specs.declared.pairs.Parsed.{Parsed}
-use Rattle.hexadecimal.specs.declared.pairs.Parsed.TheVariants.{Bytes, Malformed}
 
 pub pair_by_lem : (s : List ℕ) (h l : ℕ) (r : Pair) → 2 ≤ length s → h ≡ digit_of (get_or s 0 0) → l ≡ digit_of (get_or s 1 0) → r ≡ pair_by h l s → r ≡ read_pair s
 unfolding read_pair
@@ -93,33 +92,33 @@ sets_over [] (v ∷ d) = sets_none d 1
 sets_over (x ∷ l) [] = refl
 sets_over (x ∷ l) (v ∷ d) = sets_under v l 0 d ∙ ap (λ (r : List ℕ). v ∷ r) (sets_over l d)
 
-pub read_empty : (line out : List ℕ) → length line < 1 → Lending parsed_number (Bytes 0) out (read_bytes (bytes_in line) out)
+pub read_empty : (line out : List ℕ) → length line < 1 → Lending parsed_number (Some 0) out (read_bytes (bytes_in line) out)
 unfolding over
 read_empty [] out h = lent (rw (take-nil (length out)))
 read_empty (x ∷ l) out h = absurd (let z : ⊥ = omega arith in z)
 
 -- it was read through over some other buffer first
-on_bad : (c : Content) (o out : List ℕ) → none ≡ read_pairs c 0 o → Lending parsed_number Malformed out (read_bytes c out)
+on_bad : (c : Content) (o out : List ℕ) → none ≡ read_pairs c 0 o → Lending parsed_number None out (read_bytes c out)
 on_bad (bytes d) o out e = impossible cc
 on_bad malformed o out e = lent refl
 
-on_good : (c : Content) (n : ℕ) (m o out left : List ℕ) (r : Parsed) → whole n m ≡ read_pairs c 0 o → gathered r left ≡ read_pairs c 0 out → Lending parsed_number r left (read_bytes c out)
-on_good (bytes d) n m o out left (Bytes k) e f =
+on_good : (c : Content) (n : ℕ) (m o out left : List ℕ) (r : Option ℕ) → whole n m ≡ read_pairs c 0 o → gathered r left ≡ read_pairs c 0 out → Lending parsed_number r left (read_bytes c out)
+on_good (bytes d) n m o out left (Some k) e f =
     let ek : k ≡ 0 + length d = cc in
     let el : left ≡ sets out 0 d = cc in
     lent (rw (ek, el, zero-add, sets_over out d))
-on_good (bytes d) n m o out left Malformed e f = impossible cc
+on_good (bytes d) n m o out left None e f = impossible cc
 on_good malformed n m o out left r e f = impossible cc
 
-module _ (line o m : List ℕ) (form : Parsed) (e : gathered form m ≡ read_pairs (packet_in line) 0 o) where
-  pub read_bad : (out : List ℕ) → 1 ≤ length line → form ≡ Malformed → Lending parsed_number Malformed out (read_bytes (bytes_in line) out)
+module _ (line o m : List ℕ) (form : Option ℕ) (e : gathered form m ≡ read_pairs (packet_in line) 0 o) where
+  pub read_bad : (out : List ℕ) → 1 ≤ length line → form ≡ None → Lending parsed_number None out (read_bytes (bytes_in line) out)
   read_bad out h g = some line h (rw g at e)
     where
-      some : (l : List ℕ) → 1 ≤ length l → none ≡ read_pairs (packet_in l) 0 o → Lending parsed_number Malformed out (read_bytes (bytes_in l) out)
+      some : (l : List ℕ) → 1 ≤ length l → none ≡ read_pairs (packet_in l) 0 o → Lending parsed_number None out (read_bytes (bytes_in l) out)
       some [] h e = absurd (not-suc-le-zero h)
       some (x ∷ l) h e = on_bad (packet_in (x ∷ l)) o out e
 
-  pub read_good : (n : ℕ) (r : Parsed) (out left : List ℕ) → 1 ≤ length line → form ≡ Bytes n → gathered r left ≡ read_pairs (packet_in line) 0 out
+  pub read_good : (n : ℕ) (r : Option ℕ) (out left : List ℕ) → 1 ≤ length line → form ≡ Some n → gathered r left ≡ read_pairs (packet_in line) 0 out
       → Lending parsed_number r left (read_bytes (bytes_in line) out)
   read_good n r out left h g f = some line h (rw g at e) f
     where

@@ -1,5 +1,8 @@
 -- Text written one part behind the other.
 use Prim.Native.Nat.{ℕ, suc, ◌+◌, ◌-◌, ◌*◌, ◌/◌, ◌%◌, ◌≤◌, ◌<◌}
+use Rattle.wire.specs.declared.refusal.Refusal.{Refusal}
+use Rattle.std.specs.Prelude.{Result, Ok, Err, ℕ}
+use Rattle.wire.specs.Numbers.{number_by}
 use mathlib.Core.List.{List, [], ◌∷◌, ◌++◌}
 use mathlib.Core.Path.{◌≡◌, refl, ap, ◌∙◌}
 use native.Mathlib.Omega.{arith}
@@ -8,10 +11,8 @@ use native.Mathlib.Numerals.{add-one}
 use lib.ListN.{length, drop, get_or, set, length-append, length-drop, length-set, drop_of_length-le}
 use lib.Seq.{sets, drop-cons, length-sets}
 use Rattle.wire.specs.Promise.{Lending}
-use Rattle.buffer.specs.Buffer.{built_number, written}
+use Rattle.buffer.specs.Buffer.{written}
 use Rattle.wire.specs.declared.refusal.Refusal.TheVariants.{Room}
-use Rattle.buffer.specs.declared.Built.{Built}
-use Rattle.buffer.specs.declared.Built.TheVariants.{Bytes, Refused}
 use Rattle.buffer.proofs.Writing.{sets_start, no_room, has_room_lem, sets_append}
 use Rattle.text.specs.Lines.{newline}
 use Rattle.hexadecimal.specs.Digits.{character_of}
@@ -69,18 +70,18 @@ pub length_line : (bytes : List ℕ) → 1 ≤ length bytes → length (hex_line
 length_line [] h = absurd (not-suc-le-zero h)
 length_line (b ∷ bs) h = omega (arith, length_rest bs, length-append (hex_pair b ++ hex_rest bs) (newline ∷ []))
 
-pub line_empty : (bytes out left : List ℕ) (r : Built) → length bytes < 1 → Lending built_number r left (written (newline ∷ []) out)
-    → Lending built_number r left (written (hex_line bytes) out)
+pub line_empty : (bytes out left : List ℕ) (r : Result ℕ Refusal) → length bytes < 1 → Lending number_by r left (written (newline ∷ []) out)
+    → Lending number_by r left (written (hex_line bytes) out)
 line_empty [] out left r h p = p
 line_empty (b ∷ bs) out left r h p = absurd (let z : ⊥ = omega arith in z)
 
-pub empty_short : (out : List ℕ) → length out < 1 → Lending built_number (Refused Room) out (written (newline ∷ []) out)
+pub empty_short : (out : List ℕ) → length out < 1 → Lending number_by (Err Room) out (written (newline ∷ []) out)
 empty_short out h = no_room (newline ∷ []) out h
 
-pub empty_done : (out : List ℕ) → 1 ≤ length out → Lending built_number (Bytes 1) (set out 0 newline) (written (newline ∷ []) out)
+pub empty_done : (out : List ℕ) → 1 ≤ length out → Lending number_by (Ok 1) (set out 0 newline) (written (newline ∷ []) out)
 empty_done out h = has_room_lem (newline ∷ []) out 1 (set out 0 newline) refl h (sets_start out (newline ∷ []) h)
 
-pub line_room : (bytes out : List ℕ) → 1 ≤ length bytes → length out / 3 < length bytes → Lending built_number (Refused Room) out (written (hex_line bytes) out)
+pub line_room : (bytes out : List ℕ) → 1 ≤ length bytes → length out / 3 < length bytes → Lending number_by (Err Room) out (written (hex_line bytes) out)
 line_room bytes out h k = no_room (hex_line bytes) out (omega (arith, length_line bytes h))
 
 -- the first byte, the others, the newline
@@ -104,7 +105,7 @@ pub line_long : (out a b d : List ℕ) (x i v : ℕ) → a ≡ sets out 0 (hex_p
 line_long out a b d x i v e f = length-set b i v ∙ put_long a b d 2 (length out) f (put_long out a (hex_pair x) 0 (length out) e refl)
 
 pub line_done : (bytes out a d b : List ℕ) → 1 ≤ length bytes → length bytes ≤ length out / 3 → a ≡ sets out 0 (hex_pair (get_or bytes 0 0)) → d ≡ drop 1 bytes
-    → b ≡ sets a 2 (hex_rest d) → Lending built_number (Bytes (3 * length bytes)) (set b (3 * length bytes - 1) newline) (written (hex_line bytes) out)
+    → b ≡ sets a 2 (hex_rest d) → Lending number_by (Ok (3 * length bytes)) (set b (3 * length bytes - 1) newline) (written (hex_line bytes) out)
 line_done [] out a d b h fits e f g = absurd (not-suc-le-zero h)
 line_done (x ∷ bs) out a d b h fits e f g =
     has_room_lem (hex_line (x ∷ bs)) out (3 * suc (length bs)) (set b (3 * suc (length bs) - 1) newline) (length_line (x ∷ bs) h) (omega arith)

@@ -1,5 +1,5 @@
 -- Document 01: a line of bytes, "two-digit capitals, single spaces". "An empty line is an empty packet".
-use Rattle.std.specs.Prelude.{ℕ, ◌+◌, ◌*◌, ◌/◌, ◌%◌, cond, List, [], ◌∷◌, ◌++◌, ltb, eqb, length, get_or, take, drop}
+use Rattle.std.specs.Prelude.{ℕ, ◌+◌, ◌*◌, ◌/◌, ◌%◌, cond, List, [], ◌∷◌, ◌++◌, ltb, eqb, length, get_or, take, drop, Option, Some, None}
 use Rattle.wire.specs.Promise.{Outcome}
 use Rattle.wire.specs.Numbers.{done, number_of}
 use Rattle.wire.specs.declared.refusal.Refusal.TheVariants.{Range}
@@ -7,8 +7,6 @@ use Rattle.text.specs.Lines.{newline}
 use Rattle.hexadecimal.specs.Digits.{digit_of, character_of}
 use Rattle.hexadecimal.specs.declared.pairs.Pair.{Pair}
 use Rattle.hexadecimal.specs.declared.pairs.Pair.TheVariants.{Last, More, Bad}
-use Rattle.hexadecimal.specs.declared.pairs.Parsed.{Parsed}
-use Rattle.hexadecimal.specs.declared.pairs.Parsed.TheVariants.{Bytes, Malformed}
 
 abbrev pub space : ℕ
 space = 32
@@ -78,11 +76,11 @@ unfoldable pub over : List ℕ → List ℕ → List ℕ
 over d out = take (length out) d ++ drop (length d) out
 
 -- what reading a line answers and leaves: a malformed one leaves the buffer as it stood
-abbrev pub read_bytes : Content → List ℕ → Outcome Parsed (List ℕ)
-read_bytes (bytes d) out = record { answer = Bytes (length d); left = over d out }
-read_bytes malformed out = record { answer = Malformed; left = out }
+abbrev pub read_bytes : Content → List ℕ → Outcome (Option ℕ) (List ℕ)
+read_bytes (bytes d) out = record { answer = Some (length d); left = over d out }
+read_bytes malformed out = record { answer = None; left = out }
 
 -- the number of what reading finds: 6, "bench line not of its form"
-abbrev pub parsed_number : Parsed → ℕ
-parsed_number (Bytes n) = done
-parsed_number Malformed = number_of Range
+abbrev pub parsed_number : Option ℕ → ℕ
+parsed_number (Some n) = done
+parsed_number None = number_of Range

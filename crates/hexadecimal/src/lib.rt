@@ -7,5 +7,5 @@ mod digits;
 mod pairs;
 mod writing;
 
-pub use pairs::{Parsed, SPACE, read_bytes};
+pub use pairs::{SPACE, read_bytes};
 pub use writing::write_line;

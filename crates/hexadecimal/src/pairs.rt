@@ -11,13 +11,6 @@ use text::rest;
 // Between two bytes.
 pub const SPACE: u8 = 32;
 
-// How many bytes a line holds, or that it isn't of its form.
-#[derive(Clone, Copy)]
-pub enum Parsed {
-    Bytes(usize),
-    Malformed,
-}
-
 // What a line starts with: two digits and its end, or two digits and a space.
 #[derive(Clone, Copy)]
 pub(crate) enum Pair {
@@ -58,7 +51,7 @@ fn read_pair(s: &[u8]) -> Pair
 }
 
 // The bytes of a line that isn't empty go to the start of `out`, as many as it has room for.
-fn read_pairs(line: &[u8], out: &mut [u8]) -> Parsed
+fn read_pairs(line: &[u8], out: &mut [u8]) -> Option<usize>
     ensures { gathered result out.new ≡ read_pairs (packet_in line.now) 0 out.old }
 {
     let mut at = 0;
@@ -67,11 +60,11 @@ fn read_pairs(line: &[u8], out: &mut [u8]) -> Parsed
         let next = read_pair(rest(line, at));
         match next {
             Pair::Bad => {
-                return Parsed::Malformed;
+                return None;
             }
             Pair::Last(b) => {
                 store(out, count, b);
-                return Parsed::Bytes(count + 1);
+                return Some(count + 1);
             }
             Pair::More(b) => {
                 store(out, count, b);
@@ -84,16 +77,16 @@ fn read_pairs(line: &[u8], out: &mut [u8]) -> Parsed
 
 // The bytes of a line go to the start of `out`, as many as it has room for; the rest of it stays.
 // The line is read through first, so that a malformed one leaves `out` as it stood.
-pub fn read_bytes(line: &[u8], out: &mut [u8]) -> Parsed
+pub fn read_bytes(line: &[u8], out: &mut [u8]) -> Option<usize>
     ensures { Lending parsed_number result out.new (read_bytes (bytes_in line.now) out.old) }
 {
     if line.len() < 1 {
-        return Parsed::Bytes(0);
+        return Some(0);
     }
     let mut none = [0; 1];
     let form = read_pairs(line, &mut none);
     match form {
-        Parsed::Malformed => Parsed::Malformed,
-        Parsed::Bytes(_) => read_pairs(line, out),
+        None => None,
+        Some(_) => read_pairs(line, out),
     }
 }

@@ -1,13 +1,13 @@
 // Writing a line of bytes: two-digit capitals, single spaces.
 ghost use Rattle.std.specs.Prelude.{◌≡◌, [], ◌∷◌, ◌+◌, ◌*◌, ◌≤◌, length};
+ghost use Rattle.wire.specs.Numbers.{number_by};
 ghost use Rattle.std.proofs.lemmas.List.Edits.{sets};
 ghost use Rattle.wire.specs.Promise.{Lending};
-ghost use Rattle.buffer.specs.Buffer.{built_number, written};
+ghost use Rattle.buffer.specs.Buffer.{written};
 ghost use Rattle.hexadecimal.specs.Hex.{hex_pair, hex_rest, hex_line};
 
 use crate::digits::character;
 use crate::pairs::SPACE;
-use buffer::Built;
 use text::{NEWLINE, rest};
 use wire::Refusal;
 
@@ -44,29 +44,29 @@ fn put_rest(out: &mut [u8], at: usize, bytes: &[u8])
 }
 
 // A line of no bytes.
-fn write_empty(out: &mut [u8]) -> Built
-    ensures { Lending built_number result out.new (written (10 ∷ []) out.old) }
+fn write_empty(out: &mut [u8]) -> Result<usize, Refusal>
+    ensures { Lending number_by result out.new (written (10 ∷ []) out.old) }
 {
     if out.len() < 1 {
-        return Built::Refused(Refusal::Room);
+        return Err(Refusal::Room);
     }
     out[0] = NEWLINE;
-    Built::Bytes(1)
+    Ok(1)
 }
 
 // The bytes as a line with its newline, at the start of `out`, whose rest stays.
-pub fn write_line(bytes: &[u8], out: &mut [u8]) -> Built
-    ensures { Lending built_number result out.new (written (hex_line bytes.now) out.old) }
+pub fn write_line(bytes: &[u8], out: &mut [u8]) -> Result<usize, Refusal>
+    ensures { Lending number_by result out.new (written (hex_line bytes.now) out.old) }
 {
     let n = bytes.len();
     if n < 1 {
         return write_empty(out);
     }
     if out.len() / 3 < n {
-        return Built::Refused(Refusal::Room);
+        return Err(Refusal::Room);
     }
     put_pair(out, 0, bytes[0]);
     put_rest(out, 2, rest(bytes, 1));
     out[3 * n - 1] = NEWLINE;
-    Built::Bytes(3 * n)
+    Ok(3 * n)
 }

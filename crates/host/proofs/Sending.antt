@@ -1,5 +1,6 @@
 -- Order, regroup and Set Baud Rate; a law for each exit of the code.
 use Prim.Native.Nat.{ℕ}
+use Rattle.std.specs.Prelude.{Result, Ok, Err, ⊤}
 use mathlib.Core.Bool.{Bool}
 use mathlib.Core.List.{List}
 use mathlib.Core.Path.{◌≡◌}
@@ -14,13 +15,11 @@ use Rattle.command.specs.declared.Command.TheVariants.{SetAddress, SetBaudRate}
 use Rattle.session.specs.declared.Session.{Session}
 use Rattle.session.specs.declared.Step.{Step}
 use Rattle.session.specs.Session.{step_number, refuse_of}
-use Rattle.sending.specs.declared.Check.{Check}
-use Rattle.sending.specs.declared.Check.TheVariants.{Passed, Refuse}
 use Rattle.sending.specs.Sending.{transmit_of}
 use Rattle.host.specs.Calls.{order_check, regroup_check, baud_rate_check, order_of, regroup_of, set_baud_rate_of}
 use Rattle.sending.proofs.Transmitting.{refused_by}
 
-module _ (k : Check) (s : Session) (at : ℕ) (out : List ℕ) (why : Refusal) (r : Step) (by : k ≡ Refuse why) (e : r ≡ refuse_of s why) where
+module _ (k : Result ⊤ Refusal) (s : Session) (at : ℕ) (out : List ℕ) (why : Refusal) (r : Step) (by : k ≡ Err why) (e : r ≡ refuse_of s why) where
   pub order_refused : (to : Address) (c : Command) → k ≡ order_check s at to c → Lending step_number r out (order_of s at to c out)
   unfolding order_of
   order_refused to c p = rw (← p) (refused_by k s out _ why r by e)
@@ -33,7 +32,7 @@ module _ (k : Check) (s : Session) (at : ℕ) (out : List ℕ) (why : Refusal) (
   unfolding set_baud_rate_of
   baud_rate_refused g d p = rw (← p) (refused_by k s out _ why r by e)
 
-module _ (k : Check) (s : Session) (at : ℕ) (out o : List ℕ) (r : Step) (by : k ≡ Passed) where
+module _ (k : Result ⊤ Refusal) (s : Session) (at : ℕ) (out o : List ℕ) (r : Step) (by : k ≡ (Ok tt)) where
   pub order_sends : (to : Address) (c : Command) → k ≡ order_check s at to c → Lending step_number r o (transmit_of s at to to c out) → Lending step_number r o (order_of s at to c out)
   unfolding order_of
   order_sends to c p l = rw (← p, by) l

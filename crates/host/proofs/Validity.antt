@@ -1,5 +1,6 @@
 -- Order, regroup and Set Baud Rate keep a valid session valid.
 use Prim.Native.Nat.{ℕ}
+use Rattle.std.specs.Prelude.{Ok, Err}
 use mathlib.Core.Bool.{Bool, false}
 use mathlib.Core.List.{List}
 use mathlib.Core.Path.{◌≡◌, refl}
@@ -11,12 +12,11 @@ use Rattle.wire.specs.declared.address.Address.TheVariants as address
 use Rattle.command.specs.declared.Command.{Command}
 use Rattle.session.specs.declared.Session.{Session}
 use Rattle.session.specs.Session.{Valid, off_chain}
-use Rattle.sending.specs.declared.Check.TheVariants as check
 use Rattle.host.specs.Calls.{order_check, regroup_check, baud_rate_check, order_of, regroup_of, set_baud_rate_of}
 use Rattle.sending.proofs.Validity.{transmitted_valid, check_valid}
 use Rattle.host.proofs.Passing.{order_says, regroup_says}
 
-regroup_node : (s : Session) (at : ℕ) (i : Individual) (g : Group) (leader : Bool) → regroup_check s at i g leader ≡ check.Passed → off_chain s.n (address.Individual i) ≡ false
+regroup_node : (s : Session) (at : ℕ) (i : Individual) (g : Group) (leader : Bool) → regroup_check s at i g leader ≡ (Ok tt) → off_chain s.n (address.Individual i) ≡ false
 regroup_node s at i g leader k =
     let t = (regroup_says s at i g leader k).node in
     rw (le-ltb i.0 1 t.low, le-ltb s.n i.0 t.high)

@@ -1,5 +1,6 @@
 -- Document 01, "The host session" and "Numbers returned", with document 02, requests 6 and 7: commands, regroup and Set Baud Rate of a ready session, which are refused, in which sequence, and what the others send.
-use Rattle.std.specs.Prelude.{ℕ, Bool, false, cond, not, ◌||◌, List, ltb}
+use Rattle.std.specs.Prelude.{ℕ, Bool, false, cond, not, ◌||◌, List, ltb, Result, ⊤}
+use Rattle.wire.specs.declared.refusal.Refusal.{Refusal}
 use Rattle.wire.specs.Promise.{Outcome}
 use Rattle.wire.specs.Address.{group_in_range}
 use Rattle.wire.specs.declared.address.Individual.{Individual}
@@ -14,7 +15,6 @@ use Rattle.ledger.specs.Ledger.{is_led, is_lacked, is_off_list, is_answerable}
 use Rattle.session.specs.declared.Session.{Session}
 use Rattle.session.specs.declared.Step.{Step}
 use Rattle.session.specs.Session.{off_chain}
-use Rattle.sending.specs.declared.Check.{Check}
 use Rattle.sending.specs.declared.Tests.{Tests}
 use Rattle.sending.specs.Sending.{test_of, transmit_of, by_check}
 
@@ -43,7 +43,7 @@ order_tests s at to c = record {
   answerable = false;
 }
 
-unfoldable pub order_check : Session → ℕ → Address → Command → Check
+unfoldable pub order_check : Session → ℕ → Address → Command → Result ⊤ Refusal
 order_check s at to c = test_of s (order_tests s at to c)
 
 -- a Set Address of a ready session: 6 its group, 18 the divisor, 10 its node, 9, 11 its wish
@@ -58,7 +58,7 @@ regroup_tests s at i g leader = record {
   answerable = false;
 }
 
-unfoldable pub regroup_check : Session → ℕ → Individual → Group → Bool → Check
+unfoldable pub regroup_check : Session → ℕ → Individual → Group → Bool → Result ⊤ Refusal
 regroup_check s at i g leader = test_of s (regroup_tests s at i g leader)
 
 -- a Set Baud Rate: 6 its group, "18 for any other divisor", of the one that it is sent at and the one that it sets, 9, "19 for Set Baud Rate to a group that a known member
@@ -74,7 +74,7 @@ baud_rate_tests s at g d = record {
   answerable = is_answerable g s.n s.entries;
 }
 
-unfoldable pub baud_rate_check : Session → ℕ → Group → ℕ → Check
+unfoldable pub baud_rate_check : Session → ℕ → Group → ℕ → Result ⊤ Refusal
 baud_rate_check s at g d = test_of s (baud_rate_tests s at g d)
 
 -- "When ready: .. to a node 1 to n or to a group"

@@ -4,13 +4,13 @@
 #![tactic(auto)]
 
 ghost use Rattle.std.specs.Prelude.{◌≡◌};
+ghost use Rattle.wire.specs.Numbers.{number_by};
 ghost use Rattle.wire.specs.Promise.{Promise, Lending};
 ghost use Rattle.session.specs.Session.{step_number};
-ghost use Rattle.sending.specs.Sending.{check_number};
 ghost use Rattle.host.specs.Calls.{is_bad_group, is_unranged, has_rival, order_check, regroup_check, baud_rate_check, order_of, regroup_of, set_baud_rate_of};
 
 use command::{Command, Place};
-use sending::{Check, Tests, test, transmit};
+use sending::{Tests, test, transmit};
 use session::{Session, Step, off_chain, refuse};
 use wire::{Address, Group, Individual, Refusal};
 
@@ -33,8 +33,8 @@ fn is_unranged(to: Address, c: Command) -> bool
 }
 
 // 6, 18, 10, 17, 9.
-fn order_check(s: Session, at: u8, to: Address, c: Command) -> Check
-    ensures { Promise check_number result (order_check s at to c) }
+fn order_check(s: Session, at: u8, to: Address, c: Command) -> Result<(), Refusal>
+    ensures { Promise number_by result (order_check s at to c) }
 {
     let entries = s.entries;
     test(
@@ -63,8 +63,8 @@ fn has_rival(s: Session, node: Individual, group: Group, leader: bool) -> bool
 }
 
 // 6, 18, 10, 9, 11.
-fn regroup_check(s: Session, at: u8, node: Individual, group: Group, leader: bool) -> Check
-    ensures { Promise check_number result (regroup_check s at node group leader) }
+fn regroup_check(s: Session, at: u8, node: Individual, group: Group, leader: bool) -> Result<(), Refusal>
+    ensures { Promise number_by result (regroup_check s at node group leader) }
 {
     let entries = s.entries;
     test(
@@ -82,8 +82,8 @@ fn regroup_check(s: Session, at: u8, node: Individual, group: Group, leader: boo
 }
 
 // 6, 18 for both divisors, 9, 19: a known member leads the group, or a place is in doubt. No node is 0, so it is nobody's rival that is looked for.
-fn baud_rate_check(s: Session, at: u8, group: Group, divisor: u8) -> Check
-    ensures { Promise check_number result (baud_rate_check s at group divisor) }
+fn baud_rate_check(s: Session, at: u8, group: Group, divisor: u8) -> Result<(), Refusal>
+    ensures { Promise number_by result (baud_rate_check s at group divisor) }
 {
     let entries = s.entries;
     let sent_at = ledger::is_off_list(entries, s.n, at);
@@ -107,8 +107,8 @@ pub fn order(s: Session, at: u8, to: Address, c: Command, out: &mut [u8]) -> Ste
     ensures { Lending step_number result out.new (order_of s at to c out.old) }
 {
     match order_check(s, at, to, c) {
-        Check::Refuse(why) => refuse(s, why),
-        Check::Passed => transmit(s, at, to, to, c, out),
+        Err(why) => refuse(s, why),
+        Ok(()) => transmit(s, at, to, to, c, out),
     }
 }
 
@@ -124,8 +124,8 @@ pub fn regroup(
     ensures { Lending step_number result out.new (regroup_of s at node group leader out.old) }
 {
     match regroup_check(s, at, node, group, leader) {
-        Check::Refuse(why) => refuse(s, why),
-        Check::Passed => {
+        Err(why) => refuse(s, why),
+        Ok(()) => {
             let to = Address::Individual(node);
             let place = Place {
                 address: node,
@@ -142,8 +142,8 @@ pub fn set_baud_rate(s: Session, at: u8, group: Group, divisor: u8, out: &mut [u
     ensures { Lending step_number result out.new (set_baud_rate_of s at group divisor out.old) }
 {
     match baud_rate_check(s, at, group, divisor) {
-        Check::Refuse(why) => refuse(s, why),
-        Check::Passed => {
+        Err(why) => refuse(s, why),
+        Ok(()) => {
             let to = Address::Group(group);
             transmit(s, at, to, to, Command::SetBaudRate(divisor), out)
         }

@@ -1,5 +1,9 @@
 -- A table of nodes with records in range: the chain's call does to it what is said of the list.
 use Prim.Native.Nat.{ℕ, suc, ◌+◌, ◌≤◌, ◌<◌}
+use Rattle.wire.specs.declared.refusal.Refusal.{Refusal}
+use Rattle.packet.specs.declared.Framed.{Framed}
+use Rattle.std.specs.Prelude.{Result, Err}
+use Rattle.packet.specs.Packet.{whole}
 use mathlib.Core.Bool.{true}
 use mathlib.Core.List.{List, [], ◌∷◌}
 use mathlib.Core.Path.{◌≡◌, refl, sym, ap}
@@ -10,8 +14,6 @@ use borrow.Author.Tests.{le-leb, le-ltb}
 use Rattle.wire.specs.Promise.{Outcome}
 use Rattle.buffer.specs.Buffer.{written}
 use Rattle.wire.specs.declared.address.Address.{Address}
-use Rattle.packet.specs.declared.Framed.{Framed}
-use Rattle.packet.specs.declared.Framed.TheVariants as framed
 use Rattle.status.specs.Status.{T}
 use Rattle.node.specs.declared.state.Node.{Node}
 use Rattle.message.specs.declared.Messages.{Messages}
@@ -50,12 +52,12 @@ module _ (ns : List Node) (v : ℕ) (out : List ℕ) (room : T + 2 ≤ length ou
   does to h collided e = record { nodes = refl; says = refl }
 
   -- where all nodes get the packet
-  does_frame : (f : Framed) (q : List ℕ) → Does (on_frame v f q ns out) (parted (λ i. true) ns (taken_by v f q ns)) (spoken_by (λ i. true) v f q ns)
+  does_frame : (f : Result Framed Refusal) (q : List ℕ) → Does (on_frame v f q ns out) (parted (λ i. true) ns (taken_by v f q ns)) (spoken_by (λ i. true) v f q ns)
   unfolding delivered_to
-  does_frame (framed.Whole to k n) q =
+  does_frame (whole to k n) q =
       rw (parted_all ns (after v to (messages_as to k q) ns) (length_after v to (messages_as to k q) ns), among_all v to (messages_as to k q) ns)
       (does to (messages_as to k q) (said v to (messages_as to k q) ns) refl)
-  does_frame (framed.Refused why) q = record { nodes = sym (parted_same (λ i. true) ns); says = refl }
+  does_frame (Err why) q = record { nodes = sym (parted_same (λ i. true) ns); says = refl }
 
   pub delivers : 1 ≤ length ns → length ns ≤ 31 → ((i : ℕ) → i < length ns → is_ranged (at ns i).settings.place ≡ true) → (q : List ℕ) → Delivers ns v q out
   unfolding deliver_of valid

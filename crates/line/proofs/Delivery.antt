@@ -1,5 +1,6 @@
 -- From the sending of a packet to its report: what the line does to bytes, as what it does to nodes and what the answer tells.
 use Prim.Native.Nat.{ℕ, ◌<◌}
+use Rattle.std.specs.Prelude.{Option, Some, None}
 use mathlib.Core.Bool.{Bool, true, false, cond, ◌&&◌, true≢false, false≢true}
 use mathlib.Core.List.{List, [], append-nil}
 use mathlib.Core.Option.{Option}
@@ -14,13 +15,10 @@ use Rattle.wire.specs.declared.kind.Kind.TheVariants.{Gate, Drive}
 use Rattle.wire.specs.declared.address.Address.{Address}
 use Rattle.wire.specs.declared.address.Address.TheVariants as address
 use Rattle.wire.proofs.Choice.{both}
-use Rattle.packet.specs.Packet.{frame_of, is_intact}
-use Rattle.packet.specs.declared.Framed.TheVariants.{Whole}
+use Rattle.packet.specs.Packet.{frame_of, is_intact, whole}
 use Rattle.buffer.proofs.Sums.{changed_length}
 use Rattle.packet.proofs.Packets.{read_says, damaged_frames, damaged_spoilt}
 use Rattle.command.specs.declared.Command.{Command}
-use Rattle.command.specs.declared.Reading.{Reading}
-use Rattle.command.specs.declared.Reading.TheVariants as reading
 use Rattle.command.specs.Ranges.{fits_of}
 use Rattle.command.specs.Owner.{has}
 use Rattle.codec.specs.Reading.{codec_read}
@@ -81,7 +79,7 @@ voice gets v to m ns b h n e (line.lost o) = rw (nothing_silent o) silent
 voice gets v to m ns b h n e line.mixed = absurd (n e)
 
 -- bytes that are a whole packet, and the nodes that get them
-module _ (ns : List Node) (v : ℕ) (q : List ℕ) (gets : ℕ → Bool) (to : Address) (k n : ℕ) (m : Messages) (f : frame_alone q ≡ Whole to k n) (e : messages_as to k q ≡ m) where
+module _ (ns : List Node) (v : ℕ) (q : List ℕ) (gets : ℕ → Bool) (to : Address) (k n : ℕ) (m : Messages) (f : frame_alone q ≡ whole to k n) (e : messages_as to k q ≡ m) where
   nodes_are : nodes_after (record { at = v; bytes = q; gets = gets }) ns ≡ parted gets ns (after v to m ns)
   nodes_are = rw (f, e) refl
 
@@ -107,9 +105,9 @@ taken_zero : (b : Bool) (c : Command) → status_byte (cond b (Intact c) Other) 
 taken_zero true c = refl
 taken_zero false c = refl
 
-intact_zero : (r : Reading) (to : Address) → status_byte (message_of r to true) ≡ 0
-intact_zero (reading.Known c) to = taken_zero (is_taken to c) c
-intact_zero reading.Other to = refl
+intact_zero : (r : Option Command) (to : Address) → status_byte (message_of r to true) ≡ 0
+intact_zero (Some c) to = taken_zero (is_taken to c) c
+intact_zero None to = refl
 
 spoken_clear : (to : Address) (c : Command) → Shows (spoken to c) 0
 spoken_clear to c Gate = intact_zero (codec_read Gate (code_of c) (own_data c)) to
@@ -210,7 +208,7 @@ module _ (v : ℕ) (to : Address) (c : Command) (ns : List Node) where
     framed : Frames (packet_for to c) to c long
     framed = subst (λ (s : List ℕ). Frames s to c long) (append-nil (packet_for to c)) (built_frames to c range [])
 
-    own : (frame_of (packet_for to c) ≡ Whole to (code_of c) long) × (is_intact (packet_for to c) ≡ true)
+    own : (frame_of (packet_for to c) ≡ whole to (code_of c) long) × (is_intact (packet_for to c) ≡ true)
     own =
         let s = read_says (packet_for to c) to (code_of c) long framed.whole in
         (s.0, ap is_intact (sym (take-length (packet_for to c))) ∙ s.1)

@@ -1,10 +1,11 @@
 -- Demand 3's line, with document 02, requests 4 and 7: what comes to the nodes, what they make of it, what comes back. Nobody else sends on it.
-use Rattle.std.specs.Prelude.{ℕ, zero, suc, Bool, true, cond, List, [], ◌∷◌}
+use Rattle.std.specs.Prelude.{ℕ, zero, suc, Bool, true, cond, List, [], ◌∷◌, Result, Err}
+use Rattle.wire.specs.declared.refusal.Refusal.{Refusal}
+use Rattle.packet.specs.declared.Framed.{Framed}
+use Rattle.packet.specs.Packet.{whole}
 use Rattle.std.proofs.Math.Option.{Option, none, some}
 use Rattle.wire.specs.declared.address.Address.{Address}
 use Rattle.buffer.specs.Change.{Altered, Damaged}
-use Rattle.packet.specs.declared.Framed.{Framed}
-use Rattle.packet.specs.declared.Framed.TheVariants as framed
 use Rattle.status.specs.Status.{judge_of}
 use Rattle.status.specs.declared.Answer.{Answer}
 use Rattle.status.specs.declared.Answer.TheVariants.{Silent}
@@ -49,9 +50,9 @@ pub data Arrives (at : ℕ) (p : List ℕ) : Arrival → Type 0 where
   damaged : {q : List ℕ} {gets : ℕ → Bool} → Damaged p q → Arrives at p (record { at = at; bytes = q; gets = gets })
 
 -- the nodes after the bytes q, as the chain delivers them
-abbrev pub taken_by : ℕ → Framed → List ℕ → List Node → List Node
-taken_by at (framed.Whole to k n) q ns = after at to (messages_as to k q) ns
-taken_by at (framed.Refused why) q ns = ns
+abbrev pub taken_by : ℕ → Result Framed Refusal → List ℕ → List Node → List Node
+taken_by at (whole to k n) q ns = after at to (messages_as to k q) ns
+taken_by at (Err why) q ns = ns
 
 -- a node that gets them is as in the second list, one that misses them as in the first
 abbrev pub parted : (ℕ → Bool) → List Node → List Node → List Node
@@ -73,9 +74,9 @@ abbrev pub said_among : (ℕ → Bool) → ℕ → Address → Messages → List
 said_among gets at to m ns = cond (is_answered m.gate) (said_by m ns (search_of (getting gets (repliers_from at to 0 true ns)))) silence
 
 -- by whoever gets the bytes q
-abbrev pub spoken_by : (ℕ → Bool) → ℕ → Framed → List ℕ → List Node → Said
-spoken_by gets at (framed.Whole to k n) q ns = said_among gets at to (messages_as to k q) ns
-spoken_by gets at (framed.Refused why) q ns = silence
+abbrev pub spoken_by : (ℕ → Bool) → ℕ → Result Framed Refusal → List ℕ → List Node → Said
+spoken_by gets at (whole to k n) q ns = said_among gets at to (messages_as to k q) ns
+spoken_by gets at (Err why) q ns = silence
 
 -- what the nodes say to an arrival
 abbrev pub said_after : Arrival → List Node → Said

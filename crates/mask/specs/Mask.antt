@@ -1,8 +1,8 @@
--- Define Status in the manual of either kind: the bits of a mask, and a status packet read under a mask.
-use Rattle.std.specs.Prelude.{ℕ, suc, ◌+◌, ◌/◌, ◌%◌, ◌^◌, Bool, cond, List, [], ◌∷◌, eqb}
+-- Define (Result ℕ Refusal) in the manual of either kind: the bits of a mask, and a status packet read under a mask.
+use Rattle.std.specs.Prelude.{ℕ, suc, ◌+◌, ◌/◌, ◌%◌, ◌^◌, Bool, cond, List, [], ◌∷◌, eqb, Result}
+use Rattle.wire.specs.declared.refusal.Refusal.{Refusal}
 use Rattle.wire.specs.declared.kind.Kind.{Kind}
 use Rattle.status.specs.Status.{counts, status_read}
-use Rattle.status.specs.declared.Status.{Status}
 
 -- bit k of a mask
 abbrev pub bit : ℕ → ℕ → Bool
@@ -22,5 +22,5 @@ unfoldable pub size_of : Kind → ℕ → ℕ
 size_of k m = 2 + count_from 0 m (counts k)
 
 -- "Reading a status packet under a mask": with as many item bytes as the mask asks for at that kind of node
-unfoldable pub mask_read : Kind → ℕ → List ℕ → Status
+unfoldable pub mask_read : Kind → ℕ → List ℕ → Result ℕ Refusal
 mask_read k m s = status_read s (count_from 0 m (counts k))

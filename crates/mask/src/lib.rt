@@ -4,11 +4,10 @@
 #![tactic(auto)]
 
 ghost use Rattle.std.specs.Prelude.{◌≡◌};
+ghost use Rattle.wire.specs.Numbers.{number_by};
 ghost use Rattle.wire.specs.Promise.{Promise};
-ghost use Rattle.status.specs.Status.{status_number};
 ghost use Rattle.mask.specs.Mask.{asked_count, size_of, mask_read};
 
-use status::Status;
 use wire::Kind;
 
 // The bytes of an item: none where it isn't asked for.
@@ -35,8 +34,8 @@ pub fn size(kind: Kind, mask: u8) -> usize
 }
 
 // One whole status packet under a mask, from a node of that kind. Its items are `status::items_part`.
-pub fn read(kind: Kind, s: &[u8], mask: u8) -> Status
-    ensures { Promise status_number result (mask_read kind mask s.now) }
+pub fn read(kind: Kind, s: &[u8], mask: u8) -> Result<u8, Refusal>
+    ensures { Promise number_by result (mask_read kind mask s.now) }
 {
     status::read(s, size(kind, mask) - 2)
 }

@@ -6,7 +6,7 @@
 ghost use Rattle.std.specs.Prelude.{◌≡◌};
 ghost use Rattle.message.specs.Message.{is_taken, message_by, message_of, is_answered, messages_of, message_to};
 
-use command::{Command, Reading};
+use command::Command;
 use wire::{Address, Kind};
 
 // A packet with a right sum and a command; with a right sum and another command, or one that isn't taken under its address; with a wrong sum.
@@ -28,23 +28,23 @@ fn is_taken(to: Address, c: Command) -> bool
 }
 
 // What a packet with a right sum says.
-fn message_by(reading: Reading, to: Address) -> Message
+fn message_by(reading: Option<Command>, to: Address) -> Message
     ensures { result ≡ message_by reading to }
 {
     match reading {
-        Reading::Known(c) => {
+        Some(c) => {
             if is_taken(to, c) {
                 return Message::Intact(c);
             }
             Message::Other
         }
-        Reading::Other => Message::Other,
+        None => Message::Other,
     }
 }
 
 impl Message {
     // By its reading, the address that it came to, and its sum.
-    pub fn of(reading: Reading, to: Address, intact: bool) -> Message
+    pub fn of(reading: Option<Command>, to: Address, intact: bool) -> Message
         ensures { result ≡ message_of reading to intact }
     {
         if intact {
@@ -74,7 +74,7 @@ pub struct Messages {
 
 impl Messages {
     // By what each kind reads, the address, and the sum.
-    pub fn of(gate: Reading, drive: Reading, to: Address, intact: bool) -> Messages
+    pub fn of(gate: Option<Command>, drive: Option<Command>, to: Address, intact: bool) -> Messages
         ensures { result ≡ messages_of gate drive to intact }
     {
         Messages {

@@ -1,10 +1,11 @@
 -- Packets back to back, gone through one by one: each isn't empty and lies within the list, so that the next begins further on, where it ends.
-use Rattle.std.proofs.Common.{◌≡◌, ℕ, ◌+◌, ◌-◌, ◌^◌, ◌<◌, ◌≤◌, List, length, drop, sym, ap, ◌∙◌, arith, length-drop}
+use Rattle.std.proofs.Common.{◌≡◌, ℕ, ◌+◌, ◌-◌, ◌^◌, ◌<◌, ◌≤◌, List, length, drop, sym, ap, ◌∙◌, arith, length-drop, Result}
+use Rattle.wire.specs.declared.refusal.Refusal.{Refusal}
+use Rattle.packet.specs.declared.Framed.{Framed}
+use Rattle.wire.specs.Numbers.{number_by}
 use Rattle.wire.specs.Promise.{Promise}
 use Rattle.wire.specs.declared.address.Address.{Address}
-use Rattle.packet.specs.Packet.{frame_of, read_of, framed_number}
-use Rattle.packet.specs.declared.Framed.{Framed}
-use Rattle.packet.specs.declared.Framed.TheVariants.{Whole}
+use Rattle.packet.specs.Packet.{frame_of, read_of, whole}
 use Rattle.packet.proofs.Packets.{framing, read_says}
 
 -- some bytes begin with a packet that ends at n
@@ -12,14 +13,14 @@ pub record EndsAt (s : List ℕ) (n : ℕ) : Type 0 where
   pub some : 4 ≤ n
   pub reaches : n ≤ length s
 
-framed_ends : (s : List ℕ) (a : Address) (c n : ℕ) → frame_of s ≡ Whole a c n → EndsAt s n
+framed_ends : (s : List ℕ) (a : Address) (c n : ℕ) → frame_of s ≡ whole a c n → EndsAt s n
 framed_ends s a c n e = let f = framing s a c n e in record { some = omega (arith, f.end); reaches = f.reaches }
 
 -- as `frame` and `read` find it
-pub by_frame : (s : List ℕ) (f : Framed) (a : Address) (c n : ℕ) → Promise framed_number f (frame_of s) → f ≡ Whole a c n → EndsAt s n
+pub by_frame : (s : List ℕ) (f : Result Framed Refusal) (a : Address) (c n : ℕ) → Promise number_by f (frame_of s) → f ≡ whole a c n → EndsAt s n
 by_frame s f a c n p e = framed_ends s a c n (sym p.answer ∙ e)
 
-pub by_read : (s : List ℕ) (f : Framed) (a : Address) (c n : ℕ) → Promise framed_number f (read_of s) → f ≡ Whole a c n → EndsAt s n
+pub by_read : (s : List ℕ) (f : Result Framed Refusal) (a : Address) (c n : ℕ) → Promise number_by f (read_of s) → f ≡ whole a c n → EndsAt s n
 by_read s f a c n p e = framed_ends s a c n (read_says s a c n (sym p.answer ∙ e)).0
 
 -- at a position of the list

@@ -1,29 +1,35 @@
 -- Command packets, whatever follows them: what the builder writes reads back as its parts and ends at its length, up to its end an accepted one is what it writes from its parts,
 -- a damaged one keeps its frame and has a wrong sum.
-use Rattle.std.proofs.Common.{◌≡◌, ℕ, zero, suc, ◌+◌, ◌-◌, ◌/◌, ◌%◌, ◌<◌, ◌≤◌, true, false, not, eqb, ltb, List, [], ◌∷◌, ◌++◌, length, get_or, take, drop, set, sym, refl, ap, ◌∙◌, append_assoc, arith, length-append, length-drop, length-take, length-take-le, get_or-drop, get_or-set_other, get_or-take, take-take, take_at, ltb-false, le-ltb, eq-eqb, eqb-true}
+use Rattle.std.proofs.Common.{◌≡◌, ℕ, zero, suc, ◌+◌, ◌-◌, ◌/◌, ◌%◌, ◌<◌, ◌≤◌, true, false, not, eqb, ltb, List, [], ◌∷◌, ◌++◌, length, get_or, take, drop, set, sym, refl, ap, ◌∙◌, append_assoc, arith, length-append, length-drop, length-take, length-take-le, get_or-drop, get_or-set_other, get_or-take, take-take, take_at, ltb-false, le-ltb, eq-eqb, eqb-true, Result, Ok, Err}
+use Rattle.packet.specs.declared.Framed.{Framed}
 use lib.Seq.{take-append_seam, drop-set-add, take-set-lt}
 use borrow.Author.Tests.{not-false}
 use Rattle.buffer.specs.Sum.{with_sum, ends_in_sum}
 use Rattle.wire.specs.Address.{address_of, byte_of}
-use Rattle.packet.specs.Packet.{command_of, count_of, end_of, parts_of, data_part, frame_of, is_intact, checked, read_of}
+use Rattle.packet.specs.Packet.{command_of, count_of, end_of, parts_of, data_part, frame_of, is_intact, checked, read_of, whole}
 use Rattle.packet.specs.Build.{head_of, packet_of, build_of}
 use Rattle.buffer.specs.Buffer.{at_start, written}
 use Rattle.buffer.specs.Change.{AllBytes, Changed, Damaged}
 use Rattle.wire.specs.declared.address.Address.{Address}
 use Rattle.wire.specs.declared.refusal.Refusal.{Refusal}
 use Rattle.wire.specs.declared.refusal.Refusal.TheVariants.{Short, Header, Sum, Range}
-use Rattle.packet.specs.declared.Framed.{Framed}
-use Rattle.packet.specs.declared.Framed.TheVariants.{Whole, Refused}
 use Rattle.wire.proofs.Choice.{chose_first, chose_second}
 use Rattle.wire.proofs.Impossible.{impossible}
+use Rattle.wire.proofs.Answered.{ok_is}
 use Rattle.wire.proofs.Addresses.{byte_address}
 use Rattle.buffer.proofs.Bytes.{byte_at}
 use Rattle.buffer.proofs.Writing.{written_fits, wrote, wrote_not, written_count, written_wrote}
 use Rattle.buffer.proofs.Sums.{length_with_sum, with_sum_ends, ends_shape, changed_length, changed_breaks}
 
 -- a refusal is no packet
-refused_not : (why : Refusal) (a : Address) (c n : ℕ) → Refused why ≡ Whole a c n → ⊥
+refused_not : (why : Refusal) (a : Address) (c n : ℕ) → Err why ≡ whole a c n → ⊥
 refused_not why a c n e = impossible cc
+
+-- two packets that are one have the same parts
+pub whole_parts : {a a' : Address} {c c' n n' : ℕ} → whole a c n ≡ whole a' c' n' → (a ≡ a') × ((c ≡ c') × (n ≡ n'))
+whole_parts e =
+    let f = ok_is e in
+    (ap (λ (x : Framed). x.address) f, (ap (λ (x : Framed). x.command) f, ap (λ (x : Framed). x.end) f))
 
 -- what the checks but for the sum find of a packet that they pass: at the start of the bytes, whatever follows
 pub record Framing (s : List ℕ) (a : Address) (c n : ℕ) : Type 0 where
@@ -33,24 +39,24 @@ pub record Framing (s : List ℕ) (a : Address) (c n : ℕ) : Type 0 where
   pub end : end_of s ≡ n
   pub reaches : n ≤ length s
 
-pub framing : (s : List ℕ) (a : Address) (c n : ℕ) → frame_of s ≡ Whole a c n → Framing s a c n
+pub framing : (s : List ℕ) (a : Address) (c n : ℕ) → frame_of s ≡ whole a c n → Framing s a c n
 unfolding frame_of
 framing s a c n e =
     let t1 = chose_second (ltb (length s) 1) e (refused_not Short a c n) in
     let t2 = chose_second (not (eqb (get_or s 0 0) 0xAA)) t1.1 (refused_not Header a c n) in
     let t3 = chose_second (ltb (length s) 4) t2.1 (refused_not Short a c n) in
     let t4 = chose_second (ltb (length s) (end_of s)) t3.1 (refused_not Short a c n) in
-    let k : end_of s ≡ n = cc t4.1 in
+    let k = whole_parts t4.1 in
     record {
       header = eqb-true _ _ (not-false _ t2.0);
-      address = cc t4.1;
-      command = cc t4.1;
-      end = k;
+      address = k.0;
+      command = k.1.0;
+      end = k.1.1;
       reaches = omega (arith, ltb-false);
     }
 
 -- "0 to 15 data bytes": no packet has more than 19
-pub most_end : (s : List ℕ) (a : Address) (c n : ℕ) → frame_of s ≡ Whole a c n → get_or s 2 0 < 256 → n ≤ 19
+pub most_end : (s : List ℕ) (a : Address) (c n : ℕ) → frame_of s ≡ whole a c n → get_or s 2 0 < 256 → n ≤ 19
 most_end s a c n e b = omega (arith, (framing s a c n e).end)
 
 -- the checks but for the sum pass
@@ -65,28 +71,27 @@ frames s e h =
     )
 
 -- a packet with a right sum reads as its parts
-reads : (s : List ℕ) (a : Address) (c n : ℕ) → frame_of s ≡ Whole a c n → is_intact (take n s) ≡ true → read_of s ≡ Whole a c n
+reads : (s : List ℕ) (a : Address) (c n : ℕ) → frame_of s ≡ whole a c n → is_intact (take n s) ≡ true → read_of s ≡ whole a c n
 unfolding read_of
 reads s a c n f e = rw (f, e)
 
 -- and with a wrong sum as 4
-reads_not : (s : List ℕ) (a : Address) (c n : ℕ) → frame_of s ≡ Whole a c n → is_intact (take n s) ≡ false → read_of s ≡ Refused Sum
+reads_not : (s : List ℕ) (a : Address) (c n : ℕ) → frame_of s ≡ whole a c n → is_intact (take n s) ≡ false → read_of s ≡ Err Sum
 unfolding read_of
 reads_not s a c n f e = rw (f, e)
 
 -- what reading says of a packet that it accepts
-checked_says : (s : List ℕ) (f : Framed) (a : Address) (c n : ℕ) → checked s f ≡ Whole a c n → (f ≡ Whole a c n) × (is_intact (take n s) ≡ true)
-checked_says s (Whole a' c' n') a c n e =
-    let t = chose_first (is_intact (take n' s)) e (refused_not Sum a c n) in
-    let k : n' ≡ n = cc t.1 in
-    (t.1, rw k at t.0)
-checked_says s (Refused why) a c n e = absurd (refused_not why a c n e)
+checked_says : (s : List ℕ) (f : Result Framed Refusal) (a : Address) (c n : ℕ) → checked s f ≡ whole a c n → (f ≡ whole a c n) × (is_intact (take n s) ≡ true)
+checked_says s (Ok f) a c n e =
+    let t = chose_first (is_intact (take f.end s)) e (refused_not Sum a c n) in
+    (t.1, rw (ap (λ (x : Framed). x.end) (ok_is t.1)) at t.0)
+checked_says s (Err why) a c n e = absurd (refused_not why a c n e)
 
-pub read_says : (s : List ℕ) (a : Address) (c n : ℕ) → read_of s ≡ Whole a c n → (frame_of s ≡ Whole a c n) × (is_intact (take n s) ≡ true)
+pub read_says : (s : List ℕ) (a : Address) (c n : ℕ) → read_of s ≡ whole a c n → (frame_of s ≡ whole a c n) × (is_intact (take n s) ≡ true)
 unfolding read_of
 read_says s a c n e = checked_says s (frame_of s) a c n e
 
-pub read_framing : (s : List ℕ) (a : Address) (c n : ℕ) → read_of s ≡ Whole a c n → Framing s a c n
+pub read_framing : (s : List ℕ) (a : Address) (c n : ℕ) → read_of s ≡ whole a c n → Framing s a c n
 read_framing s a c n e = framing s a c n (read_says s a c n e).0
 
 -- ---- built packets, and more bytes behind them
@@ -102,13 +107,13 @@ module _ (a c : ℕ) (d more : List ℕ) (small : c < 16) where
   built_count : count_of (packet_of a c d ++ more) ≡ length d
   built_count = omega arith
 
-  built_frames : frame_of (packet_of a c d ++ more) ≡ Whole (address_of a) c (4 + length d)
+  built_frames : frame_of (packet_of a c d ++ more) ≡ whole (address_of a) c (4 + length d)
   built_frames =
       let m : head_of c d % 16 ≡ c = omega arith in
       frames (packet_of a c d ++ more) (omega (arith, built_length a c d, built_count, length-append (packet_of a c d) more)) refl ∙ cc built_count
 
   -- a built packet reads back as its parts, and ends at its length
-  pub built_reads : read_of (packet_of a c d ++ more) ≡ Whole (address_of a) c (4 + length d)
+  pub built_reads : read_of (packet_of a c d ++ more) ≡ whole (address_of a) c (4 + length d)
   built_reads =
       let own : take (4 + length d) (packet_of a c d ++ more) ≡ packet_of a c d = take_at (packet_of a c d) more (4 + length d) (built_length a c d) in
       reads (packet_of a c d ++ more) (address_of a) c (4 + length d) built_frames (ap is_intact own ∙ built_intact a c d)
@@ -129,7 +134,7 @@ module _ (a c : ℕ) (d out left : List ℕ) (n : ℕ) (e : build_of a c d out �
   placed : take n left ≡ packet_of a c d
   placed = written_wrote (packet_of a c d) out left n fits.1
 
-  pub written_reads : read_of (take n left ++ more) ≡ Whole (address_of a) c n
+  pub written_reads : read_of (take n left ++ more) ≡ whole (address_of a) c n
   written_reads =
       let k : 4 + length d ≡ n = sym (built_length a c d) ∙ written_count (packet_of a c d) out left n fits.1 in
       rw placed (built_reads a c d more fits.0 ∙ cc k)
@@ -150,14 +155,14 @@ shape (x ∷ y ∷ []) n h = absurd (omega arith)
 shape (x ∷ y ∷ z ∷ r) n h = rw (four n)
 
 -- the data bytes number what the command byte says: with four more they end the packet
-pub data_length : (s : List ℕ) (a : Address) (c n : ℕ) → frame_of s ≡ Whole a c n → 4 + length (data_part s) ≡ n
+pub data_length : (s : List ℕ) (a : Address) (c n : ℕ) → frame_of s ≡ whole a c n → 4 + length (data_part s) ≡ n
 unfolding data_part
 data_length s a c n e =
     let f = framing s a c n e in
     ap (λ (k : ℕ). 4 + k) (length-take-le (count_of s) (drop 3 s) (omega (arith, length-drop 3 s, f.reaches, f.end))) ∙ f.end
 
 -- the bytes up to the end of an accepted packet are the packet built from its parts
-pub accepted_built : (s : List ℕ) (a : Address) (c n : ℕ) → read_of s ≡ Whole a c n → take n s ≡ packet_of (byte_of a) c (data_part s)
+pub accepted_built : (s : List ℕ) (a : Address) (c n : ℕ) → read_of s ≡ whole a c n → take n s ≡ packet_of (byte_of a) c (data_part s)
 unfolding data_part is_intact
 accepted_built s a c n e =
     let t = read_says s a c n e in
@@ -176,7 +181,7 @@ accepted_built s a c n e =
     p ∙ cc (f.header, ap (λ (l : List ℕ). with_sum l) q, ends_shape (get_or s 1 0 ∷ get_or s 2 0 ∷ r) w)
 
 -- and, where it has room, what the builder writes from them
-pub accepted_written : (s : List ℕ) (a : Address) (c n : ℕ) (out : List ℕ) → AllBytes s → read_of s ≡ Whole a c n → n ≤ length out
+pub accepted_written : (s : List ℕ) (a : Address) (c n : ℕ) (out : List ℕ) → AllBytes s → read_of s ≡ whole a c n → n ≤ length out
     → build_of (byte_of a) c (data_part s) out ≡ at_start (take n s) out
 unfolding build_of
 accepted_written s a c n out b e h =
@@ -186,7 +191,7 @@ accepted_written s a c n out b e h =
     rw (le-ltb 15 (length (data_part s)) few, le-ltb 15 c (omega (arith, f.command)), ← (accepted_built s a c n e)) (written_fits (take n s) out (omega arith))
 
 -- so it is read alike whatever follows it
-pub read_followed : (s : List ℕ) (a : Address) (c n : ℕ) → read_of s ≡ Whole a c n → (more : List ℕ) → read_of (take n s ++ more) ≡ Whole a c n
+pub read_followed : (s : List ℕ) (a : Address) (c n : ℕ) → read_of s ≡ whole a c n → (more : List ℕ) → read_of (take n s ++ more) ≡ whole a c n
 read_followed s a c n e more =
     let f = read_framing s a c n e in
     let k : address_of (byte_of a) ≡ a = ap (λ (b : Address). address_of (byte_of b)) (sym f.address) ∙ ap address_of (byte_address (get_or s 1 0)) ∙ f.address in
@@ -194,7 +199,7 @@ read_followed s a c n e more =
     ∙ built_reads (byte_of a) c (data_part s) more (omega (arith, f.command))
     ∙ cc (k, data_length s a c n (read_says s a c n e).0)
 
-pub data_followed : (s : List ℕ) (a : Address) (c n : ℕ) → read_of s ≡ Whole a c n → (more : List ℕ) → data_part (take n s ++ more) ≡ data_part s
+pub data_followed : (s : List ℕ) (a : Address) (c n : ℕ) → read_of s ≡ whole a c n → (more : List ℕ) → data_part (take n s ++ more) ≡ data_part s
 data_followed s a c n e more =
     ap (λ (l : List ℕ). data_part (l ++ more)) (accepted_built s a c n e)
     ∙ built_data (byte_of a) c (data_part s) more (omega (arith, (read_framing s a c n e).command))
@@ -227,12 +232,12 @@ damaged_spoilt p q e d =
     changed_breaks w e
 
 -- a packet that reads, with one of its own bytes changed
-module _ (s t : List ℕ) (a : Address) (c n : ℕ) (e : read_of s ≡ Whole a c n) (d : Damaged s t) (own : d.at < n) where
+module _ (s t : List ℕ) (a : Address) (c n : ℕ) (e : read_of s ≡ whole a c n) (d : Damaged s t) (own : d.at < n) where
   kept : (j : ℕ) → (j ≡ d.at → ⊥) → get_or t j 0 ≡ get_or s j 0
   kept j h = ap (λ (l : List ℕ). get_or l j 0) d.change.result ∙ get_or-set_other s d.at j d.change.value 0 h
 
   -- frame, command and end stay, with the address that is there now
-  pub damaged_frames : frame_of t ≡ Whole (address_of (get_or t 1 0)) c n
+  pub damaged_frames : frame_of t ≡ whole (address_of (get_or t 1 0)) c n
   damaged_frames =
       let f = read_framing s a c n e in
       let g : get_or t 2 0 ≡ get_or s 2 0 = kept 2 (λ y. d.not_command (sym y)) in
@@ -260,5 +265,5 @@ module _ (s t : List ℕ) (a : Address) (c n : ℕ) (e : read_of s ≡ Whole a c
         not_command = d.not_command;
       }
 
-  pub damaged_reads : read_of t ≡ Refused Sum
+  pub damaged_reads : read_of t ≡ Err Sum
   damaged_reads = reads_not t _ c n damaged_frames (damaged_spoilt (take n s) (take n t) (read_says s a c n e).1 within)

@@ -2,15 +2,11 @@
 use Rattle.std.proofs.Common.{◌≡◌, sym, ◌∙◌}
 use Rattle.wire.proofs.OneResult.{OneResult}
 use Rattle.wire.proofs.Parts.{OnePart, one_part_lem}
-use Rattle.packet.proofs.Framed.number.Reads as framed-number
 use Rattle.packet.proofs.frame.Reads as frame
 use Rattle.packet.proofs.is_intact.Reads as is-intact
 use Rattle.packet.proofs.read.Reads as read
 use Rattle.packet.proofs.data_part.Reads as data-part
 use Rattle.packet.proofs.build.Reads as build
-
-pub framed_number_unique : OneResult framed-number.Post
-framed_number_unique κs a r r' s s' p q = p ∙ sym q
 
 pub frame_unique : OneResult frame.Post
 frame_unique κs a r r' s s' p q = p.answer ∙ sym q.answer

@@ -4,68 +4,48 @@
 #![tactic(auto)]
 
 ghost use Rattle.std.specs.Prelude.{◌≡◌, ◌+◌, ◌≤◌, ◌++◌, length, drop};
+ghost use Rattle.wire.specs.Numbers.{number_by};
 ghost use Rattle.wire.specs.Promise.{Promise, Lending};
 ghost use Rattle.wire.specs.Part.{Part};
-ghost use Rattle.packet.specs.Packet.{frame_of, framed_number, is_intact, read_of, data_from, data_part};
-ghost use Rattle.buffer.specs.Buffer.{built_number};
+ghost use Rattle.packet.specs.Packet.{frame_of, is_intact, read_of, data_from, data_part};
 ghost use Rattle.packet.specs.Build.{packet_with, build_of};
 
-use buffer::Built;
 use wire::{Address, Refusal};
 
 // The first byte of every command packet.
 pub const HEADER: u8 = 0xAA;
 
-// What reading a command packet finds: its parts and where it ends, or the refusal; never 3. The data bytes are `data_part`.
+// What reading finds of a command packet: its parts and where it ends. The data bytes are `data_part`.
 #[derive(Clone, Copy)]
-pub enum Framed {
-    Whole {
-        address: Address,
-        command: u8,
-        end: usize,
-    },
-    Refused(Refusal),
+pub struct Framed {
+    pub address: Address,
+    pub command: u8,
+    pub end: usize,
 }
 
-impl Framed {
-    // The paper's number.
-    pub fn number(self) -> u8
-        ensures { result ≡ framed_number self }
-    {
-        match self {
-            Framed::Whole {
-                address: _,
-                command: _,
-                end: _,
-            } => wire::DONE,
-            Framed::Refused(why) => why.number(),
-        }
-    }
-}
-
-// The command packet that some bytes begin with, whatever its sum and whatever follows it: the chain takes a wrong sum too.
-pub fn frame(s: &[u8]) -> Framed
-    ensures { Promise framed_number result (frame_of s.now) }
+// The command packet that some bytes begin with, or why it is none, never 3; whatever its sum and whatever follows it: the chain takes a wrong sum too.
+pub fn frame(s: &[u8]) -> Result<Framed, Refusal>
+    ensures { Promise number_by result (frame_of s.now) }
 {
     if s.len() < 1 {
-        return Framed::Refused(Refusal::Short);
+        return Err(Refusal::Short);
     }
     if s[0] != HEADER {
-        return Framed::Refused(Refusal::Header);
+        return Err(Refusal::Header);
     }
     if s.len() < 4 {
-        return Framed::Refused(Refusal::Short);
+        return Err(Refusal::Short);
     }
     let head = s[2];
     let end = 4 + (head / 16) as usize;
     if s.len() < end {
-        return Framed::Refused(Refusal::Short);
+        return Err(Refusal::Short);
     }
-    Framed::Whole {
+    Ok(Framed {
         address: Address::of(s[1]),
         command: head % 16,
         end,
-    }
+    })
 }
 
 // Whether the sum of a packet, which is all of these bytes, is right: the header isn't in it.
@@ -79,27 +59,14 @@ pub fn is_intact(s: &[u8]) -> bool
 }
 
 // The command packet that some bytes begin with, if its sum is right. The next one begins where it ends.
-pub fn read(s: &[u8]) -> Framed
-    ensures { Promise framed_number result (read_of s.now) }
+pub fn read(s: &[u8]) -> Result<Framed, Refusal>
+    ensures { Promise number_by result (read_of s.now) }
 {
-    match frame(s) {
-        Framed::Whole {
-            address,
-            command,
-            end,
-        } => {
-            if is_intact(&s[..end]) {
-                Framed::Whole {
-                    address,
-                    command,
-                    end,
-                }
-            } else {
-                Framed::Refused(Refusal::Sum)
-            }
-        }
-        Framed::Refused(why) => Framed::Refused(why),
+    let frame = frame(s)?;
+    if !is_intact(&s[..frame.end]) {
+        return Err(Refusal::Sum);
     }
+    Ok(frame)
 }
 
 // The data bytes of a packet, whatever follows it: the part of the input that starts at its fourth byte.
@@ -132,20 +99,20 @@ fn put_packet_with(address: u8, head: u8, bytes: &[u8], out: &mut [u8])
 }
 
 // Builds a command packet at the start of `out`, whose rest stays. Any address byte is taken; 6 comes before 5.
-pub fn build(address: u8, command: u8, bytes: &[u8], out: &mut [u8]) -> Built
-    ensures { Lending built_number result out.new (build_of address command bytes.now out.old) }
+pub fn build(address: u8, command: u8, bytes: &[u8], out: &mut [u8]) -> Result<usize, Refusal>
+    ensures { Lending number_by result out.new (build_of address command bytes.now out.old) }
 {
     let n = bytes.len();
     if 15 < n {
-        return Built::Refused(Refusal::Range);
+        return Err(Refusal::Range);
     }
     if 15 < command {
-        return Built::Refused(Refusal::Range);
+        return Err(Refusal::Range);
     }
     if out.len() < 4 + n {
-        return Built::Refused(Refusal::Room);
+        return Err(Refusal::Room);
     }
     let head = command + (n as u8) * 16;
     put_packet_with(address, head, bytes, out);
-    Built::Bytes(4 + n)
+    Ok(4 + n)
 }

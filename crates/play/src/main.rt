@@ -4,11 +4,8 @@
 
 ghost use Rattle.std.specs.Prelude.{◌≡◌, ◌≤◌, ◌<◌, length};
 
-use buffer::Built;
-use packet::Framed;
 use sheet::Imported;
 use std::io;
-use text::Decimal;
 use wire::MOST_NODES;
 
 // The bench's longest input.
@@ -56,15 +53,15 @@ fn say_fault(rt: &impl Eprint, line: usize) -> io::Result<()> {
 // Whether a line is a node count as the bench takes it.
 fn is_count(line: &[u8]) -> bool {
     match text::read_decimal(line) {
-        Decimal::Value(n) => (0 < n) & (n as usize <= MOST_NODES),
-        Decimal::Malformed => false,
+        Some(n) => (0 < n) & (n as usize <= MOST_NODES),
+        None => false,
     }
 }
 
 // A packet's line, from `at` on. The longest packet has 19 bytes.
 fn put_line(script: &mut [u8], at: usize, packet: &[u8]) {
     let mut line = [0; 3 * 19];
-    if let Built::Bytes(n) = hexadecimal::write_line(packet, &mut line) {
+    if let Ok(n) = hexadecimal::write_line(packet, &mut line) {
         buffer::put(script, at, text::first(&line, n));
     }
 }
@@ -76,7 +73,7 @@ fn put_next(script: &mut [u8], count: &[u8], packets: &[u8], at: usize) -> usize
 {
     let tail = text::rest(packets, at);
     match packet::frame(tail) {
-        Framed::Whole {
+        whole {
             address: _,
             command: _,
             end,
@@ -85,7 +82,7 @@ fn put_next(script: &mut [u8], count: &[u8], packets: &[u8], at: usize) -> usize
             at + end
         }
         // It never comes to this: what was imported are packets.
-        Framed::Refused(_) => packets.len(),
+        Err(_) => packets.len(),
     }
 }
 
@@ -110,9 +107,9 @@ fn rehearse(rt: &(impl Print + Eprint), count: &[u8], packets: &[u8]) -> io::Res
     let mut output = output_room();
     let end = put_script(&mut script, count, packets);
     match script::rehearse(text::first(&script, end), &mut output) {
-        Built::Bytes(n) => rt.write_all(text::first(&output, n)),
+        Ok(n) => rt.write_all(text::first(&output, n)),
         // It never comes to this: the output has room.
-        Built::Refused(_) => Ok(()),
+        Err(_) => Ok(()),
     }
 }
 

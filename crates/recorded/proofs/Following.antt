@@ -1,5 +1,6 @@
 -- The walk goes by lines and bytes alone; with no exchange open, and so after a report, silence has no effect.
 use Prim.Native.Nat.{ℕ}
+use Rattle.std.specs.Prelude.{Option, Some}
 use mathlib.Core.Bool.{Bool, true, false, cond}
 use mathlib.Core.List.{List, [], ◌∷◌, ◌++◌, map, map-append, append-nil, append_assoc}
 use mathlib.Core.Path.{◌≡◌, refl, sym, ap, ◌∙◌}
@@ -15,8 +16,6 @@ use Rattle.reports.proofs.Concluding.{concluded_idle}
 use Rattle.calls.specs.Calls.{Gives, session_after}
 use Rattle.calls.specs.Finding.{by_source, find_of}
 use Rattle.calls.specs.declared.Call.{Call}
-use Rattle.calls.specs.declared.Source.{Source}
-use Rattle.calls.specs.declared.Source.TheVariants.{Found}
 use Rattle.calls.proofs.Finding.{found_again}
 use Rattle.capture.specs.Steps.{Recorded, sent, got}
 use Rattle.capture.specs.Traces.{Traced, commanded, replied, traced_of}
@@ -92,7 +91,7 @@ leads_end {s} {t} {xs} f ps e =
     sym (timeless_follows s ps) ∙ ap (λ (l : List Traced). follow_of s (map timeless l)) e ∙ ap (follow_of s) (sym (append-nil (map timeless xs))) ∙ f.then []
 
 -- a call's packet leads to the session after it, once a command that waited is silent
-found_by_lem : (x : Source) (c : Call) (y z : Replayed) → x ≡ Found c → by_source x y z ≡ y
+found_by_lem : (x : Option Call) (c : Call) (y z : Replayed) → x ≡ Some c → by_source x y z ≡ y
 found_by_lem x c y z e = rw e
 
 pub call_leads : (s h : Session) (c : Call) (p : List ℕ) (g : Gives h c p) → quiet_of s ≡ h → Leads s (commanded p ∷ []) (session_after g)

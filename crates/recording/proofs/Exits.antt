@@ -1,5 +1,6 @@
 -- A law for each exit of the functions without a loop.
 use Prim.Native.Nat.{ℕ}
+use Rattle.std.specs.Prelude.{Some, None}
 use mathlib.Core.Bool.{true, false}
 use mathlib.Core.List.{List}
 use mathlib.Core.Path.{◌≡◌, sym, ap, ◌∙◌}
@@ -17,7 +18,6 @@ use Rattle.start.specs.Start.{fresh_of, start_power_up}
 use Rattle.reports.specs.Report.{silence_of, report_of}
 use Rattle.calls.specs.declared.Call.{Call}
 use Rattle.calls.specs.declared.Sought.{Sought}
-use Rattle.calls.specs.declared.Source.TheVariants.{Found, Missing}
 use Rattle.calls.specs.Finding.{find_of}
 use Rattle.capture.specs.Checks.{check_of, checked_number}
 use Rattle.capture.specs.Steps.{capture_step}
@@ -63,11 +63,11 @@ unfolding quiet_of
 quieted s r h = rw h.answer
 
 module _ (s : Session) (p : List ℕ) (next : Cursor) (q : Session) (x : Sought) (m : Moved) (e : q ≡ quiet_of s) (h : x ≡ find_of q p) where
-  pub took_call : (k : Call) → x.source ≡ Found k → m ≡ move_to (event.Sent k) next false x.session → m ≡ take_command s p next
+  pub took_call : (k : Call) → x.source ≡ Some k → m ≡ move_to (event.Sent k) next false x.session → m ≡ take_command s p next
   unfolding take_command
   took_call k f g = rw (← e, ← h, f) g
 
-  pub took_none : x.source ≡ Missing → m ≡ move_to event.Foreign next true q → m ≡ take_command s p next
+  pub took_none : x.source ≡ None → m ≡ move_to event.Foreign next true q → m ≡ take_command s p next
   unfolding take_command
   took_none f g = rw (← e, ← h, f) g
 

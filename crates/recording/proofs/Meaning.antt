@@ -1,6 +1,7 @@
 -- What a step says, in document 02's words: a command is a call that the host could have made, or there is none; a reply that no command waits for has no effect;
 -- whatever a walk ends with, no exchange is open.
 use Prim.Native.Nat.{ℕ}
+use Rattle.std.specs.Prelude.{Option, Some, None}
 use mathlib.Core.Bool.{Bool, true, false, cond}
 use mathlib.Core.List.{List, [], ◌∷◌}
 use mathlib.Core.Path.{◌≡◌, refl, sym, ap, subst, ◌∙◌}
@@ -25,8 +26,6 @@ use Rattle.reports.specs.Report.{finish_by, finish_of, report_of}
 use Rattle.reports.proofs.Concluding.{concluded_idle}
 use Rattle.reports.proofs.Validity.{report_stays}
 use Rattle.calls.specs.declared.Call.{Call}
-use Rattle.calls.specs.declared.Source.{Source}
-use Rattle.calls.specs.declared.Source.TheVariants.{Found, Missing}
 use Rattle.calls.specs.Calls.{Gives, Unsendable}
 use Rattle.calls.specs.Finding.{by_source, find_of}
 use Rattle.calls.proofs.Rates.{rate_unsendable}
@@ -39,9 +38,9 @@ use Rattle.recording.specs.Recording.{quiet_of, follow_of}
 use Rattle.recording.specs.Stages.{command_by, reply_by, take_command, take_reply}
 
 module _ (s : Session) (p : List ℕ) (next : Cursor) where
-  sent_found : (x : Source) (q t : Session) (k : Call) → (command_by x next q t).event ≡ event.Sent k → (x ≡ Found k) × ((command_by x next q t).stage.session ≡ t)
-  sent_found (Found c) q t k e = (ap Found (cc), refl)
-  sent_found Missing q t k e = impossible cc
+  sent_found : (x : Option Call) (q t : Session) (k : Call) → (command_by x next q t).event ≡ event.Sent k → (x ≡ Some k) × ((command_by x next q t).stage.session ≡ t)
+  sent_found (Some c) q t k e = (ap Some (cc), refl)
+  sent_found None q t k e = impossible cc
 
   -- a command that is sent is one that this call of the host gives, with the command before it silent, and the session is the one after that call
   pub sent_gives : (k : Call) → (take_command s p next).event ≡ event.Sent k → Made (quiet_of s) k p (take_command s p next).stage.session
@@ -50,9 +49,9 @@ module _ (s : Session) (p : List ℕ) (next : Cursor) where
       let f = sent_found (find_of (quiet_of s) p).source (quiet_of s) (find_of (quiet_of s) p).session k e in
       subst (Made (quiet_of s) k p) (sym f.1) (found_gives (quiet_of s) p k f.0)
 
-  foreign_missing : (x : Source) (q t : Session) → (command_by x next q t).event ≡ event.Foreign → (x ≡ Missing) × ((command_by x next q t).stage.session ≡ q)
-  foreign_missing (Found c) q t e = impossible cc
-  foreign_missing Missing q t e = (refl, refl)
+  foreign_missing : (x : Option Call) (q t : Session) → (command_by x next q t).event ≡ event.Foreign → (x ≡ None) × ((command_by x next q t).stage.session ≡ q)
+  foreign_missing (Some c) q t e = impossible cc
+  foreign_missing None q t e = (refl, refl)
 
   -- "a command the host couldn't have sent": no call of the host gives it in that session, which is the one at the end
   pub foreign_unsendable : (take_command s p next).event ≡ event.Foreign → Unsendable (take_command s p next).stage.session p
@@ -73,9 +72,9 @@ module _ (s : Session) (p : List ℕ) (next : Cursor) where
   unfolding take_command
   rate_ends a v n r = go (find_of (quiet_of s) p).source refl
     where
-      go : (x : Source) → (find_of (quiet_of s) p).source ≡ x → (command_by x next (quiet_of s) (find_of (quiet_of s) p).session).event ≡ event.Foreign
-      go (Found k) e = absurd (rate_unsendable (quiet_of s) p a v n r k (found_gives (quiet_of s) p k e).gives)
-      go Missing e = refl
+      go : (x : Option Call) → (find_of (quiet_of s) p).source ≡ x → (command_by x next (quiet_of s) (find_of (quiet_of s) p).session).event ≡ event.Foreign
+      go (Some k) e = absurd (rate_unsendable (quiet_of s) p a v n r k (found_gives (quiet_of s) p k e).gives)
+      go None e = refl
 
   unawaited_by : (x : End) (t : Session) → (reply_by x next t).event ≡ event.Unawaited → (end_number x ≡ done → ⊥) × ((reply_by x next t).stage.session ≡ t)
   unawaited_by end.Done t e = impossible cc
@@ -109,9 +108,9 @@ pub quiet_free : (s : Session) → is_waiting (quiet_of s) ≡ false
 unfolding quiet_of finish_of
 quiet_free s = quiet_by (is_closed s) s refl
 
-by_call : (x : Source) (y z : Replayed) → is_waiting y.session ≡ false → is_waiting z.session ≡ false → is_waiting (by_source x y z).session ≡ false
-by_call (Found k) y z e f = e
-by_call Missing y z e f = f
+by_call : (x : Option Call) (y z : Replayed) → is_waiting y.session ≡ false → is_waiting z.session ≡ false → is_waiting (by_source x y z).session ≡ false
+by_call (Some k) y z e f = e
+by_call None y z e f = f
 
 -- however the walk ends
 pub follow_free : (s : Session) (ps : List Recorded) → is_waiting (follow_of s ps).session ≡ false

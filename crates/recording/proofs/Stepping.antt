@@ -1,5 +1,6 @@
 -- A walk step by step: each step but the last leaves fewer bytes, and all of them come to what the whole walk gives. For callers that go by `advance`, and for the loop of `follow`.
 use Prim.Native.Nat.{ℕ, ◌<◌}
+use Rattle.std.specs.Prelude.{Option, Some, None}
 use mathlib.Core.Bool.{Bool, true, false, cond, true≢false}
 use mathlib.Core.List.{List}
 use mathlib.Core.Path.{◌≡◌, refl, sym, ap, subst, ◌∙◌}
@@ -11,8 +12,6 @@ use Rattle.session.specs.declared.End.{End}
 use Rattle.session.specs.declared.End.TheVariants as end
 use Rattle.reports.specs.Report.{report_of}
 use Rattle.calls.specs.declared.Call.{Call}
-use Rattle.calls.specs.declared.Source.{Source}
-use Rattle.calls.specs.declared.Source.TheVariants.{Found, Missing}
 use Rattle.calls.specs.Finding.{by_source, find_of}
 use Rattle.capture.specs.Steps.{outset, left_at, packet_from, capture_step, bytes_left}
 use Rattle.capture.specs.declared.Checked.{Checked}
@@ -39,9 +38,9 @@ module _ (cts rts : List ℕ) (at : Cursor) where
   abbrev Down : Moved → Type 0
   Down m = m.stage.over ≡ false → bytes_left cts rts m.stage.at < bytes_left cts rts at
 
-  command_down : (x : Source) (next : Cursor) (q t : Session) → bytes_left cts rts next < bytes_left cts rts at → Down (command_by x next q t)
-  command_down (Found c) next q t d o = d
-  command_down Missing next q t d o = absurd (true≢false o)
+  command_down : (x : Option Call) (next : Cursor) (q t : Session) → bytes_left cts rts next < bytes_left cts rts at → Down (command_by x next q t)
+  command_down (Some c) next q t d o = d
+  command_down None next q t d o = absurd (true≢false o)
 
   reply_down : (x : End) (next : Cursor) (t : Session) → bytes_left cts rts next < bytes_left cts rts at → Down (reply_by x next t)
   reply_down end.Done next t d o = d
@@ -86,11 +85,11 @@ abbrev DoneBy : List ℕ → List ℕ → List ℕ → List ℕ → Session → 
 DoneBy cs cts rs rts s at m = Done cs cts rs rts s at m.stage m.event
 
 module _ (cs cts rs rts : List ℕ) (s : Session) (at : Cursor) (h : length cts ≡ length cs) (k : length rts ≡ length rs) where
-  by_source_lem : (x : Source) (next : Cursor) (q t : Session)
+  by_source_lem : (x : Option Call) (next : Cursor) (q t : Session)
       → follow_of s (left_at cs cts rs rts at) ≡ by_source x (follow_of t (left_at cs cts rs rts next)) (record { ending = ending.Foreign; session = q })
       → DoneBy cs cts rs rts s at (command_by x next q t)
-  by_source_lem (Found c) next q t e = record { on = refl; same = e }
-  by_source_lem Missing next q t e = record { over = refl; same = e }
+  by_source_lem (Some c) next q t e = record { on = refl; same = e }
+  by_source_lem None next q t e = record { over = refl; same = e }
 
   by_reply : (x : End) (next : Cursor) (t : Session) → follow_of s (left_at cs cts rs rts at) ≡ follow_of t (left_at cs cts rs rts next)
       → DoneBy cs cts rs rts s at (reply_by x next t)

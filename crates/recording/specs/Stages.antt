@@ -1,5 +1,6 @@
 -- Document 02, 3: one step of a walk. What it is part of, the whole walk, is in Recording.
-use Rattle.std.specs.Prelude.{ℕ, Bool, true, false, cond, List}
+use Rattle.std.specs.Prelude.{ℕ, Bool, true, false, cond, List, Option, Some, None}
+use Rattle.calls.specs.declared.Call.{Call}
 use Rattle.wire.specs.declared.kind.Kind.{Kind}
 use Rattle.session.specs.declared.Session.{Session}
 use Rattle.session.specs.declared.End.{End}
@@ -7,8 +8,6 @@ use Rattle.session.specs.declared.End.TheVariants as end
 use Rattle.start.specs.Start.{fresh_of}
 use Rattle.reports.specs.Report.{report_of}
 use Rattle.calls.specs.Finding.{find_of}
-use Rattle.calls.specs.declared.Source.{Source}
-use Rattle.calls.specs.declared.Source.TheVariants.{Found, Missing}
 use Rattle.capture.specs.Checks.{checked_number}
 use Rattle.capture.specs.Steps.{outset, packet_from, capture_step}
 use Rattle.capture.specs.declared.Cursor.{Cursor}
@@ -29,9 +28,9 @@ abbrev pub move_to : Event → Cursor → Bool → Session → Moved
 move_to e at over s = record { event = e; stage = record { at = at; over = over; session = s } }
 
 -- a command is the call that gives it; where there is none, it "ends the walk and says so"
-abbrev pub command_by : Source → Cursor → Session → Session → Moved
-command_by (Found c) next before after = move_to (Sent c) next false after
-command_by Missing next before after = move_to Foreign next true before
+abbrev pub command_by : Option Call → Cursor → Session → Session → Moved
+command_by (Some c) next before after = move_to (Sent c) next false after
+command_by None next before after = move_to Foreign next true before
 
 -- after the silence of the one before it
 unfoldable pub take_command : Session → List ℕ → Cursor → Moved

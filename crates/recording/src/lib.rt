@@ -10,7 +10,7 @@ ghost use Rattle.capture.specs.Steps.{outset, left_at};
 ghost use Rattle.recording.specs.Recording.{quiet_of, count_check, recording_check, power_of, ending_number, replayed_number, follow_of, replay_of};
 ghost use Rattle.recording.specs.Stages.{move_to, take_command, take_reply, take_end, advance_of, begin_at, begun_number, begin_of};
 
-use calls::{Call, Source};
+use calls::Call;
 use capture::{Checked, Cursor, Stepped};
 use session::{End, Session};
 use wire::{Kind, MOST_NODES, Refusal};
@@ -148,8 +148,8 @@ fn take_command(s: Session, bytes: &[u8], next: Cursor) -> Moved
     let sought = calls::find(before, bytes);
     let source = sought.source;
     match source {
-        Source::Found(call) => move_to(Event::Sent(call), next, false, sought.session),
-        Source::Missing => move_to(Event::Foreign, next, true, before),
+        Some(call) => move_to(Event::Sent(call), next, false, sought.session),
+        None => move_to(Event::Foreign, next, true, before),
     }
 }
 

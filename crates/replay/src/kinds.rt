@@ -1,18 +1,18 @@
 // The first line of a recording: the number of nodes, alone or with the kind of each.
 use crate::runs::first_word;
-use text::{Decimal, is_same};
+use text::is_same;
 use wire::{Kind, MOST_NODES};
 
 // The node count that a word is; 0 where it is none.
 fn node_count(word: &[u8]) -> u8 {
     match text::read_decimal(word) {
-        Decimal::Value(n) => {
+        Some(n) => {
             if MOST_NODES < n as usize {
                 return 0;
             }
             n
         }
-        Decimal::Malformed => 0,
+        None => 0,
     }
 }
 

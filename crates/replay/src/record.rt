@@ -6,7 +6,7 @@ use crate::values::put_place;
 use crate::writing::{put, put_byte, put_decimal};
 use command::Place;
 use entry::Entry;
-use session::{Session, Shown};
+use session::Session;
 use std::io;
 use wire::{Individual, Kind};
 
@@ -102,9 +102,9 @@ fn put_node_name(rt: &impl Print, node: u8) -> io::Result<()> {
 // A node's entry.
 fn entry_of(s: Session, node: u8) -> Entry {
     match session::look(s, Individual(node)) {
-        Shown::Found(e) => e,
+        Ok(e) => e,
         // It never comes to this: the nodes are counted to n.
-        Shown::Refused(_) => Entry::power_up(Kind::Gate),
+        Err(_) => Entry::power_up(Kind::Gate),
     }
 }
 

@@ -3,7 +3,7 @@ ghost use Rattle.std.specs.Prelude.{◌≡◌, ◌≤◌, length};
 ghost use Rattle.text.specs.Digits.{value_of};
 ghost use Rattle.replay.specs.Times.{read_digits, read_time};
 
-use hexadecimal::{Parsed, SPACE};
+use hexadecimal::SPACE;
 
 // How a run of either line begins.
 pub(crate) const COMMAND: u8 = b'>';
@@ -132,8 +132,8 @@ fn is_bytes(s: &[u8]) -> bool {
     }
     let mut none = [0; 1];
     match hexadecimal::read_bytes(s, &mut none) {
-        Parsed::Bytes(_) => true,
-        Parsed::Malformed => false,
+        Some(_) => true,
+        None => false,
     }
 }
 

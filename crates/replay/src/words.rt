@@ -3,7 +3,7 @@ use crate::values::{put_gains, put_held, put_place, put_position, put_pwm};
 use crate::writing::{put, put_byte, put_decimal, put_long, put_with_byte, put_with_word};
 use calls::{Call, Spoken};
 use command::{Command, Loads, Motion, Role, Stop};
-use session::{Session, Shown};
+use session::Session;
 use status::Answer;
 use std::io;
 use wire::{Address, Individual, Kind, Refusal};
@@ -148,8 +148,8 @@ pub(crate) fn kind_of_foreign(s: Session, bytes: &[u8]) -> Kind {
         return Kind::Gate;
     }
     match session::look(s, Individual(bytes[1])) {
-        Shown::Found(e) => e.kind,
-        Shown::Refused(_) => kind_elsewhere(bytes),
+        Ok(e) => e.kind,
+        Err(_) => kind_elsewhere(bytes),
     }
 }
 

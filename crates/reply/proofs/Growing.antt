@@ -1,10 +1,10 @@
 -- A status packet that grows in place: an item written by a loop, one item behind another, and the packet that stands there in the end.
-use Rattle.std.proofs.Common.{◌≡◌, ℕ, suc, ◌+◌, ◌-◌, ◌/◌, ◌%◌, ◌^◌, ◌<◌, ◌≤◌, Bool, true, false, eqb, List, [], ◌∷◌, ◌++◌, length, get_or, drop, set, sym, refl, ap, ◌∙◌, add-zero, add-one, arith, length-append, length-set, drop_of_length-le, drop-cons, get_or-set_same, set-set}
+use Rattle.std.proofs.Common.{◌≡◌, ℕ, suc, ◌+◌, ◌-◌, ◌/◌, ◌%◌, ◌^◌, ◌<◌, ◌≤◌, Bool, true, false, eqb, List, [], ◌∷◌, ◌++◌, length, get_or, drop, set, sym, refl, ap, ◌∙◌, add-zero, add-one, arith, length-append, length-set, drop_of_length-le, drop-cons, get_or-set_same, set-set, Ok}
+use Rattle.wire.specs.Numbers.{number_by}
 use lib.Seq.{sets, length-sets, set-get_or}
 use Rattle.wire.specs.Promise.{Outcome, Lending}
 use Rattle.buffer.specs.Sum.{total}
-use Rattle.buffer.specs.Buffer.{built_number, written}
-use Rattle.buffer.specs.declared.Built.TheVariants.{Bytes}
+use Rattle.buffer.specs.Buffer.{written}
 use Rattle.buffer.proofs.Writing.{sets_start, has_room_lem}
 use Rattle.status.specs.Status.{status_packet}
 use Rattle.status.proofs.Replies.{status_length}
@@ -156,7 +156,7 @@ module _ (b : ℕ) (out o : List ℕ) (at : ℕ) (s : record { answer = at; left
     grown_size = omega (arith, begun_at, g.behind, status_length b d)
 
     -- and is it
-    pub grown_whole : b < 256 → 2 + length d ≤ length out → Lending built_number (Bytes (r + 1)) left (written (status_packet b d) out)
+    pub grown_whole : b < 256 → 2 + length d ≤ length out → Lending number_by (Ok (r + 1)) left (written (status_packet b d) out)
     grown_whole h k =
         let n = status_length b d in
         let e : (0 + b) % 256 ≡ b = omega arith in

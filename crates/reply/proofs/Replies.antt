@@ -1,5 +1,5 @@
 -- What a reply is: its length, how the host judges it, that it reads back under its mask as its items, and what the builder writes.
-use Rattle.std.proofs.Common.{◌≡◌, ℕ, ◌≤◌, false, List, length, take, sym, refl, ap, ◌∙◌}
+use Rattle.std.proofs.Common.{◌≡◌, ℕ, ◌≤◌, false, List, length, take, sym, refl, ap, ◌∙◌, Ok}
 use Rattle.wire.specs.Kind.{is_gate}
 use Rattle.wire.specs.declared.kind.Kind.{Kind}
 use Rattle.wire.proofs.Choice.{same}
@@ -7,7 +7,6 @@ use Rattle.buffer.specs.Buffer.{at_start, written}
 use Rattle.buffer.specs.Change.{Altered}
 use Rattle.buffer.proofs.Writing.{wrote, written_wrote, written_fits}
 use Rattle.status.specs.Status.{counts, status_read, items_part, cleared, judge_of}
-use Rattle.status.specs.declared.Status.TheVariants.{Whole}
 use Rattle.status.specs.declared.Answer.TheVariants.{Clear, Marked, Silent}
 use Rattle.status.proofs.Replies.{status_length, packet_reads, packet_items, accepted_packet, judged_packet, judged_altered}
 use Rattle.command.specs.declared.Command.{Command}
@@ -56,7 +55,7 @@ altered_silent h n t a = judged_altered (status_byte h) (reply_items (mask_for h
 -- ---- read back under the mask
 
 -- as a whole status packet, with the status byte that was sent
-pub reply_reads : (h : Message) (n : Node) → mask_read n.kind (mask_for h n) (reply_of h n) ≡ Whole (status_byte h)
+pub reply_reads : (h : Message) (n : Node) → mask_read n.kind (mask_for h n) (reply_of h n) ≡ Ok (status_byte h)
 unfolding reply_of mask_read
 reply_reads h n =
     let m : ℕ = mask_for h n in
@@ -76,14 +75,14 @@ module _ (h : Message) (n : Node) (out left : List ℕ) (k : ℕ) (e : written (
   placed : take k left ≡ reply_of h n
   placed = written_wrote (reply_of h n) out left k e
 
-  pub written_reads : mask_read n.kind (mask_for h n) (take k left) ≡ Whole (status_byte h)
+  pub written_reads : mask_read n.kind (mask_for h n) (take k left) ≡ Ok (status_byte h)
   written_reads = rw placed (reply_reads h n)
 
   pub written_items : items_part (take k left) ≡ reply_items (mask_for h n) (shown_of (take_of h n))
   written_items = rw placed (reply_items_lem h n)
 
 -- and an accepted status packet is the one that it writes, where it has room, for a node and a packet with these parts
-pub accepted_written : (h : Message) (n : Node) (s out : List ℕ) (k : ℕ) → status_read s k ≡ Whole (status_byte h) → items_part s ≡ reply_items (mask_for h n) (shown_of (take_of h n))
+pub accepted_written : (h : Message) (n : Node) (s out : List ℕ) (k : ℕ) → status_read s k ≡ Ok (status_byte h) → items_part s ≡ reply_items (mask_for h n) (shown_of (take_of h n))
     → length s ≤ length out → written (reply_of h n) out ≡ at_start s out
 unfolding reply_of
 accepted_written h n s out k e f l =

@@ -5,14 +5,14 @@
 #![tactic(auto)]
 
 ghost use Rattle.std.specs.Prelude.{◌≡◌, ◌+◌, ◌<◌, ◌≤◌, length};
+ghost use Rattle.wire.specs.Numbers.{number_by};
 ghost use Rattle.wire.specs.Promise.{Lending};
 ghost use Rattle.buffer.specs.Wide.{word_of};
-ghost use Rattle.buffer.specs.Buffer.{built_number, written};
+ghost use Rattle.buffer.specs.Buffer.{written};
 ghost use Rattle.reply.specs.Items.{bytes_of, gate_values, drive_values, values_of, item_of, reply_items};
 ghost use Rattle.reply.specs.Grown.{has_room, reply_begin, Grown};
 ghost use Rattle.reply.specs.Reply.{own_mask, mask_of, status_byte, reply_of};
 
-use buffer::Built;
 use command::Role;
 use message::Message;
 use node::{Node, Shown};
@@ -172,15 +172,15 @@ fn put_items(x: Shown, mask: u8, out: &mut [u8], end: usize) -> usize
 
 // The reply of a node, as it stands before the packet, at the start of `out`, whose rest stays; 5 where it has no room, which the mask tells before a byte is written.
 // The node that has acted is not made for it: what a reply shows of it is little, and the rest would have to be copied.
-pub fn reply(n: Node, message: Message, out: &mut [u8]) -> Built
-    ensures { Lending built_number result out.new (written (reply_of message n) out.old) }
+pub fn reply(n: Node, message: Message, out: &mut [u8]) -> Result<usize, Refusal>
+    ensures { Lending number_by result out.new (written (reply_of message n) out.old) }
 {
     let kind = n.kind;
     let mask = mask_of(message, n.mask_after(message));
     if !has_room(kind, mask, out.len()) {
-        return Built::Refused(Refusal::Room);
+        return Err(Refusal::Room);
     }
     let begun = begin(out, status_byte(message));
     let end = put_items(n.shown(message), mask, out, begun);
-    Built::Bytes(end + 1)
+    Ok(end + 1)
 }

@@ -1,5 +1,6 @@
 -- The output is never longer than ten times 64 KiB, so that in this room no rehearsal is refused; and 5 leaves the output as it stood.
 use Prim.Native.Nat.{ℕ, suc, ◌+◌, ◌*◌, ◌≤◌, ◌<◌}
+use Rattle.std.specs.Prelude.{Option, Some, None, ℕ}
 use mathlib.Core.Bool.{Bool, true, false, cond}
 use mathlib.Core.List.{List, [], ◌∷◌}
 use mathlib.Core.Path.{◌≡◌, refl}
@@ -14,8 +15,6 @@ use Rattle.wire.specs.declared.refusal.Refusal.TheVariants.{Range}
 use Rattle.text.specs.Lines.{newline, lines_of, grown}
 use Rattle.text.specs.Digits.{decimal_of, read_decimal}
 use Rattle.hexadecimal.specs.Hex.{hex_text, Content, bytes, malformed, bytes_in}
-use Rattle.text.specs.declared.digits.Decimal.{Decimal}
-use Rattle.text.specs.declared.digits.Decimal.TheVariants.{Value, Malformed}
 use Rattle.hexadecimal.proofs.Puts.{length_line}
 use Rattle.hexadecimal.proofs.Meaning.{read_written}
 use Rattle.status.specs.Status.{most_reply}
@@ -111,9 +110,9 @@ count_short n ls h = go (ltb n 1) (ltb most_nodes n)
     go false true = omega (arith, wrong_short)
     go false false = omega (arith, played_short (start_of n) ls)
 
-decimal_short : (q : Decimal) (ls : List (List ℕ)) → total ls ≤ 65536 → length (on_decimal q ls) ≤ most
-decimal_short (Value n) ls h = count_short n ls h
-decimal_short Malformed ls h = omega (arith, wrong_short)
+decimal_short : (q : Option ℕ) (ls : List (List ℕ)) → total ls ≤ 65536 → length (on_decimal q ls) ≤ most
+decimal_short (Some n) ls h = count_short n ls h
+decimal_short None ls h = omega (arith, wrong_short)
 
 lines_short : (ls : List (List ℕ)) → total ls ≤ 65537 → length (on_lines ls) ≤ most
 lines_short [] h = omega (arith, wrong_short)

@@ -1,5 +1,6 @@
 -- One line, and all lines, as the code plays them.
 use Prim.Native.Nat.{ℕ, ◌+◌, ◌*◌, ◌≤◌, ◌<◌}
+use Rattle.std.specs.Prelude.{Option, Some, None, ℕ}
 use mathlib.Core.List.{List}
 use mathlib.Core.Path.{◌≡◌, refl, sym, ap, ◌∙◌, subst}
 use native.Mathlib.Omega.{arith}
@@ -11,8 +12,6 @@ use Rattle.buffer.specs.Change.{AllBytes}
 use Rattle.buffer.proofs.Bytes.{byte_at}
 use Rattle.text.specs.Lines.{first_line, lines_of}
 use Rattle.hexadecimal.specs.Hex.{Content, bytes, malformed, bytes_in, over, read_bytes, parsed_number}
-use Rattle.hexadecimal.specs.declared.pairs.Parsed.{Parsed}
-use Rattle.hexadecimal.specs.declared.pairs.Parsed.TheVariants.{Bytes, Malformed}
 use Rattle.text.proofs.Parts.{lines_next}
 use Rattle.hexadecimal.proofs.Meaning.{read_written}
 use Rattle.status.specs.Status.{most_reply}
@@ -45,20 +44,20 @@ pub send_done : (d : Delivered) (b : List ℕ) (o : Outcome Delivered (List ℕ)
 send_done d b o at p l m e f =
     record { table = ap (λ (x : Delivered). x.table) e.answer; line = rw (← e.answer, ← e.leaves) f }
 
-module _ (t : Table) (l b : List ℕ) (found : Parsed) (e : Lending parsed_number found b (read_bytes (bytes_in l) (replicate 20 0))) (at : ℕ) (o m : List ℕ) (r : Step) where
-  pub play_bad : found ≡ Malformed → Played (refuse_step t) at o r m → Played (play_of t l) at o r m
+module _ (t : Table) (l b : List ℕ) (found : Option ℕ) (e : Lending parsed_number found b (read_bytes (bytes_in l) (replicate 20 0))) (at : ℕ) (o m : List ℕ) (r : Step) where
+  pub play_bad : found ≡ None → Played (refuse_step t) at o r m → Played (play_of t l) at o r m
   unfolding play_of
   play_bad g f = go (bytes_in l) (sym g ∙ e.answer)
     where
-      go : (q : Content) → Malformed ≡ (read_bytes q (replicate 20 0)).answer → Played (on_content t q) at o r m
+      go : (q : Content) → None ≡ (read_bytes q (replicate 20 0)).answer → Played (on_content t q) at o r m
       go malformed e = f
       go (bytes p) e = impossible cc
 
-  pub play_good : (n : ℕ) (d : List ℕ) → found ≡ Bytes n → d ≡ take n b → Played (answer_step (table_deliver t divisor_up d (replicate most_reply 0))) at o r m → Played (play_of t l) at o r m
+  pub play_good : (n : ℕ) (d : List ℕ) → found ≡ Some n → d ≡ take n b → Played (answer_step (table_deliver t divisor_up d (replicate most_reply 0))) at o r m → Played (play_of t l) at o r m
   unfolding play_of
   play_good n d h g f = go (bytes_in l) (λ p q. (read_written l p q).small) (sym h ∙ e.answer) e.leaves
     where
-      go : (q : Content) → ((p : List ℕ) → q ≡ bytes p → AllBytes p) → Bytes n ≡ (read_bytes q (replicate 20 0)).answer → b ≡ (read_bytes q (replicate 20 0)).left
+      go : (q : Content) → ((p : List ℕ) → q ≡ bytes p → AllBytes p) → Some n ≡ (read_bytes q (replicate 20 0)).answer → b ≡ (read_bytes q (replicate 20 0)).left
           → Played (on_content t q) at o r m
       go malformed s i j = impossible cc
       go (bytes p) s i j =

@@ -1,5 +1,6 @@
 -- The line for each answer, and that it has at most 64 bytes.
 use Prim.Native.Nat.{ℕ, ◌+◌, ◌/◌, ◌%◌, ◌≤◌, ◌<◌}
+use Rattle.std.specs.Prelude.{Result, Ok, Err, ℕ}
 use mathlib.Core.Bool.{Bool, true, false, cond}
 use mathlib.Core.List.{List, [], ◌∷◌, ◌++◌}
 use mathlib.Core.Path.{◌≡◌, refl, sym, ap, ◌∙◌}
@@ -9,13 +10,11 @@ use lib.ListN.{length, take, drop, replicate, length-append, length-take}
 use lib.Seq.{take_at}
 use borrow.Author.Tests.{lt-ltb, le-ltb}
 use Rattle.wire.specs.Promise.{Lending}
-use Rattle.wire.specs.Numbers.{number_of}
-use Rattle.buffer.specs.Buffer.{at_start, written, built_number}
+use Rattle.wire.specs.Numbers.{number_of, number_by}
+use Rattle.buffer.specs.Buffer.{at_start, written}
 use Rattle.wire.specs.declared.refusal.Refusal.{Refusal}
 use Rattle.wire.proofs.Impossible.{impossible}
 use Rattle.wire.proofs.Numbers.{number_small}
-use Rattle.buffer.specs.declared.Built.{Built}
-use Rattle.buffer.specs.declared.Built.TheVariants as built
 use Rattle.buffer.proofs.Writing.{written_long}
 use Rattle.status.specs.Status.{most_reply}
 use Rattle.text.specs.Lines.{newline}
@@ -74,25 +73,25 @@ laid : (d : List ℕ) → length d ≤ most_reply → written (hex_line d) (repl
 unfolding written
 laid d h = rw (le-ltb 64 (length (hex_line d)) (omega (arith, line_short d h)))
 
-module _ (d l : List ℕ) (b : Built) (p : Lending built_number b l (written (hex_line d) (replicate 64 0))) where
+module _ (d l : List ℕ) (b : Result ℕ Refusal) (p : Lending number_by b l (written (hex_line d) (replicate 64 0))) where
   pub reply_room : (n : ℕ) (part : List ℕ) → part ≡ take n l → length part ≤ 64
   reply_room n part e =
       let k : length l ≡ 64 = ap (λ (x : List ℕ). length x) p.leaves ∙ written_long (hex_line d) (replicate 64 0) in
       rw e (omega (arith, length-take n l))
 
   module _ (h : length d ≤ most_reply) where
-    pub reply_done : (n at r : ℕ) (part out left : List ℕ) → b ≡ built.Bytes n → part ≡ take n l → Wrote part at out r left → WroteLine (hex_line d) at out r left
+    pub reply_done : (n at r : ℕ) (part out left : List ℕ) → b ≡ Ok n → part ≡ take n l → Wrote part at out r left → WroteLine (hex_line d) at out r left
     reply_done n at r part out left e f w =
-        let a : built.Bytes n ≡ built.Bytes (length (hex_line d)) = sym e ∙ p.answer ∙ ap (λ o. o.answer) (laid d h) in
+        let a : Ok n ≡ Ok (length (hex_line d)) = sym e ∙ p.answer ∙ ap (λ o. o.answer) (laid d h) in
         let en : n ≡ length (hex_line d) = cc in
         let el : l ≡ hex_line d ++ drop (length (hex_line d)) (replicate 64 0) = p.leaves ∙ ap (λ o. o.left) (laid d h) in
         let ep : part ≡ hex_line d = f ∙ rw (en, el) (take_at (hex_line d) (drop (length (hex_line d)) (replicate 64 0)) (length (hex_line d)) refl) in
         record { wrote = rw ep at w; near = omega (arith, line_short d h) }
 
     -- 64 bytes are enough
-    pub reply_refused : (why : Refusal) (at : ℕ) (out : List ℕ) → b ≡ built.Refused why → WroteLine (hex_line d) at out at out
+    pub reply_refused : (why : Refusal) (at : ℕ) (out : List ℕ) → b ≡ Err why → WroteLine (hex_line d) at out at out
     reply_refused why at out e =
-        let a : built.Refused why ≡ built.Bytes (length (hex_line d)) = sym e ∙ p.answer ∙ ap (λ o. o.answer) (laid d h) in
+        let a : Err why ≡ Ok (length (hex_line d)) = sym e ∙ p.answer ∙ ap (λ o. o.answer) (laid d h) in
         impossible cc
 
 -- ---- by the answer

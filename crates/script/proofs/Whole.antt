@@ -1,5 +1,6 @@
 -- The whole text: the count, then the lines.
 use Prim.Native.Nat.{ℕ, suc, ◌+◌, ◌≤◌, ◌<◌}
+use Rattle.std.specs.Prelude.{Ok, Err, Option, Some, None, ℕ}
 use mathlib.Core.Bool.{Bool, true, false}
 use mathlib.Core.List.{List, [], ◌∷◌, ◌++◌}
 use mathlib.Core.Path.{◌≡◌, refl, sym, ap, ◌∙◌}
@@ -9,15 +10,12 @@ use lib.Dec.{ltb}
 use lib.ListN.{length, drop, length-drop}
 use borrow.Author.Tests.{lt-ltb, le-ltb, ltb-true, ltb-false}
 use Rattle.wire.specs.Promise.{Promise, Lending}
-use Rattle.wire.specs.Numbers.{most_nodes}
-use Rattle.buffer.specs.Buffer.{built_number, written}
+use Rattle.wire.specs.Numbers.{most_nodes, number_by}
+use Rattle.buffer.specs.Buffer.{written}
 use Rattle.wire.specs.declared.refusal.Refusal.TheVariants.{Room}
-use Rattle.buffer.specs.declared.Built.TheVariants as built
 use Rattle.buffer.proofs.Writing.{sets_start, no_room, has_room_lem}
 use Rattle.text.specs.Lines.{first_line, lines_of}
 use Rattle.text.specs.Digits.{read_decimal, decimal_number}
-use Rattle.text.specs.declared.digits.Decimal.{Decimal}
-use Rattle.text.specs.declared.digits.Decimal.TheVariants.{Value, Malformed}
 use Rattle.text.proofs.Parts.{lines_step}
 use Rattle.table.specs.declared.Table.{Table}
 use Rattle.buffer.specs.Wrote.{Wrote}
@@ -51,11 +49,11 @@ unfolding rehearse_of read_decimal
 bench_lines [] h = refl
 bench_lines (x ∷ s) h = rw (le-ltb 65536 (length (x ∷ s)) h, lines_step (x ∷ s) (omega arith))
 
-module _ (s l out left : List ℕ) (q : Decimal) (r : ℕ) (h : length s ≤ 65536) (el : l ≡ first_line s) (eq : Promise decimal_number q (read_decimal l)) where
-  pub bench_wrong : q ≡ Malformed → WroteLine wrong 0 out r left → Wrote (rehearse_of s) 0 out r left
+module _ (s l out left : List ℕ) (q : Option ℕ) (r : ℕ) (h : length s ≤ 65536) (el : l ≡ first_line s) (eq : Promise decimal_number q (read_decimal l)) where
+  pub bench_wrong : q ≡ None → WroteLine wrong 0 out r left → Wrote (rehearse_of s) 0 out r left
   bench_wrong e f = rw (bench_lines s h, ← el, ← eq.answer, e) f.wrote
 
-  pub bench_runs : (n : ℕ) (d : List ℕ) → q ≡ Value n → d ≡ drop (length l + 1) s → Wrote (run_with n (lines_of d)) 0 out r left → Wrote (rehearse_of s) 0 out r left
+  pub bench_runs : (n : ℕ) (d : List ℕ) → q ≡ Some n → d ≡ drop (length l + 1) s → Wrote (run_with n (lines_of d)) 0 out r left → Wrote (rehearse_of s) 0 out r left
   bench_runs n d e ed f =
       let k : drop (suc (length l)) s ≡ d = sym (ed ∙ ap (λ (i : ℕ). drop i s) (add-one (length l))) in
       rw (bench_lines s h, ← el, ← eq.answer, e, k) f
@@ -74,10 +72,10 @@ found_room t z k n room f =
     ap (ltb room) e
 
 module _ (t out : List ℕ) (lacks : Bool) (e : lacks ≡ ltb (length out) (length t)) where
-  pub rehearse_short : lacks ≡ true → Lending built_number (built.Refused Room) out (written t out)
+  pub rehearse_short : lacks ≡ true → Lending number_by (Err Room) out (written t out)
   rehearse_short b = no_room t out (ltb-true (length out) (length t) (sym e ∙ b))
 
-  pub rehearse_done : (left : List ℕ) (m : ℕ) → lacks ≡ false → Wrote t 0 out m left → Lending built_number (built.Bytes m) left (written t out)
+  pub rehearse_done : (left : List ℕ) (m : ℕ) → lacks ≡ false → Wrote t 0 out m left → Lending number_by (Ok m) left (written t out)
   rehearse_done left m b g =
       let h : length t ≤ length out = ltb-false (length out) (length t) (sym e ∙ b) in
       let em : length t ≡ m = omega (arith, g.behind) in

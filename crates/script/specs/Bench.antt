@@ -1,5 +1,5 @@
 -- Document 01, the bench program: "a decimal node count, then per line one packet". What it writes for what it reads; with document 02, request 7.
-use Rattle.std.specs.Prelude.{ℕ, cond, List, [], ◌∷◌, ◌++◌, ltb, length, replicate}
+use Rattle.std.specs.Prelude.{ℕ, cond, List, [], ◌∷◌, ◌++◌, ltb, length, replicate, Option, Some, None}
 use Rattle.wire.specs.Promise.{Outcome}
 use Rattle.wire.specs.Numbers.{most_nodes}
 use Rattle.wire.specs.declared.kind.Kind.TheVariants.{Gate}
@@ -11,8 +11,6 @@ use Rattle.survey.specs.Chain.{zeros}
 use Rattle.table.specs.declared.Table.{Table}
 use Rattle.table.specs.declared.Delivered.{Delivered}
 use Rattle.table.specs.Table.{table_room, table_deliver}
-use Rattle.text.specs.declared.digits.Decimal.{Decimal}
-use Rattle.text.specs.declared.digits.Decimal.TheVariants.{Value, Malformed}
 use Rattle.text.specs.Lines.{lines_of}
 use Rattle.text.specs.Digits.{read_decimal}
 use Rattle.hexadecimal.specs.Hex.{Content, bytes, malformed, bytes_in}
@@ -60,9 +58,9 @@ wrong = refused_line Range
 unfoldable pub run_with : ℕ → List (List ℕ) → List ℕ
 run_with n ls = cond (ltb n 1) wrong (cond (ltb most_nodes n) wrong (run_of (start_of n) ls))
 
-abbrev pub on_decimal : Decimal → List (List ℕ) → List ℕ
-on_decimal (Value n) ls = run_with n ls
-on_decimal Malformed ls = wrong
+abbrev pub on_decimal : Option ℕ → List (List ℕ) → List ℕ
+on_decimal (Some n) ls = run_with n ls
+on_decimal None ls = wrong
 
 -- the first line is the count
 abbrev pub on_lines : List (List ℕ) → List ℕ

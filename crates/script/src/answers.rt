@@ -7,7 +7,6 @@ ghost use Rattle.script.specs.Answers.{number_end, refused_line, answer_line};
 ghost use Rattle.buffer.specs.Wrote.{Wrote};
 ghost use Rattle.script.specs.Line.{far, WroteLine};
 
-use buffer::Built;
 use chain::Delivery;
 use wire::Refusal;
 
@@ -47,9 +46,9 @@ fn put_hex_line(out: &mut [u8], at: usize, reply: &[u8]) -> usize
 {
     let mut line = [0; 64];
     match hexadecimal::write_line(reply, &mut line) {
-        Built::Bytes(n) => append(out, at, text::first(&line, n)),
+        Ok(n) => append(out, at, text::first(&line, n)),
         // It never comes to this.
-        Built::Refused(_) => at,
+        Err(_) => at,
     }
 }
 

@@ -1,7 +1,8 @@
 // The bench program as a function on slices: a node count, then a packet a line; an answer a line.
 ghost use Rattle.std.specs.Prelude.{◌≡◌, ◌≤◌, length, replicate, ltb};
+ghost use Rattle.wire.specs.Numbers.{number_by};
 ghost use Rattle.wire.specs.Promise.{Lending};
-ghost use Rattle.buffer.specs.Buffer.{built_number, written};
+ghost use Rattle.buffer.specs.Buffer.{written};
 ghost use Rattle.status.specs.Status.{most_reply};
 ghost use Rattle.node.specs.Effect.{divisor_up};
 ghost use Rattle.table.specs.Table.{table_deliver};
@@ -12,11 +13,8 @@ ghost use Rattle.script.specs.Bench.{start_of, answer_step, refuse_step, play_of
 ghost use Rattle.script.specs.Line.{Played};
 
 use crate::answers::{put_answer_line, put_refused_line};
-use buffer::Built;
-use hexadecimal::Parsed;
 use node::{Bench, Node};
 use table::Table;
-use text::Decimal;
 use wire::{Kind, MOST_NODES, Refusal};
 
 // The longest input, 64 KiB.
@@ -90,8 +88,8 @@ fn play(table: Table, line: &[u8], out: &mut [u8], at: usize) -> Step
     let mut packet = [0; 20];
     let found = hexadecimal::read_bytes(line, &mut packet);
     match found {
-        Parsed::Bytes(n) => answer_step(table, text::first(&packet, n), out, at),
-        Parsed::Malformed => refuse_step(table, out, at),
+        Some(n) => answer_step(table, text::first(&packet, n), out, at),
+        None => refuse_step(table, out, at),
     }
 }
 
@@ -136,8 +134,8 @@ fn perform(input: &[u8], out: &mut [u8]) -> usize
     }
     let line = text::first_line(input);
     match text::read_decimal(line) {
-        Decimal::Value(n) => run_with(n, text::rest(input, line.len() + 1), out),
-        Decimal::Malformed => put_refused_line(out, 0, Refusal::Range),
+        Some(n) => run_with(n, text::rest(input, line.len() + 1), out),
+        None => put_refused_line(out, 0, Refusal::Range),
     }
 }
 
@@ -155,12 +153,12 @@ fn lacks_room(input: &[u8], room: usize) -> bool
 
 // What the bench program writes for what it read, at the start of `output`, whose rest stays.
 // Nothing is written where the text has no room.
-pub fn rehearse(input: &[u8], output: &mut [u8]) -> Built
-    ensures { Lending built_number result output.new (written (rehearse_of input.now) output.old) }
+pub fn rehearse(input: &[u8], output: &mut [u8]) -> Result<usize, Refusal>
+    ensures { Lending number_by result output.new (written (rehearse_of input.now) output.old) }
 {
     if lacks_room(input, output.len()) {
-        return Built::Refused(Refusal::Room);
+        return Err(Refusal::Room);
     }
     let m = perform(input, output);
-    Built::Bytes(m)
+    Ok(m)
 }

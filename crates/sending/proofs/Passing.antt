@@ -1,5 +1,6 @@
 -- What a passed check says: each of its tests failed.
 use mathlib.Core.Bool.{Bool, true, false, true≢false}
+use Rattle.std.specs.Prelude.{Ok, Err}
 use mathlib.Core.List.{List, [], ◌∷◌}
 use mathlib.Core.Path.{◌≡◌, refl}
 use Rattle.wire.specs.declared.refusal.Refusal.{Refusal}
@@ -11,7 +12,6 @@ use Rattle.session.specs.declared.Session.{Session}
 use Rattle.session.specs.Session.{is_closed}
 use Rattle.session.proofs.Sessions.{Bounds, valid_says, closed_not}
 use Rattle.sending.specs.declared.Tests.{Tests}
-use Rattle.sending.specs.declared.Check.TheVariants.{Passed, Refuse}
 use Rattle.sending.specs.Sending.{does_wait, is_waiting, refusing, sequence, test_of}
 
 -- each of some tests failed
@@ -19,11 +19,11 @@ abbrev pub AllFailed : List (Bool × Refusal) → Type 0
 AllFailed [] = Unit {0}
 AllFailed (t ∷ ts) = (t.0 ≡ false) × AllFailed ts
 
-stays_refused : (ts : List (Bool × Refusal)) (why : Refusal) → refusing (Refuse why) ts ≡ Refuse why
+stays_refused : (ts : List (Bool × Refusal)) (why : Refusal) → refusing (Err why) ts ≡ Err why
 stays_refused [] why = refl
 stays_refused (t ∷ ts) why = stays_refused ts why
 
-pub all_failed_lem : (ts : List (Bool × Refusal)) → refusing Passed ts ≡ Passed → AllFailed ts
+pub all_failed_lem : (ts : List (Bool × Refusal)) → refusing (Ok tt) ts ≡ (Ok tt) → AllFailed ts
 all_failed_lem [] h = tt
 all_failed_lem ((true, why) ∷ ts) h = impossible (cc (stays_refused ts why, h))
 all_failed_lem ((false, why) ∷ ts) h = (refl, all_failed_lem ts h)
@@ -53,7 +53,7 @@ pub record Passes (s : Session) (t : Tests) : Type 0 where
   pub unled : t.led ≡ false
   pub unanswerable : t.answerable ≡ false
 
-pub check_says : (s : Session) (t : Tests) → test_of s t ≡ Passed → Passes s t
+pub check_says : (s : Session) (t : Tests) → test_of s t ≡ (Ok tt) → Passes s t
 unfolding test_of
 check_says s t h =
     let f = all_failed_lem (sequence s t) h in
@@ -70,6 +70,6 @@ check_says s t h =
     }
 
 -- 7 while an exchange is open, whatever the call found
-pub busy : (s : Session) (t : Tests) → is_closed s ≡ false → is_waiting s ≡ true → test_of s t ≡ Refuse Busy
+pub busy : (s : Session) (t : Tests) → is_closed s ≡ false → is_waiting s ≡ true → test_of s t ≡ Err Busy
 unfolding test_of
 busy s t c w = rw (c, w)

@@ -1,5 +1,7 @@
 -- What is sent: a packet at the start of the buffer, or 5 leaves all as it stood.
 use Prim.Native.Nat.{ℕ, ◌<◌, ◌≤◌}
+use Rattle.wire.specs.declared.refusal.Refusal.{Refusal}
+use Rattle.std.specs.Prelude.{Result, Ok, Err, ⊤}
 use mathlib.Core.Bool.{Bool, true, false}
 use mathlib.Core.List.{List, ◌++◌}
 use mathlib.Core.Path.{◌≡◌, refl, sym, ap, ◌∙◌}
@@ -25,8 +27,6 @@ use Rattle.session.specs.declared.Session.{Session}
 use Rattle.session.specs.declared.End.TheVariants.{Sent}
 use Rattle.session.specs.declared.Step.{Step}
 use Rattle.session.specs.Session.{refuse_of, step_number}
-use Rattle.sending.specs.declared.Check.{Check}
-use Rattle.sending.specs.declared.Check.TheVariants.{Passed, Refuse}
 use Rattle.sending.specs.Sending.{open_exchange, step_by, transmit_of, by_check}
 
 -- the packet at the start of the buffer, and the exchange opened
@@ -60,7 +60,7 @@ unfolding transmit_of
 transmitted_sends s at called to c out p q = rw (built_written called c out p q) (by_written s at called to c out)
 
 -- where the check before it is clear
-pub by_passed : (k : Check) (s : Session) (at : ℕ) (called to : Address) (c : Command) (out : List ℕ) (o : Outcome Step (List ℕ)) → k ≡ Passed
+pub by_passed : (k : Result ⊤ Refusal) (s : Session) (at : ℕ) (called to : Address) (c : Command) (out : List ℕ) (o : Outcome Step (List ℕ)) → k ≡ (Ok tt)
     → Sends s at called to c out o → Sends s at called to c out (by_check k s out o)
 by_passed k s at called to c out o p h = rw p h
 
@@ -69,8 +69,8 @@ pub node_fits : (n k : ℕ) → n ≤ 31 → k ≤ n → individual_in_range k �
 node_fits n k p q = lt-ltb k 0x80 (omega arith)
 
 -- a call with number 0: its check was clear, and its packet went out
-pub record Went (k : Check) (s : Session) (at : ℕ) (called to : Address) (c : Command) (out : List ℕ) (o : Outcome Step (List ℕ)) : Type 0 where
-  pub passed : k ≡ Passed
+pub record Went (k : Result ⊤ Refusal) (s : Session) (at : ℕ) (called to : Address) (c : Command) (out : List ℕ) (o : Outcome Step (List ℕ)) : Type 0 where
+  pub passed : k ≡ (Ok tt)
   pub result : o ≡ sending s at called to c out
 
 by_room : (b : Bool) (s : Session) (at : ℕ) (called to : Address) (c : Command) (out : List ℕ) (o : Outcome Step (List ℕ)) → ltb (length out) (length (packet_for called c)) ≡ b
@@ -80,11 +80,11 @@ by_room true s at called to c out o e h d =
 by_room false s at called to c out o e h d = h.room (ltb-false _ _ e)
 
 -- by the check before it
-pub went : (k : Check) (s : Session) (at : ℕ) (called to : Address) (c : Command) (out : List ℕ) (o : Outcome Step (List ℕ))
-    → (k ≡ Passed → Sends s at called to c out (by_check k s out o)) → step_number (by_check k s out o).answer ≡ done → Went k s at called to c out (by_check k s out o)
-went Passed s at called to c out o h d =
+pub went : (k : Result ⊤ Refusal) (s : Session) (at : ℕ) (called to : Address) (c : Command) (out : List ℕ) (o : Outcome Step (List ℕ))
+    → (k ≡ (Ok tt) → Sends s at called to c out (by_check k s out o)) → step_number (by_check k s out o).answer ≡ done → Went k s at called to c out (by_check k s out o)
+went (Ok tt) s at called to c out o h d =
     record { passed = refl; result = by_room (ltb (length out) (length (packet_for called c))) s at called to c out o refl (h refl) d }
-went (Refuse why) s at called to c out o h d = absurd (not_done why d)
+went (Err why) s at called to c out o h d = absurd (not_done why d)
 
 -- the session then: closed and all in doubt after a Hard Reset, else waiting
 pub opened_reset : (s : Session) (at : ℕ) (to : Address) (c : Command) → is_reset (role_of c) ≡ true

@@ -1,14 +1,13 @@
 -- Sending; a law for each exit of the code.
 use Prim.Native.Nat.{ℕ}
+use Rattle.std.specs.Prelude.{Result, Ok, Err, ℕ, ⊤}
+use Rattle.wire.specs.Numbers.{number_by}
 use mathlib.Core.Bool.{Bool, true, false}
 use mathlib.Core.List.{List}
 use mathlib.Core.Path.{◌≡◌}
 use Rattle.wire.specs.Promise.{Outcome, Lending, lent}
 use Rattle.wire.specs.declared.address.Address.{Address}
 use Rattle.wire.specs.declared.refusal.Refusal.{Refusal}
-use Rattle.buffer.specs.declared.Built.{Built}
-use Rattle.buffer.specs.declared.Built.TheVariants as built
-use Rattle.buffer.specs.Buffer.{built_number}
 use Rattle.command.specs.declared.Command.{Command}
 use Rattle.command.specs.declared.Role.{Role}
 use Rattle.command.specs.Role.{role_of, is_reset}
@@ -20,8 +19,6 @@ use Rattle.session.specs.declared.Session.{Session}
 use Rattle.session.specs.declared.End.TheVariants.{Sent}
 use Rattle.session.specs.declared.Step.{Step}
 use Rattle.session.specs.Session.{step_number, refuse_of}
-use Rattle.sending.specs.declared.Check.{Check}
-use Rattle.sending.specs.declared.Check.TheVariants.{Refuse}
 use Rattle.sending.specs.Sending.{open_exchange, transmit_of, by_check}
 
 module _ (s : Session) (at : ℕ) (to : Address) (c : Command) (role : Role) (of : role ≡ role_of c) (t : Bool) (by : t ≡ is_reset role) where
@@ -34,17 +31,17 @@ module _ (s : Session) (at : ℕ) (to : Address) (c : Command) (role : Role) (of
   unfolding open_exchange
   other_waits p = rw (← of, ← by, p)
 
-module _ (s : Session) (at : ℕ) (called to : Address) (c : Command) (out o : List ℕ) (b : Built) (by : Lending built_number b o (codec_build called c out)) where
-  pub built_sent : (n : ℕ) (t : Session) → b ≡ built.Bytes n → t ≡ open_exchange s at to c
+module _ (s : Session) (at : ℕ) (called to : Address) (c : Command) (out o : List ℕ) (b : Result ℕ Refusal) (by : Lending number_by b o (codec_build called c out)) where
+  pub built_sent : (n : ℕ) (t : Session) → b ≡ Ok n → t ≡ open_exchange s at to c
       → Lending step_number (record { end = Sent n; session = t }) o (transmit_of s at called to c out)
   unfolding transmit_of
   built_sent n t p q = lent (rw (← by.answer, ← by.leaves, p, q))
 
-  pub built_not : (why : Refusal) (r : Step) → b ≡ built.Refused why → r ≡ refuse_of s why → Lending step_number r o (transmit_of s at called to c out)
+  pub built_not : (why : Refusal) (r : Step) → b ≡ Err why → r ≡ refuse_of s why → Lending step_number r o (transmit_of s at called to c out)
   unfolding transmit_of
   built_not why r p q = lent (rw (← by.answer, ← by.leaves, p, q))
 
 -- by the check before it
-pub refused_by : (k : Check) (s : Session) (out : List ℕ) (o : Outcome Step (List ℕ)) (why : Refusal) (r : Step)
-    → k ≡ Refuse why → r ≡ refuse_of s why → Lending step_number r out (by_check k s out o)
+pub refused_by : (k : Result ⊤ Refusal) (s : Session) (out : List ℕ) (o : Outcome Step (List ℕ)) (why : Refusal) (r : Step)
+    → k ≡ Err why → r ≡ refuse_of s why → Lending step_number r out (by_check k s out o)
 refused_by k s out o why r p q = lent (rw (p, q))

@@ -1,12 +1,10 @@
 -- Document 01, "The host session" and "Numbers returned", with document 02, requests 6 and 7: what every call that sends tests first, and what sending does.
-use Rattle.std.specs.Prelude.{ℕ, Bool, true, false, cond, List, [], ◌∷◌}
+use Rattle.std.specs.Prelude.{ℕ, Bool, true, false, cond, List, [], ◌∷◌, Result, Ok, Err, ⊤}
 use Rattle.wire.specs.Promise.{Outcome}
-use Rattle.wire.specs.Numbers.{done, number_of}
+use Rattle.wire.specs.Numbers.{done, number_of, number_by}
 use Rattle.wire.specs.declared.address.Address.{Address}
 use Rattle.wire.specs.declared.refusal.Refusal.{Refusal}
 use Rattle.wire.specs.declared.refusal.Refusal.TheVariants.{Range, Busy, NotDue, NoNode, Led, Closed, Lacked, Divisor, Answerable}
-use Rattle.buffer.specs.declared.Built.{Built}
-use Rattle.buffer.specs.declared.Built.TheVariants as built
 use Rattle.command.specs.declared.Command.{Command}
 use Rattle.command.specs.Role.{role_of, is_reset}
 use Rattle.codec.specs.Build.{codec_build}
@@ -17,20 +15,13 @@ use Rattle.session.specs.declared.Session.{Session}
 use Rattle.session.specs.declared.End.TheVariants.{Sent}
 use Rattle.session.specs.declared.Step.{Step}
 use Rattle.session.specs.Session.{refuse_of, is_closed}
-use Rattle.sending.specs.declared.Check.{Check}
 use Rattle.sending.specs.declared.Tests.{Tests}
-use Rattle.sending.specs.declared.Check.TheVariants.{Passed, Refuse}
-
--- the number of what the tests came to
-abbrev pub check_number : Check → ℕ
-check_number Passed = done
-check_number (Refuse why) = number_of why
 
 -- refused already, or refused if the test holds
-abbrev pub refuse_if : Check → Bool → Refusal → Check
-refuse_if (Refuse first) test why = Refuse first
-refuse_if Passed true why = Refuse why
-refuse_if Passed false why = Passed
+abbrev pub refuse_if : Result ⊤ Refusal → Bool → Refusal → Result ⊤ Refusal
+refuse_if (Err first) test why = Err first
+refuse_if (Ok tt) true why = Err why
+refuse_if (Ok tt) false why = (Ok tt)
 
 -- 7: "an exchange is open"; a closed session has none
 abbrev pub does_wait : Exchange → Bool
@@ -42,7 +33,7 @@ unfoldable pub is_waiting : Session → Bool
 is_waiting s = cond (is_closed s) false (does_wait s.exchange)
 
 -- some tests, one after another
-abbrev pub refusing : Check → List (Bool × Refusal) → Check
+abbrev pub refusing : Result ⊤ Refusal → List (Bool × Refusal) → Result ⊤ Refusal
 refusing k [] = k
 refusing k (t ∷ ts) = refusing (refuse_if k t.0 t.1) ts
 
@@ -60,8 +51,8 @@ sequence s t =
     ∷ (t.answerable, Answerable)
     ∷ []
 
-unfoldable pub test_of : Session → Tests → Check
-test_of s t = refusing Passed (sequence s t)
+unfoldable pub test_of : Session → Tests → Result ⊤ Refusal
+test_of s t = refusing (Ok tt) (sequence s t)
 
 -- "Each sent command but Hard Reset opens an exchange"; "Hard Reset closes the session and puts all settings in doubt"; "every command is sent at" a divisor
 unfoldable pub open_exchange : Session → ℕ → Address → Command → Session
@@ -71,9 +62,9 @@ open_exchange s at to c =
     (record { started = s.started; n = s.n; walk = s.walk; exchange = Waiting at to c; entries = s.entries })
 
 -- sent as so many bytes, or refused as building says
-abbrev pub step_by : Session → Session → Built → Step
-step_by s t (built.Bytes n) = record { end = Sent n; session = t }
-step_by s t (built.Refused why) = refuse_of s why
+abbrev pub step_by : Session → Session → Result ℕ Refusal → Step
+step_by s t (Ok n) = record { end = Sent n; session = t }
+step_by s t (Err why) = refuse_of s why
 
 -- the packet is built, or refused as the builder refuses it, and the exchange opened
 unfoldable pub transmit_of : Session → ℕ → Address → Address → Command → List ℕ → Outcome Step (List ℕ)
@@ -81,6 +72,6 @@ transmit_of s at called to c out =
     record { answer = step_by s (open_exchange s at to c) (codec_build called c out).answer; left = (codec_build called c out).left }
 
 -- by the checks before it
-abbrev pub by_check : Check → Session → List ℕ → Outcome Step (List ℕ) → Outcome Step (List ℕ)
-by_check Passed s out o = o
-by_check (Refuse why) s out o = record { answer = refuse_of s why; left = out }
+abbrev pub by_check : Result ⊤ Refusal → Session → List ℕ → Outcome Step (List ℕ) → Outcome Step (List ℕ)
+by_check (Ok tt) s out o = o
+by_check (Err why) s out o = record { answer = refuse_of s why; left = out }

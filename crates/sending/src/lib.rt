@@ -4,34 +4,27 @@
 #![tactic(auto)]
 
 ghost use Rattle.std.specs.Prelude.{◌≡◌};
+ghost use Rattle.wire.specs.Numbers.{number_by};
 ghost use Rattle.wire.specs.Promise.{Promise, Lending};
 ghost use Rattle.session.specs.Session.{step_number};
-ghost use Rattle.sending.specs.Sending.{check_number, refuse_if, does_wait, is_waiting, test_of, open_exchange, transmit_of};
+ghost use Rattle.sending.specs.Sending.{refuse_if, does_wait, is_waiting, test_of, open_exchange, transmit_of};
 
-use buffer::Built;
 use command::Command;
 use session::{End, Exchange, Session, Step, is_closed, refuse};
 use wire::{Address, Refusal};
 
-// What the tests so far came to.
-#[derive(Clone, Copy)]
-pub enum Check {
-    Passed,
-    Refuse(Refusal),
-}
-
 impl Check {
     // Refused already, or refused now if the test holds.
-    fn refuse_if(self, test: bool, why: Refusal) -> Check
-        ensures { Promise check_number result (refuse_if self test why) }
+    fn refuse_if(self, test: bool, why: Refusal) -> Result<(), Refusal>
+        ensures { Promise number_by result (refuse_if self test why) }
     {
         match self {
-            Check::Refuse(first) => Check::Refuse(first),
-            Check::Passed => {
+            Err(first) => Err(first),
+            Ok(()) => {
                 if test {
-                    return Check::Refuse(why);
+                    return Err(why);
                 }
-                Check::Passed
+                Ok(())
             }
         }
     }
@@ -81,10 +74,10 @@ pub struct Tests {
 }
 
 // The one sequence of all calls that send: 12, 7, 6, 18, 10, 17, 9, 11, 19. 5 comes last, as the packet is built.
-pub fn test(s: Session, t: Tests) -> Check
-    ensures { Promise check_number result (test_of s t) }
+pub fn test(s: Session, t: Tests) -> Result<(), Refusal>
+    ensures { Promise number_by result (test_of s t) }
 {
-    Check::Passed
+    Ok(())
         .refuse_if(is_closed(s), Refusal::Closed)
         .refuse_if(is_waiting(s), Refusal::Busy)
         .refuse_if(t.unranged, Refusal::Range)
@@ -131,10 +124,10 @@ pub fn transmit(
     ensures { Lending step_number result out.new (transmit_of s at called to c out.old) }
 {
     match codec::build(called, c, out) {
-        Built::Bytes(n) => Step {
+        Ok(n) => Step {
             end: End::Sent(n),
             session: open_exchange(s, at, to, c),
         },
-        Built::Refused(why) => refuse(s, why),
+        Err(why) => refuse(s, why),
     }
 }

@@ -1,5 +1,6 @@
 -- Sessions: which count as closed, what a look finds; a law for each exit of the code.
 use Prim.Native.Nat.{ℕ, ◌+◌, ◌-◌, ◌<◌, ◌≤◌}
+use Rattle.std.specs.Prelude.{Ok, Err}
 use mathlib.Core.Bool.{Bool, true, false, not}
 use mathlib.Core.Path.{◌≡◌, ap}
 use native.Mathlib.Omega.{arith}
@@ -7,7 +8,7 @@ use lib.Dec.{ltb}
 use lib.ListN.{get_or}
 use borrow.Author.Tests.{lt-ltb, le-ltb, lt-leb, le-leb}
 use Rattle.wire.specs.Promise.{Promise, promised}
-use Rattle.wire.specs.Numbers.{most_nodes}
+use Rattle.wire.specs.Numbers.{most_nodes, number_by}
 use Rattle.wire.specs.declared.address.Individual.{Individual}
 use Rattle.wire.specs.declared.address.Address.{Address}
 use Rattle.wire.specs.declared.address.Address.TheVariants as address
@@ -17,8 +18,7 @@ use Rattle.ledger.specs.Ledger.{blank_entry}
 use Rattle.session.specs.declared.Exchange.{Exchange}
 use Rattle.session.specs.declared.Exchange.TheVariants.{Waiting}
 use Rattle.session.specs.declared.Session.{Session}
-use Rattle.session.specs.declared.Shown.TheVariants as shown
-use Rattle.session.specs.Session.{off_chain, is_stray, is_valid, look_of, shown_number, is_closed, is_ask_due}
+use Rattle.session.specs.Session.{off_chain, is_stray, is_valid, look_of, is_closed, is_ask_due}
 
 pub node_zero : (n : ℕ) (to : Address) (i : Individual) → to ≡ address.Individual i → i.0 < 1 → true ≡ off_chain n to
 node_zero n to i p q = rw (p, lt-ltb i.0 1 q)
@@ -42,19 +42,19 @@ module _ (s : Session) where
   unfolding is_valid
   stray_invalid t p q h = rw (le-leb s.n 31 p, le-leb s.walk s.n q, h)
 
-  pub look_zero : (i : Individual) → i.0 < 1 → Promise shown_number (shown.Refused NoNode) (look_of s i)
+  pub look_zero : (i : Individual) → i.0 < 1 → Promise number_by (Err NoNode) (look_of s i)
   unfolding look_of
   look_zero i p = promised (rw (lt-ltb i.0 1 p))
 
-  pub look_past : (i : Individual) → 1 ≤ i.0 → s.n < i.0 → Promise shown_number (shown.Refused NoNode) (look_of s i)
+  pub look_past : (i : Individual) → 1 ≤ i.0 → s.n < i.0 → Promise number_by (Err NoNode) (look_of s i)
   unfolding look_of
   look_past i p q = promised (rw (le-ltb i.0 1 p, lt-ltb s.n i.0 q))
 
-  pub look_none : (i : Individual) → 1 ≤ i.0 → i.0 ≤ s.n → 31 < i.0 → Promise shown_number (shown.Refused NoNode) (look_of s i)
+  pub look_none : (i : Individual) → 1 ≤ i.0 → i.0 ≤ s.n → 31 < i.0 → Promise number_by (Err NoNode) (look_of s i)
   unfolding look_of
   look_none i p q t = promised (rw (le-ltb i.0 1 p, le-ltb s.n i.0 q, lt-ltb 31 i.0 t))
 
-  pub look_found : (i : Individual) → 1 ≤ i.0 → i.0 ≤ s.n → i.0 ≤ 31 → Promise shown_number (shown.Found (get_or s.entries (i.0 - 1) blank_entry)) (look_of s i)
+  pub look_found : (i : Individual) → 1 ≤ i.0 → i.0 ≤ s.n → i.0 ≤ 31 → Promise number_by (Ok (get_or s.entries (i.0 - 1) blank_entry)) (look_of s i)
   unfolding look_of
   look_found i p q t = promised (rw (le-ltb i.0 1 p, le-ltb s.n i.0 q, le-ltb 31 i.0 t))
 

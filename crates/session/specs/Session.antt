@@ -1,6 +1,6 @@
 -- Document 01, "The host session": the session, which ones count as closed, and what is read off one.
-use Rattle.std.specs.Prelude.{ℕ, ◌+◌, ◌-◌, Bool, true, false, cond, not, ◌&&◌, ◌||◌, ltb, leb, ◌≡◌, length, get_or}
-use Rattle.wire.specs.Numbers.{done, number_of, most_nodes}
+use Rattle.std.specs.Prelude.{ℕ, ◌+◌, ◌-◌, Bool, true, false, cond, not, ◌&&◌, ◌||◌, ltb, leb, ◌≡◌, length, get_or, Result, Ok, Err}
+use Rattle.wire.specs.Numbers.{done, number_of, most_nodes, number_by}
 use Rattle.wire.specs.declared.address.Individual.{Individual}
 use Rattle.wire.specs.declared.address.Address.{Address}
 use Rattle.wire.specs.declared.address.Address.TheVariants as address
@@ -18,8 +18,6 @@ use Rattle.session.specs.declared.Session.{Session}
 use Rattle.session.specs.declared.End.{End}
 use Rattle.session.specs.declared.End.TheVariants.{Done, Sent, Refused}
 use Rattle.session.specs.declared.Step.{Step}
-use Rattle.session.specs.declared.Shown.{Shown}
-use Rattle.session.specs.declared.Shown.TheVariants as shown
 
 -- "node not 1 to n"
 abbrev pub off_chain : ℕ → Address → Bool
@@ -58,13 +56,9 @@ abbrev pub entry_of : Session → ℕ → Entry
 entry_of s k = get_or s.entries (k - 1) blank_entry
 
 -- what a look at a node finds: 10 where the node is not 1 to n
-unfoldable pub look_of : Session → Individual → Shown
+unfoldable pub look_of : Session → Individual → Result Entry Refusal
 look_of s i =
-    cond (ltb i.0 1 || ltb s.n i.0 || ltb most_nodes i.0) (shown.Refused NoNode) (shown.Found (entry_of s i.0))
-
-abbrev pub shown_number : Shown → ℕ
-shown_number (shown.Found e) = done
-shown_number (shown.Refused why) = number_of why
+    cond (ltb i.0 1 || ltb s.n i.0 || ltb most_nodes i.0) (Err NoNode) (Ok (entry_of s i.0))
 
 -- 12: "session closed"
 unfoldable pub is_closed : Session → Bool

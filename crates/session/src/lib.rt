@@ -4,8 +4,9 @@
 #![tactic(auto)]
 
 ghost use Rattle.std.specs.Prelude.{◌≡◌};
+ghost use Rattle.wire.specs.Numbers.{number_by};
 ghost use Rattle.wire.specs.Promise.{Promise};
-ghost use Rattle.session.specs.Session.{end_number, step_number, refuse_of, off_chain, is_stray, is_valid, is_closed, given_place, is_ask_due, shown_number, look_of};
+ghost use Rattle.session.specs.Session.{end_number, step_number, refuse_of, off_chain, is_stray, is_valid, is_closed, given_place, is_ask_due, look_of};
 
 use command::{Command, Place};
 use entry::Entry;
@@ -113,41 +114,22 @@ fn is_valid(s: Session) -> bool
     !is_stray(s.n, x)
 }
 
-// What the host knows of a node.
-#[derive(Clone, Copy)]
-pub enum Shown {
-    Found(Entry),
-    Refused(Refusal),
-}
-
-impl Shown {
-    // The paper's number.
-    pub fn number(self) -> u8
-        ensures { result ≡ shown_number self }
-    {
-        match self {
-            Shown::Found(_) => wire::DONE,
-            Shown::Refused(why) => why.number(),
-        }
-    }
-}
-
 // The entry of a node 1 to n, of any session: also a closed one shows its last known values.
-pub fn look(s: Session, node: Individual) -> Shown
-    ensures { Promise shown_number result (look_of s node) }
+pub fn look(s: Session, node: Individual) -> Result<Entry, Refusal>
+    ensures { Promise number_by result (look_of s node) }
 {
     let k = node.0;
     if k < 1 {
-        return Shown::Refused(Refusal::NoNode);
+        return Err(Refusal::NoNode);
     }
     if s.n < k {
-        return Shown::Refused(Refusal::NoNode);
+        return Err(Refusal::NoNode);
     }
     if MOST_NODES < k as usize {
-        return Shown::Refused(Refusal::NoNode);
+        return Err(Refusal::NoNode);
     }
     let at = (k - 1) as usize;
-    Shown::Found(s.entries[at])
+    Ok(s.entries[at])
 }
 
 // Not started, or handed in past its bounds.

@@ -1,5 +1,8 @@
 -- A list of packets, as the code exports it: they are counted and read first, then their lines are written.
 use Prim.Native.Nat.{ℕ, suc, ◌+◌, ◌-◌, ◌*◌, ◌/◌, ◌≤◌, ◌<◌}
+use Rattle.packet.specs.declared.Framed.{Framed}
+use Rattle.std.specs.Prelude.{Result, Ok, Err, ℕ}
+use Rattle.wire.specs.Numbers.{number_by}
 use mathlib.Core.List.{List, [], ◌++◌, append-nil, append_assoc}
 use mathlib.Core.Path.{◌≡◌, refl, sym, ap, ◌∙◌}
 use native.Mathlib.Omega.{arith}
@@ -12,47 +15,41 @@ use Rattle.wire.specs.declared.address.Address.{Address}
 use Rattle.wire.specs.declared.refusal.Refusal.{Refusal}
 use Rattle.wire.specs.declared.refusal.Refusal.TheVariants.{Room}
 use borrow.Rule.Slice.PartMut.{mid_of, post_of, put_mid}
-use Rattle.buffer.specs.Buffer.{built_number, put_of, written}
+use Rattle.buffer.specs.Buffer.{put_of, written}
 use Rattle.buffer.specs.Wrote.{Wrote}
-use Rattle.buffer.specs.declared.Built.{Built}
-use Rattle.buffer.specs.declared.Built.TheVariants as built
 use Rattle.buffer.proofs.Writing.{sets_start, no_room, has_room_lem, written_fits}
 use Rattle.buffer.proofs.Appends.{put_wrote, wrote_then}
 use Rattle.hexadecimal.specs.Hex.{hex_line}
 use Rattle.sheet.specs.Line.{hex_word}
-use Rattle.packet.specs.Packet.{frame_of, read_of, framed_number}
-use Rattle.packet.specs.declared.Framed.{Framed}
-use Rattle.packet.specs.declared.Framed.TheVariants as framed
+use Rattle.packet.specs.Packet.{frame_of, read_of, whole}
 use Rattle.sheet.specs.Sheet.{Made, made, fault}
 use Rattle.packet.proofs.Packets.{framing, read_says}
 use Rattle.sheet.specs.Packets.{Found, over, packet, misread, packets_of, bare_of, sheet_line, ahead, sheet_of, export_made, export_of}
 use Rattle.sheet.specs.Form.{ListForm}
 use Rattle.sheet.specs.Form as form
 use Rattle.sheet.specs.Reading.{count_behind, count_packets, HasRoom, sheet_lines}
-use Rattle.sheet.specs.declared.exporting.Listed.{Listed}
-use Rattle.sheet.specs.declared.exporting.Listed.TheVariants as listed
 use Rattle.sheet.proofs.Lists.{packets_over, packets_then, packets_not, list_formed, form_long, line_long}
 use Rattle.sheet.proofs.Laying.{Laying, laid_on}
 
 -- ---- counted
 
 -- what the packets from `at` on come to
-abbrev pub coming : ℕ → List ℕ → ℕ → Listed
+abbrev pub coming : ℕ → List ℕ → ℕ → Result ℕ Refusal
 coming count s at = count_behind count (packets_of (drop at s))
 
-module _ (s d : List ℕ) (at : ℕ) (ed : d ≡ drop at s) (f : Framed) (r : Promise framed_number f (read_of d)) where
-  pub count_refused : (count : ℕ) (t : Listed) (why : Refusal) → at < length s → coming count s at ≡ t → f ≡ framed.Refused why → listed.Refused why ≡ t
+module _ (s d : List ℕ) (at : ℕ) (ed : d ≡ drop at s) (f : Result Framed Refusal) (r : Promise number_by f (read_of d)) where
+  pub count_refused : (count : ℕ) (t : Result ℕ Refusal) (why : Refusal) → at < length s → coming count s at ≡ t → f ≡ Err why → Err why ≡ t
   count_refused count t why h inv e =
       let k : 0 < length (drop at s) = omega (arith, length-drop at s) in
       rw (packets_not (drop at s) why k (rw ed at (sym r.answer ∙ e))) at inv
 
-  module _ (a : Address) (c e : ℕ) (ef : f ≡ framed.Whole a c e) where
-    pub count_on : (count : ℕ) (t : Listed) → coming count s at ≡ t → coming (count + 1) s (at + e) ≡ t
+  module _ (a : Address) (c e : ℕ) (ef : f ≡ whole a c e) where
+    pub count_on : (count : ℕ) (t : Result ℕ Refusal) → coming count s at ≡ t → coming (count + 1) s (at + e) ≡ t
     count_on count t inv =
         let step = packets_then (drop at s) a c e (rw ed at (sym r.answer ∙ ef)) in
         rw drop-drop at (rw step at inv)
 
-pub count_done : (s : List ℕ) (at count : ℕ) (t : Listed) → length s ≤ at → coming count s at ≡ t → listed.Packets count ≡ t
+pub count_done : (s : List ℕ) (at count : ℕ) (t : Result ℕ Refusal) → length s ≤ at → coming count s at ≡ t → Ok count ≡ t
 count_done s at count t h inv = rw packets_over at (rw (drop_of_length-le s h) at inv)
 
 -- ---- how long a sheet is: three characters for each byte, but two for each packet
@@ -64,14 +61,14 @@ pub record Long (n packets bytes : ℕ) : Type 0 where
 -- a list that is made into a sheet, counted behind `count` packets
 pub record Counted (count : ℕ) (s : List ℕ) (f : Found) (t : List ℕ) : Type 0 where
   pub packets : ℕ
-  pub counts : count_behind count f ≡ listed.Packets (count + packets)
+  pub counts : count_behind count f ≡ Ok (count + packets)
   pub long : Long (length t) packets (length s)
 
 counted : {s : List ℕ} {f : Found} → ListForm s f → (count : ℕ) (t : List ℕ) → sheet_of f ≡ made t → Counted count s f t
 unfolding sheet_of
 counted form.none count t e =
     let z : t ≡ [] = cc in
-    rw z (record { packets = 0; counts = ap listed.Packets (sym (add-zero count)); long = record { exact = refl; few = omega arith } })
+    rw z (record { packets = 0; counts = ap Ok (sym (add-zero count)); long = record { exact = refl; few = omega arith } })
 counted (form.not h r) count t e = impossible cc
 counted (form.then {p = p} {s = s} {f = f} h l) count t e = by_rest (sheet_of f) (λ x r. counted l (count + 1) x r) e
   where
@@ -83,7 +80,7 @@ counted (form.then {p = p} {s = s} {f = f} h l) count t e = by_rest (sheet_of f)
         let k : count + 1 + n.packets ≡ count + suc n.packets = omega arith in
         rw z (record {
           packets = suc n.packets;
-          counts = n.counts ∙ ap listed.Packets k;
+          counts = n.counts ∙ ap Ok k;
           long = record {
             exact = omega (arith, n.long.exact, line_long p (form_long h), length-append (sheet_line p) x, length-append p s);
             few = omega (arith, n.long.few, form_long h, length-append p s);
@@ -95,8 +92,8 @@ list_counted s t e = counted (list_formed s) 0 t e
 
 -- ---- a line: the word, and the line of bytes in the part of the buffer behind it
 
-module _ (out a b p d : List ℕ) (at : ℕ) (r : Built) (some : 4 ≤ length p) (room : at + 3 * length p ≤ length out + 2) (ea : a ≡ put_of out at hex_word)
-    (ed : d ≡ take (length p - 1 - 1) (drop 1 p)) (w : Lending built_number r b (written (hex_line d) (mid_of (at + 4) (length a - (at + 4)) a))) where
+module _ (out a b p d : List ℕ) (at : ℕ) (r : Result ℕ Refusal) (some : 4 ≤ length p) (room : at + 3 * length p ≤ length out + 2) (ea : a ≡ put_of out at hex_word)
+    (ed : d ≡ take (length p - 1 - 1) (drop 1 p)) (w : Lending number_by r b (written (hex_line d) (mid_of (at + 4) (length a - (at + 4)) a))) where
   word : Wrote hex_word at out (at + 4) a
   word = put_wrote out a hex_word at ea
 
@@ -116,7 +113,7 @@ module _ (out a b p d : List ℕ) (at : ℕ) (r : Built) (some : 4 ≤ length p)
   left =
       w.leaves
       ∙ ap (λ (l : List ℕ). (written (hex_line d) l).left) behind_word
-      ∙ ap (λ (o : Outcome Built (List ℕ)). o.left) (written_fits (hex_line d) (drop (at + 4) a) (omega (arith, fits, length-drop (at + 4) a)))
+      ∙ ap (λ (o : Outcome (Result ℕ Refusal) (List ℕ)). o.left) (written_fits (hex_line d) (drop (at + 4) a) (omega (arith, fits, length-drop (at + 4) a)))
 
   none : post_of (at + 4) (length a - (at + 4)) a ≡ []
   none = drop_of_length-le (drop (at + 4) a) {i = length a - (at + 4)} (omega (arith, length-drop (at + 4) a))
@@ -146,7 +143,7 @@ record Taken (s : List ℕ) (to : ℕ) (out o : List ℕ) : Type 0 where
   pub address : Address
   pub command : ℕ
   pub end : ℕ
-  pub reads : read_of s ≡ framed.Whole address command end
+  pub reads : read_of s ≡ whole address command end
   pub rest : List ℕ
   pub is : sheet_of (packets_of (drop end s)) ≡ made rest
   pub room : to + length (sheet_line (take end s) ++ rest) ≤ length out
@@ -157,31 +154,31 @@ taken : (s : List ℕ) (to : ℕ) (out o : List ℕ) → 0 < length s → Laying
 unfolding sheet_of
 taken s to out o h lay = by_packet (read_of s) refl
   where
-    by_rest : (a : Address) (c e : ℕ) → read_of s ≡ framed.Whole a c e → (m : Made Refusal) → sheet_of (packets_of (drop e s)) ≡ m → Laying (ahead (take e s) m) to out o → Taken s to out o
+    by_rest : (a : Address) (c e : ℕ) → read_of s ≡ whole a c e → (m : Made Refusal) → sheet_of (packets_of (drop e s)) ≡ m → Laying (ahead (take e s) m) to out o → Taken s to out o
     by_rest a c e r (fault why) i lay = absurd lay.room
     by_rest a c e r (made t) i lay = record { address = a; command = c; end = e; reads = r; rest = t; is = i; room = lay.room; laid = lay.laid }
 
-    by_packet : (f : Framed) → read_of s ≡ f → Taken s to out o
-    by_packet (framed.Refused why) r = absurd (rw (packets_not s why h r) at lay).room
-    by_packet (framed.Whole a c e) r = by_rest a c e r (sheet_of (packets_of (drop e s))) refl (rw (packets_then s a c e r) at lay)
+    by_packet : (f : Result Framed Refusal) → read_of s ≡ f → Taken s to out o
+    by_packet (Err why) r = absurd (rw (packets_not s why h r) at lay).room
+    by_packet (whole a c e) r = by_rest a c e r (sheet_of (packets_of (drop e s))) refl (rw (packets_then s a c e r) at lay)
 
 module _ (s d : List ℕ) (at to : ℕ) (out o : List ℕ) (h : at < length s) (ed : d ≡ drop at s) (lay : Laying (sheet_of (packets_of (drop at s))) to out o)
-    (f : Framed) (r : Promise framed_number f (frame_of d)) where
+    (f : Result Framed Refusal) (r : Promise number_by f (frame_of d)) where
   took : Taken d to out o
   took =
       let k : 0 < length d = omega (arith, ap (λ (l : List ℕ). length l) ed, length-drop at s) in
       taken d to out o k (rw (← ed) at lay)
 
-  begun : f ≡ framed.Whole took.address took.command took.end
+  begun : f ≡ whole took.address took.command took.end
   begun = r.answer ∙ (read_says d took.address took.command took.end took.reads).0
 
   -- it never comes to a packet that can't be read
-  pub lines_never : (why : Refusal) → f ≡ framed.Refused why → out ≡ o
-  lines_never why e = let z : framed.Whole took.address took.command took.end ≡ framed.Refused why = sym begun ∙ e in impossible cc
+  pub lines_never : (why : Refusal) → f ≡ Err why → out ≡ o
+  lines_never why e = let z : whole took.address took.command took.end ≡ Err why = sym begun ∙ e in impossible cc
 
-  module _ (a : Address) (c n : ℕ) (e : f ≡ framed.Whole a c n) (p : List ℕ) (ep : p ≡ take n d) where
+  module _ (a : Address) (c n : ℕ) (e : f ≡ whole a c n) (p : List ℕ) (ep : p ≡ take n d) where
     ends : took.end ≡ n
-    ends = let z : framed.Whole took.address took.command took.end ≡ framed.Whole a c n = sym begun ∙ e in cc
+    ends = let z : whole took.address took.command took.end ≡ whole a c n = sym begun ∙ e in cc
 
     long : (length p ≡ n) × (4 ≤ n)
     long =
@@ -210,29 +207,29 @@ lines_done s out o at to h lay = (rw packets_over at (rw (drop_of_length-le s h)
 -- ---- the whole list
 
 -- a list that isn't made into a sheet is refused as its count is
-refuses : (f : Found) (count : ℕ) (why : Refusal) → sheet_of f ≡ fault why → count_behind count f ≡ listed.Refused why
+refuses : (f : Found) (count : ℕ) (why : Refusal) → sheet_of f ≡ fault why → count_behind count f ≡ Err why
 unfolding sheet_of
 refuses over count why e = impossible cc
-refuses (misread w) count why e = let z : w ≡ why = cc in ap listed.Refused z
+refuses (misread w) count why e = let z : w ≡ why = cc in ap Err z
 refuses (packet p f) count why e = by_rest (sheet_of f) (refuses f (count + 1) why) e
   where
-    by_rest : (m : Made Refusal) → (m ≡ fault why → count_behind (count + 1) f ≡ listed.Refused why) → ahead p m ≡ fault why → count_behind (count + 1) f ≡ listed.Refused why
+    by_rest : (m : Made Refusal) → (m ≡ fault why → count_behind (count + 1) f ≡ Err why) → ahead p m ≡ fault why → count_behind (count + 1) f ≡ Err why
     by_rest (made t) ih e = impossible cc
     by_rest (fault w) ih e = let z : w ≡ why = cc in ih (ap fault z)
 
-module _ (s out : List ℕ) (a : Listed) (e : a ≡ count_packets (packets_of s)) where
-  pub export_refused : (why : Refusal) → a ≡ listed.Refused why → Lending built_number (built.Refused why) out (export_of s out)
+module _ (s out : List ℕ) (a : Result ℕ Refusal) (e : a ≡ count_packets (packets_of s)) where
+  pub export_refused : (why : Refusal) → a ≡ Err why → Lending number_by (Err why) out (export_of s out)
   unfolding export_of
   export_refused why f = go (sheet_of (packets_of s)) refl
     where
-      go : (m : Made Refusal) → sheet_of (packets_of s) ≡ m → Lending built_number (built.Refused why) out (export_made m out)
-      go (made t) r = let z : listed.Refused why ≡ listed.Packets _ = sym f ∙ e ∙ (list_counted s t r).counts in impossible cc
+      go : (m : Made Refusal) → sheet_of (packets_of s) ≡ m → Lending number_by (Err why) out (export_made m out)
+      go (made t) r = let z : Err why ≡ Ok _ = sym f ∙ e ∙ (list_counted s t r).counts in impossible cc
       go (fault w) r =
-          let z : listed.Refused why ≡ listed.Refused w = sym f ∙ e ∙ refuses (packets_of s) 0 w r in
+          let z : Err why ≡ Err w = sym f ∙ e ∙ refuses (packets_of s) 0 w r in
           let k : why ≡ w = cc in
           lent (rw k)
 
-  module _ (n : ℕ) (f : a ≡ listed.Packets n) where
+  module _ (n : ℕ) (f : a ≡ Ok n) where
     record All : Type 0 where
       pub text : List ℕ
       pub is : sheet_of (packets_of s) ≡ made text
@@ -242,10 +239,10 @@ module _ (s out : List ℕ) (a : Listed) (e : a ≡ count_packets (packets_of s)
     all = go (sheet_of (packets_of s)) refl
       where
         go : (m : Made Refusal) → sheet_of (packets_of s) ≡ m → All
-        go (fault w) r = let z : listed.Packets n ≡ listed.Refused w = sym f ∙ e ∙ refuses (packets_of s) 0 w r in impossible cc
+        go (fault w) r = let z : Ok n ≡ Err w = sym f ∙ e ∙ refuses (packets_of s) 0 w r in impossible cc
         go (made t) r =
             let k = list_counted s t r in
-            let z : listed.Packets n ≡ listed.Packets (0 + k.packets) = sym f ∙ e ∙ k.counts in
+            let z : Ok n ≡ Ok (0 + k.packets) = sym f ∙ e ∙ k.counts in
             let y : n ≡ 0 + k.packets = cc in
             record { text = t; is = r; long = rw (y, zero-add) k.long }
 
@@ -256,10 +253,10 @@ module _ (s out : List ℕ) (a : Listed) (e : a ≡ count_packets (packets_of s)
     pub export_few : n ≤ length s
     export_few = omega (arith, all.long.few)
 
-    pub export_short : length out < length s → Lending built_number (built.Refused Room) out (export_of s out)
+    pub export_short : length out < length s → Lending number_by (Err Room) out (export_of s out)
     export_short h = rw exported (no_room all.text out (omega (arith, all.long.exact, all.long.few)))
 
-    pub export_shorter : length s ≤ length out → (length out - length s) / 2 < length s - n → Lending built_number (built.Refused Room) out (export_of s out)
+    pub export_shorter : length s ≤ length out → (length out - length s) / 2 < length s - n → Lending number_by (Err Room) out (export_of s out)
     export_shorter h k = rw exported (no_room all.text out (omega (arith, all.long.exact, all.long.few)))
 
     module _ (h : length s ≤ length out) (k : length s - n ≤ (length out - length s) / 2) where
@@ -269,7 +266,7 @@ module _ (s out : List ℕ) (a : Listed) (e : a ≡ count_packets (packets_of s)
       pub export_room : HasRoom (sheet_of (packets_of s)) 0 (length out)
       export_room = rw all.is (omega (arith, sheet_fits))
 
-      pub export_done : (left : List ℕ) → left ≡ sheet_lines s out → Lending built_number (built.Bytes (length s + 2 * (length s - n))) left (export_of s out)
+      pub export_done : (left : List ℕ) → left ≡ sheet_lines s out → Lending number_by (Ok (length s + 2 * (length s - n))) left (export_of s out)
       export_done left g =
           let m : length all.text ≡ length s + 2 * (length s - n) = omega (arith, all.long.exact, all.long.few) in
           let y : left ≡ sets out 0 all.text = rw all.is at g in

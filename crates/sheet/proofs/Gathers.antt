@@ -1,5 +1,6 @@
 -- A line, as the code reads it.
 use Prim.Native.Nat.{ℕ, suc, ◌+◌, ◌-◌, ◌*◌, ◌/◌, ◌≤◌, ◌<◌}
+use Rattle.std.specs.Prelude.{Option, Some, None, ℕ}
 use mathlib.Core.Bool.{Bool, true, false, cond, false≢true}
 use mathlib.Core.List.{List, [], ◌∷◌}
 use mathlib.Core.Path.{◌≡◌, refl, sym, ap, ◌∙◌}
@@ -12,8 +13,6 @@ use borrow.Author.Tests.{le-ltb, eq-eqb, ne_eqb, ltb-false, eqb-true}
 use Rattle.wire.proofs.Impossible.{impossible}
 use Rattle.hexadecimal.specs.Hex.{space, Content, bytes, malformed}
 use Rattle.hexadecimal.specs.Gathering.{Gathered, whole, none, gathered, read_pairs}
-use Rattle.hexadecimal.specs.declared.pairs.Parsed.{Parsed}
-use Rattle.hexadecimal.specs.declared.pairs.Parsed.TheVariants.{Bytes, Malformed}
 use Rattle.hexadecimal.proofs.Storing.{laid_before}
 use Rattle.sheet.specs.Line.{starts_hex, either_digit, numerals_of, numeral_bytes, right_count, line_in}
 use Rattle.sheet.specs.Reading.{two_numeral, numeral_by, read_numeral, read_numerals, counted_by, read_counted, read_line}
@@ -126,27 +125,27 @@ second (x ∷ y ∷ d) l h k =
     sets_behind d (set (set l 0 x) 1 y) 2 1 (omega arith) ∙ get_or-set_same (set l 0 x) 1 y 0 (omega (arith, length-set l 0 x))
 
 module _ (n head v : ℕ) (e : (v ≡ head / 16) × (v ≤ 15)) where
-  pub count_right : n ≡ 2 + v → Bytes n ≡ counted_by n head
+  pub count_right : n ≡ 2 + v → Some n ≡ counted_by n head
   count_right h = rw (eq-eqb n (2 + head / 16) (omega (arith, e.0)))
 
-  pub count_wrong : (n ≡ 2 + v → ⊥) → Malformed ≡ counted_by n head
+  pub count_wrong : (n ≡ 2 + v → ⊥) → None ≡ counted_by n head
   count_wrong h = rw (ne_eqb n (2 + head / 16) (λ q. h (omega (arith, e.0))))
 
-module _ (d out m : List ℕ) (r : Parsed) (g : gathered r m ≡ read_numerals d out) where
-  pub counted_bad : r ≡ Malformed → none ≡ read_counted d out
+module _ (d out m : List ℕ) (r : Option ℕ) (g : gathered r m ≡ read_numerals d out) where
+  pub counted_bad : r ≡ None → none ≡ read_counted d out
   counted_bad f = rw (gathered_none (numeral_bytes (numerals_of d)) out (rw f at g))
 
-  pub counted_so : (n v : ℕ) (z : Parsed) → r ≡ Bytes n → length out ≡ 17 → v ≡ get_or m 1 0 → z ≡ counted_by n v → gathered z m ≡ read_counted d out
+  pub counted_so : (n v : ℕ) (z : Option ℕ) → r ≡ Some n → length out ≡ 17 → v ≡ get_or m 1 0 → z ≡ counted_by n v → gathered z m ≡ read_counted d out
   counted_so n v z f k u e =
       let x = gathered_whole (numeral_bytes (numerals_of d)) out n m (rw f at g) in
-      ap (λ (q : Parsed). gathered q m) e ∙ by_count x (eqb n (2 + v / 16)) refl ∙ ap (λ (c : Content). read_pairs (right_count c) 0 out) (sym x.is)
+      ap (λ (q : Option ℕ). gathered q m) e ∙ by_count x (eqb n (2 + v / 16)) refl ∙ ap (λ (c : Content). read_pairs (right_count c) 0 out) (sym x.is)
     where
       -- the second byte is what was stored there, if there are two
       same_head : (x : Heard (numeral_bytes (numerals_of d)) out n m) → 2 ≤ n → v ≡ get_or x.said 1 0
       same_head x h = u ∙ ap (λ (l : List ℕ). get_or l 1 0) x.stored ∙ second x.said out (omega (arith, x.long)) (omega arith)
 
       by_count : (x : Heard (numeral_bytes (numerals_of d)) out n m) (t : Bool) → eqb n (2 + v / 16) ≡ t
-          → gathered (cond t (Bytes n) Malformed) m ≡ read_pairs (right_count (bytes x.said)) 0 out
+          → gathered (cond t (Some n) None) m ≡ read_pairs (right_count (bytes x.said)) 0 out
       by_count x true q =
           let y : n ≡ 2 + v / 16 = eqb-true n (2 + v / 16) q in
           let w : get_or x.said 1 0 ≡ v = sym (same_head x (omega arith)) in

@@ -1,5 +1,6 @@
 -- A sheet, as the code imports it: its answer first, then its packets.
 use Prim.Native.Nat.{ℕ, suc, ◌+◌, ◌/◌, ◌≤◌, ◌<◌}
+use Rattle.std.specs.Prelude.{Option, Some, None, ℕ}
 use mathlib.Core.Bool.{Bool, true, false, cond}
 use mathlib.Core.List.{List, [], ◌∷◌, ◌++◌}
 use mathlib.Core.Path.{◌≡◌, refl, sym, ap, ◌∙◌}
@@ -24,8 +25,6 @@ use Rattle.text.specs.Lines.{first_line, lines_of}
 use Rattle.text.proofs.Parts.{lines_next}
 use Rattle.hexadecimal.specs.Hex.{bytes}
 use Rattle.hexadecimal.specs.Gathering.{gathered}
-use Rattle.hexadecimal.specs.declared.pairs.Parsed.{Parsed}
-use Rattle.hexadecimal.specs.declared.pairs.Parsed.TheVariants as parsed
 use Rattle.sheet.specs.Line.{line_in}
 use Rattle.sheet.specs.Sheet.{Made, made, fault, sheet_packet, on_line, packets_in, most_text, import_refused, import_made, import_of, imported_number}
 use Rattle.sheet.specs.Reading.{read_line, import_behind, import_answer, HasRoom, made_from, sheet_packets}
@@ -36,23 +35,23 @@ use Rattle.sheet.proofs.Laying.{Laying, laid_on}
 use Rattle.sheet.proofs.Said.{Said, line_says, said_some, said_few, packet_says, packet_long}
 
 -- a line that says something keeps the length of what holds it
-pub line_kept : (l b m : List ℕ) (q : Parsed) (n : ℕ) → gathered q m ≡ read_line l b → q ≡ parsed.Bytes n → length b ≡ 17 → length m ≡ 17
+pub line_kept : (l b m : List ℕ) (q : Option ℕ) (n : ℕ) → gathered q m ≡ read_line l b → q ≡ Some n → length b ≡ 17 → length m ≡ 17
 line_kept l b m q n g e h =
     let x = gathered_whole (line_in l) b n m (rw e at g) in
     ap (λ (k : List ℕ). length k) x.stored ∙ length-sets b 0 x.said ∙ h
 
 -- ---- the answer: lines are passed, and their packets have so many bytes
 
-module _ (sheet d l b m : List ℕ) (at passed total room : ℕ) (q : Parsed) (t : Imported) (h : at < length sheet) (ed : d ≡ drop at sheet) (el : l ≡ first_line d)
+module _ (sheet d l b m : List ℕ) (at passed total room : ℕ) (q : Option ℕ) (t : Imported) (h : at < length sheet) (ed : d ≡ drop at sheet) (el : l ≡ first_line d)
     (g : gathered q m ≡ read_line l b) (inv : import_behind passed total room (packets_in (lines_of (drop at sheet))) ≡ t) where
   here : import_behind passed total room (on_line (line_in l) (packets_in (lines_of (drop (at + length l + 1) sheet)))) ≡ t
   unfolding packets_in
   here = rw (lines_next sheet d l at h ed el) at inv
 
-  pub answer_fault : q ≡ parsed.Malformed → imported.Fault (passed + 1) ≡ t
+  pub answer_fault : q ≡ None → imported.Fault (passed + 1) ≡ t
   answer_fault e = rw (gathered_none (line_in l) b (rw e at g)) at here
 
-  module _ (n : ℕ) (e : q ≡ parsed.Bytes n) (v : ℕ) (long : length b ≡ 17) (ev : (v ≡ get_or m 1 0 / 16) × (v ≤ 15)) where
+  module _ (n : ℕ) (e : q ≡ Some n) (v : ℕ) (long : length b ≡ 17) (ev : (v ≡ get_or m 1 0 / 16) × (v ≤ 15)) where
     heard : Heard (line_in l) b n m
     heard = gathered_whole (line_in l) b n m (rw e at g)
 
@@ -114,18 +113,18 @@ has_packet : (d : List ℕ) (to n : ℕ) (r : Made ℕ) → HasRoom (on_line (by
 has_packet d to n (made p) h = omega (arith, length-append (sheet_packet d) p)
 has_packet d to n (fault k) h = absurd h
 
-module _ (sheet d l b m o out : List ℕ) (at to : ℕ) (q : Parsed) (h : at < length sheet) (ed : d ≡ drop at sheet) (el : l ≡ first_line d)
+module _ (sheet d l b m o out : List ℕ) (at to : ℕ) (q : Option ℕ) (h : at < length sheet) (ed : d ≡ drop at sheet) (el : l ≡ first_line d)
     (g : gathered q m ≡ read_line l b) (lay : Laying (packets_in (lines_of (drop at sheet))) to out o) where
   next : Laying (on_line (line_in l) (packets_in (lines_of (drop (at + length l + 1) sheet)))) to out o
   unfolding packets_in
   next = rw (lines_next sheet d l at h ed el) at lay
 
-  pub packets_never : q ≡ parsed.Malformed → out ≡ o
+  pub packets_never : q ≡ None → out ≡ o
   packets_never e =
       let z : Laying {F = ℕ} (fault 1) to out o = rw (gathered_none (line_in l) b (rw e at g)) at next in
       absurd z.room
 
-  module _ (n : ℕ) (e : q ≡ parsed.Bytes n) (long : length b ≡ 17) (p : List ℕ) (ep : p ≡ take n m) where
+  module _ (n : ℕ) (e : q ≡ Some n) (long : length b ≡ 17) (p : List ℕ) (ep : p ≡ take n m) where
     spoken : Heard (line_in l) b n m
     spoken = gathered_whole (line_in l) b n m (rw e at g)
 

@@ -1,5 +1,7 @@
 -- A list of packets as it is read: one behind the other, nothing lost; what is found is of the form, and conversely.
 use Prim.Native.Nat.{ℕ, zero, suc, ◌+◌, ◌-◌, ◌*◌, ◌≤◌, ◌<◌}
+use Rattle.packet.specs.declared.Framed.{Framed}
+use Rattle.std.specs.Prelude.{Result, Err}
 use mathlib.Core.List.{List, [], ◌∷◌, ◌++◌, append-nil}
 use mathlib.Core.Path.{◌≡◌, refl, sym, ap, subst, ◌∙◌}
 use native.Mathlib.Omega.{arith}
@@ -8,9 +10,7 @@ use lib.ListN.{length, take, drop, length-append, length-drop, take-append-drop}
 use lib.Seq.{length-take-le, take-length, take_at, drop_at}
 use Rattle.wire.specs.declared.address.Address.{Address}
 use Rattle.wire.specs.declared.refusal.Refusal.{Refusal}
-use Rattle.packet.specs.Packet.{read_of}
-use Rattle.packet.specs.declared.Framed.{Framed}
-use Rattle.packet.specs.declared.Framed.TheVariants as framed
+use Rattle.packet.specs.Packet.{read_of, whole}
 use Rattle.packet.proofs.Packets.{read_framing, read_followed}
 use Rattle.hexadecimal.specs.Hex.{hex_line}
 use Rattle.hexadecimal.proofs.Puts.{length_line}
@@ -31,7 +31,7 @@ pub packets_over : packets_of [] ≡ over
 unfolding packets_of
 packets_over = refl
 
-pub packets_then : (s : List ℕ) (a : Address) (c e : ℕ) → read_of s ≡ framed.Whole a c e → packets_of s ≡ packet (take e s) (packets_of (drop e s))
+pub packets_then : (s : List ℕ) (a : Address) (c e : ℕ) → read_of s ≡ whole a c e → packets_of s ≡ packet (take e s) (packets_of (drop e s))
 unfolding packets_of
 packets_then [] a c e r = absurd (let f = read_framing [] a c e r in omega (arith, f.end, f.reaches))
 packets_then (b ∷ s) a c e r =
@@ -39,7 +39,7 @@ packets_then (b ∷ s) a c e r =
     let z : suc (e - 1) ≡ e = omega (arith, f.end) in
     rw r (ap (λ (x : Found). packet (take e (b ∷ s)) x) (skipped (e - 1) s ∙ ap (λ (n : ℕ). packets_from 0 (drop n (b ∷ s))) z))
 
-pub packets_not : (s : List ℕ) (why : Refusal) → 0 < length s → read_of s ≡ framed.Refused why → packets_of s ≡ misread why
+pub packets_not : (s : List ℕ) (why : Refusal) → 0 < length s → read_of s ≡ Err why → packets_of s ≡ misread why
 unfolding packets_of
 packets_not [] why h r = absurd (not-suc-le-zero h)
 packets_not (b ∷ s) why h r = rw r
@@ -47,7 +47,7 @@ packets_not (b ∷ s) why h r = rw r
 -- ---- what is found is of the form
 
 -- the bytes up to its end are a packet and nothing behind it
-own_form : (s : List ℕ) (a : Address) (c e : ℕ) → read_of s ≡ framed.Whole a c e → PacketForm (take e s)
+own_form : (s : List ℕ) (a : Address) (c e : ℕ) → read_of s ≡ whole a c e → PacketForm (take e s)
 own_form s a c e r =
     let l : length (take e s) ≡ e = length-take-le e s (read_framing s a c e r).reaches in
     record { address = a; command = c; reads = rw l (rw append-nil at (read_followed s a c e r [])) }
@@ -58,9 +58,9 @@ from_formed (suc k) [] = none
 from_formed (suc k) (b ∷ s) = from_formed k s
 from_formed zero (b ∷ s) = by_packet (read_of (b ∷ s)) refl (λ k. from_formed k s)
   where
-    by_packet : (f : Framed) → read_of (b ∷ s) ≡ f → ((k : ℕ) → ListForm (drop k s) (packets_from k s)) → ListForm (b ∷ s) (found_by (b ∷ s) f (λ end. packets_from (end - 1) s))
-    by_packet (framed.Refused why) r rest = not {s = b ∷ s} (omega arith) r
-    by_packet (framed.Whole a c e) r rest =
+    by_packet : (f : Result Framed Refusal) → read_of (b ∷ s) ≡ f → ((k : ℕ) → ListForm (drop k s) (packets_from k s)) → ListForm (b ∷ s) (found_by (b ∷ s) f (λ end. packets_from (end - 1) s))
+    by_packet (Err why) r rest = not {s = b ∷ s} (omega arith) r
+    by_packet (whole a c e) r rest =
         let z : suc (e - 1) ≡ e = omega (arith, (read_framing (b ∷ s) a c e r).end) in
         let l : ListForm (drop e (b ∷ s)) (packets_from (e - 1) s) = subst (λ (n : ℕ). ListForm (drop n (b ∷ s)) (packets_from (e - 1) s)) z (rest (e - 1)) in
         subst (λ (x : List ℕ). ListForm x (packet (take e (b ∷ s)) (packets_from (e - 1) s))) (take-append-drop e (b ∷ s)) (then (own_form (b ∷ s) a c e r) l)
@@ -72,7 +72,7 @@ list_formed s = from_formed 0 s
 -- ---- and conversely
 
 -- a packet reads as itself, whatever follows it
-form_reads : (p : List ℕ) (f : PacketForm p) (more : List ℕ) → read_of (p ++ more) ≡ framed.Whole f.address f.command (length p)
+form_reads : (p : List ℕ) (f : PacketForm p) (more : List ℕ) → read_of (p ++ more) ≡ whole f.address f.command (length p)
 form_reads p f more = ap (λ (l : List ℕ). read_of (l ++ more)) (sym (take-length p)) ∙ read_followed p f.address f.command (length p) f.reads more
 
 pub form_list : {s : List ℕ} {f : Found} → ListForm s f → packets_of s ≡ f

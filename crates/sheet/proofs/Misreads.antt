@@ -1,10 +1,11 @@
 -- A list that isn't exported is refused with 1, 2 or 4, and no other: as reading refuses the first packet that doesn't read.
 use Prim.Native.Nat.{ℕ}
+use Rattle.std.specs.Prelude.{Err}
+use Rattle.packet.specs.Packet.{whole}
 use mathlib.Core.List.{List}
 use mathlib.Core.Path.{◌≡◌, ap, ◌∙◌}
 use Rattle.wire.specs.declared.refusal.Refusal.{Refusal}
 use Rattle.wire.proofs.Impossible.{impossible}
-use Rattle.packet.specs.declared.Framed.TheVariants as framed
 use Rattle.packet.proofs.Refusals.{Misread, read_refuses}
 use Rattle.sheet.specs.Sheet.{Made, made, fault}
 use Rattle.sheet.specs.Packets.{Found, packets_of, ahead, sheet_of}
@@ -14,7 +15,7 @@ use Rattle.sheet.proofs.Lists.{list_formed}
 form_misread : {s : List ℕ} {f : Found} → ListForm s f → (why : Refusal) → sheet_of f ≡ fault why → Misread why
 unfolding sheet_of
 form_misread none why e = impossible cc
-form_misread (not {s = s} {why = w} h r) why e = let z : w ≡ why = cc in read_refuses s why (r ∙ ap framed.Refused z)
+form_misread (not {s = s} {why = w} h r) why e = let z : w ≡ why = cc in read_refuses s why (r ∙ ap Err z)
 form_misread (then {p = p} {f = f} h l) why e = by_rest (sheet_of f) (λ r. form_misread l why r) e
   where
     by_rest : (m : Made Refusal) → (m ≡ fault why → Misread why) → ahead p m ≡ fault why → Misread why

@@ -1,9 +1,8 @@
 -- Document 02, requests 1 and 2, once more as a form: what a line, a sheet and a list of packets are. `proofs/Forms`, and for lists `proofs/Lists`, join it to what is read.
-use Rattle.std.specs.Prelude.{ℕ, suc, ◌+◌, ◌*◌, ◌/◌, ◌≤◌, ◌<◌, List, [], ◌∷◌, ◌++◌, ◌≡◌, length, get_or}
+use Rattle.std.specs.Prelude.{ℕ, suc, ◌+◌, ◌*◌, ◌/◌, ◌≤◌, ◌<◌, List, [], ◌∷◌, ◌++◌, ◌≡◌, length, get_or, Err}
 use Rattle.wire.specs.declared.address.Address.{Address}
 use Rattle.wire.specs.declared.refusal.Refusal.{Refusal}
-use Rattle.packet.specs.Packet.{read_of}
-use Rattle.packet.specs.declared.Framed.TheVariants as framed
+use Rattle.packet.specs.Packet.{read_of, whole}
 use Rattle.hexadecimal.specs.Hex.{space}
 use Rattle.sheet.specs.Line.{hex_word}
 use Rattle.sheet.specs.Sheet.{sheet_packet}
@@ -46,10 +45,10 @@ pub data FirstFault : List (List ℕ) → ℕ → Type 0 where
 pub record PacketForm (p : List ℕ) : Type 0 where
   pub address : Address
   pub command : ℕ
-  pub reads : read_of p ≡ framed.Whole address command (length p)
+  pub reads : read_of p ≡ whole address command (length p)
 
 -- "Packets stand back to back": the bytes of a list, and what it is found to be, up to "the first packet that doesn't read"
 pub data ListForm : List ℕ → Found → Type 0 where
   none : ListForm [] over
   then : {p s : List ℕ} {f : Found} → PacketForm p → ListForm s f → ListForm (p ++ s) (packet p f)
-  not : {s : List ℕ} {why : Refusal} → 0 < length s → read_of s ≡ framed.Refused why → ListForm s (misread why)
+  not : {s : List ℕ} {why : Refusal} → 0 < length s → read_of s ≡ Err why → ListForm s (misread why)

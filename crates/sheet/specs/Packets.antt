@@ -1,12 +1,10 @@
 -- Document 02, requests 1 and 2: packets exported. "Packets stand back to back"; "export writes two capitals".
-use Rattle.std.specs.Prelude.{ℕ, zero, suc, ◌-◌, List, [], ◌∷◌, ◌++◌, length, take, drop}
+use Rattle.std.specs.Prelude.{ℕ, zero, suc, ◌-◌, List, [], ◌∷◌, ◌++◌, length, take, drop, Result, Err}
+use Rattle.packet.specs.declared.Framed.{Framed}
 use Rattle.wire.specs.Promise.{Outcome}
 use Rattle.wire.specs.declared.refusal.Refusal.{Refusal}
-use Rattle.buffer.specs.declared.Built.{Built}
 use Rattle.buffer.specs.Buffer.{refused, written}
-use Rattle.packet.specs.Packet.{read_of}
-use Rattle.packet.specs.declared.Framed.{Framed}
-use Rattle.packet.specs.declared.Framed.TheVariants as framed
+use Rattle.packet.specs.Packet.{read_of, whole}
 use Rattle.hexadecimal.specs.Hex.{hex_line}
 use Rattle.sheet.specs.Line.{hex_word}
 use Rattle.sheet.specs.Sheet.{Made, made, fault}
@@ -18,9 +16,9 @@ pub data Found : Type 0 where
   misread : Refusal → Found
 
 -- by what reading says of the first: its own bytes, and what is found from where it ends
-abbrev pub found_by : List ℕ → Framed → (ℕ → Found) → Found
-found_by s (framed.Whole a c end) from = packet (take end s) (from end)
-found_by s (framed.Refused why) from = misread why
+abbrev pub found_by : List ℕ → Result Framed Refusal → (ℕ → Found) → Found
+found_by s (whole a c end) from = packet (take end s) (from end)
+found_by s (Err why) from = misread why
 
 -- where k bytes of the packet before are still to come
 abbrev pub packets_from : ℕ → List ℕ → Found
@@ -52,9 +50,9 @@ sheet_of (packet p f) = ahead p (sheet_of f)
 sheet_of (misread why) = fault why
 
 -- "then 5"
-abbrev pub export_made : Made Refusal → List ℕ → Outcome Built (List ℕ)
+abbrev pub export_made : Made Refusal → List ℕ → Outcome (Result ℕ Refusal) (List ℕ)
 export_made (made t) out = written t out
 export_made (fault why) out = refused why out
 
-unfoldable pub export_of : List ℕ → List ℕ → Outcome Built (List ℕ)
+unfoldable pub export_of : List ℕ → List ℕ → Outcome (Result ℕ Refusal) (List ℕ)
 export_of s out = export_made (sheet_of (packets_of s)) out

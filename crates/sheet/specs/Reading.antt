@@ -1,18 +1,15 @@
 -- Serves private contracts: a line read numeral by numeral; lengths known before anything is written; what is then written.
-use Rattle.std.specs.Prelude.{ℕ, ◌+◌, ◌*◌, ◌/◌, ◌≤◌, cond, List, ltb, eqb, length, get_or}
+use Rattle.std.specs.Prelude.{ℕ, ◌+◌, ◌*◌, ◌/◌, ◌≤◌, cond, List, ltb, eqb, length, get_or, Result, Ok, Err, Option, Some, None}
+use Rattle.wire.specs.declared.refusal.Refusal.{Refusal}
 use Rattle.std.proofs.lemmas.List.Edits.{sets}
 use Rattle.wire.specs.declared.refusal.Refusal.TheVariants.{Room}
 use Rattle.text.specs.Lines.{lines_of}
 use Rattle.hexadecimal.specs.Hex.{space}
 use Rattle.hexadecimal.specs.Gathering.{Gathered, read_pairs}
-use Rattle.hexadecimal.specs.declared.pairs.Parsed.{Parsed}
-use Rattle.hexadecimal.specs.declared.pairs.Parsed.TheVariants.{Bytes, Malformed}
 use Rattle.sheet.specs.declared.line.Numeral.{Numeral}
 use Rattle.sheet.specs.declared.line.Numeral.TheVariants.{Last, More, Bad}
 use Rattle.sheet.specs.declared.importing.Imported.{Imported}
 use Rattle.sheet.specs.declared.importing.Imported.TheVariants as imported
-use Rattle.sheet.specs.declared.exporting.Listed.{Listed}
-use Rattle.sheet.specs.declared.exporting.Listed.TheVariants as listed
 use Rattle.sheet.specs.Line.{either_digit, numerals_of, numeral_bytes, right_count, line_in}
 use Rattle.sheet.specs.Sheet.{Made, made, fault, packets_in}
 use Rattle.sheet.specs.Packets.{Found, over, packet, misread, packets_of, sheet_of}
@@ -42,8 +39,8 @@ read_numeral s = cond (ltb (length s) 1) Bad (numeral_by (either_digit (get_or s
 abbrev pub read_numerals : List ℕ → List ℕ → Gathered
 read_numerals s out = read_pairs (numeral_bytes (numerals_of s)) 0 out
 
-abbrev pub counted_by : ℕ → ℕ → Parsed
-counted_by n head = cond (eqb n (2 + head / 16)) (Bytes n) Malformed
+abbrev pub counted_by : ℕ → ℕ → Option ℕ
+counted_by n head = cond (eqb n (2 + head / 16)) (Some n) None
 
 abbrev pub read_counted : List ℕ → List ℕ → Gathered
 read_counted s out = read_pairs (right_count (numeral_bytes (numerals_of s))) 0 out
@@ -63,13 +60,13 @@ abbrev pub import_answer : Made ℕ → ℕ → Imported
 import_answer m room = import_behind 0 0 room m
 
 -- behind n packets that read
-abbrev pub count_behind : ℕ → Found → Listed
-count_behind n over = listed.Packets n
+abbrev pub count_behind : ℕ → Found → Result ℕ Refusal
+count_behind n over = Ok n
 count_behind n (packet p f) = count_behind (n + 1) f
-count_behind n (misread why) = listed.Refused why
+count_behind n (misread why) = Err why
 
 -- how many packets there are, or why the first that doesn't read is refused
-abbrev pub count_packets : Found → Listed
+abbrev pub count_packets : Found → Result ℕ Refusal
 count_packets f = count_behind 0 f
 
 -- ---- what is written

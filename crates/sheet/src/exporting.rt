@@ -1,35 +1,26 @@
 // Packets in, their sheet out.
 ghost use Rattle.std.specs.Prelude.{◌≡◌, ◌+◌, ◌*◌, ◌≤◌, length};
+ghost use Rattle.wire.specs.Numbers.{number_by};
 ghost use Rattle.wire.specs.Promise.{Lending};
-ghost use Rattle.buffer.specs.Buffer.{built_number};
 ghost use Rattle.buffer.specs.Wrote.{Wrote};
 ghost use Rattle.sheet.specs.Packets.{packets_of, sheet_line, sheet_of, export_of};
 ghost use Rattle.sheet.specs.Reading.{count_packets, HasRoom, sheet_lines};
 
-use buffer::Built;
-use packet::Framed;
 use text::{first, rest};
 use wire::Refusal;
 
-// What a list of packets is found to be: so many that read, or why the first that doesn't is refused.
-#[derive(Clone, Copy)]
-pub(crate) enum Listed {
-    Packets(usize),
-    Refused(Refusal),
-}
-
 // How many packets there are, each of them read: one pass over the list.
-fn count_packets(packets: &[u8]) -> Listed
+fn count_packets(packets: &[u8]) -> Result<usize, Refusal>
     ensures { result ≡ count_packets (packets_of packets.now) }
 {
     let mut at = 0;
     let mut count = 0;
     while at < packets.len() {
         match packet::read(rest(packets, at)) {
-            Framed::Refused(why) => {
-                return Listed::Refused(why);
+            Err(why) => {
+                return Err(why);
             }
-            Framed::Whole {
+            whole {
                 address: _,
                 command: _,
                 end,
@@ -39,7 +30,7 @@ fn count_packets(packets: &[u8]) -> Listed
             }
         }
     }
-    Listed::Packets(count)
+    Ok(count)
 }
 
 // The line of a packet, from `at` on; the position behind it.
@@ -65,10 +56,10 @@ fn put_lines(packets: &[u8], out: &mut [u8])
         let tail = rest(packets, at);
         match packet::frame(tail) {
             // It never comes to this.
-            Framed::Refused(_) => {
+            Err(_) => {
                 return;
             }
-            Framed::Whole {
+            whole {
                 address: _,
                 command: _,
                 end,
@@ -81,26 +72,26 @@ fn put_lines(packets: &[u8], out: &mut [u8])
 }
 
 // The lines of some packets, at the start of `out`, whose rest stays. A refusal leaves it as it stood.
-pub fn export(packets: &[u8], out: &mut [u8]) -> Built
-    ensures { Lending built_number result out.new (export_of packets.now out.old) }
+pub fn export(packets: &[u8], out: &mut [u8]) -> Result<usize, Refusal>
+    ensures { Lending number_by result out.new (export_of packets.now out.old) }
 {
     match count_packets(packets) {
-        Listed::Refused(why) => Built::Refused(why),
-        Listed::Packets(count) => {
+        Err(why) => Err(why),
+        Ok(count) => {
             // Each line has three characters for each byte of its packet but two: `HEX` and a space for header and sum.
             // So a sheet has one for each byte, and twice as many again but for the packets.
             let room = out.len();
             let length = packets.len();
             let more = length - count;
             if room < length {
-                return Built::Refused(Refusal::Room);
+                return Err(Refusal::Room);
             }
             if (room - length) / 2 < more {
-                return Built::Refused(Refusal::Room);
+                return Err(Refusal::Room);
             }
             let total = length + 2 * more;
             put_lines(packets, out);
-            Built::Bytes(total)
+            Ok(total)
         }
     }
 }

@@ -7,7 +7,6 @@ ghost use Rattle.sheet.specs.Sheet.{sheet_packet, packets_in, most_text, import_
 ghost use Rattle.sheet.specs.Reading.{import_answer, HasRoom, sheet_packets};
 
 use crate::line::{MOST_LINE, data_count, read_line};
-use hexadecimal::Parsed;
 use text::{first, first_line, rest};
 use wire::Refusal;
 
@@ -47,10 +46,10 @@ fn import_answer(sheet: &[u8], room: usize) -> Imported
     while at < sheet.len() {
         let line = first_line(rest(sheet, at));
         match read_line(line, &mut bytes) {
-            Parsed::Malformed => {
+            None => {
                 return Imported::Fault(passed + 1);
             }
-            Parsed::Bytes(_) => {
+            Some(_) => {
                 // Header, address, command byte and sum, and as many data bytes as the command byte says.
                 total += 4 + data_count(bytes[1]);
                 passed += 1;
@@ -88,10 +87,10 @@ fn put_packets(sheet: &[u8], out: &mut [u8])
         let line = first_line(rest(sheet, at));
         match read_line(line, &mut bytes) {
             // It never comes to this.
-            Parsed::Malformed => {
+            None => {
                 return;
             }
-            Parsed::Bytes(n) => {
+            Some(n) => {
                 to = put_packet(out, to, first(&bytes, n));
                 at = at + line.len() + 1;
             }

@@ -5,7 +5,7 @@ ghost use Rattle.sheet.specs.Line.{starts_hex, either_digit};
 ghost use Rattle.sheet.specs.Reading.{two_numeral, numeral_by, read_numeral, read_numerals, counted_by, read_counted, read_line};
 
 use buffer::store;
-use hexadecimal::{Parsed, SPACE};
+use hexadecimal::SPACE;
 use text::rest;
 
 // The most bytes of a line: address, command byte, 15 data bytes.
@@ -105,7 +105,7 @@ fn read_numeral(s: &[u8]) -> Numeral
 }
 
 // The bytes that numerals say go to the start of `out`, as many as it has room for.
-fn read_numerals(s: &[u8], out: &mut [u8]) -> Parsed
+fn read_numerals(s: &[u8], out: &mut [u8]) -> Option<usize>
     ensures { gathered result out.new ≡ read_numerals s.now out.old }
 {
     let mut at = 0;
@@ -114,11 +114,11 @@ fn read_numerals(s: &[u8], out: &mut [u8]) -> Parsed
         let next = read_numeral(rest(s, at));
         match next {
             Numeral::Bad => {
-                return Parsed::Malformed;
+                return None;
             }
             Numeral::Last(b) => {
                 store(out, count, b);
-                return Parsed::Bytes(count + 1);
+                return Some(count + 1);
             }
             Numeral::More(b, n) => {
                 store(out, count, b);
@@ -137,32 +137,32 @@ pub(crate) fn data_count(head: u8) -> usize
 }
 
 // So many bytes, the second of them this command byte: whether the data bytes number what it says.
-fn counted_by(n: usize, head: u8) -> Parsed
+fn counted_by(n: usize, head: u8) -> Option<usize>
     ensures { result ≡ counted_by n head }
 {
     if n == 2 + data_count(head) {
-        Parsed::Bytes(n)
+        Some(n)
     } else {
-        Parsed::Malformed
+        None
     }
 }
 
 // The bytes that numerals say, if they are as many as they must be. Of more than `out` has room for the count is never right.
-fn read_counted(s: &[u8], out: &mut [u8; MOST_LINE]) -> Parsed
+fn read_counted(s: &[u8], out: &mut [u8; MOST_LINE]) -> Option<usize>
     ensures { gathered result out.new ≡ read_counted s.now out.old }
 {
     match read_numerals(s, out) {
-        Parsed::Malformed => Parsed::Malformed,
-        Parsed::Bytes(n) => counted_by(n, out[1]),
+        None => None,
+        Some(n) => counted_by(n, out[1]),
     }
 }
 
 // The bytes of a line go to the start of `out`.
-pub(crate) fn read_line(line: &[u8], out: &mut [u8; MOST_LINE]) -> Parsed
+pub(crate) fn read_line(line: &[u8], out: &mut [u8; MOST_LINE]) -> Option<usize>
     ensures { gathered result out.new ≡ read_line line.now out.old }
 {
     if starts_hex(line) {
         return read_counted(rest(line, 4), out);
     }
-    Parsed::Malformed
+    None
 }

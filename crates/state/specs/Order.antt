@@ -1,5 +1,5 @@
 -- ORDER: "kind target FAMILY command-byte data..", a command with whom it is for.
-use Rattle.std.specs.Prelude.{ℕ, ◌+◌, ◌/◌, ◌%◌, Bool, false, cond, not, ◌||◌, List, [], ◌∷◌, ltb, eqb, length, drop, get_or, replicate}
+use Rattle.std.specs.Prelude.{ℕ, ◌+◌, ◌/◌, ◌%◌, Bool, false, cond, not, ◌||◌, List, [], ◌∷◌, ltb, eqb, length, drop, get_or, replicate, Option, Some, None}
 use Rattle.wire.specs.Address.{byte_of}
 use Rattle.wire.specs.declared.address.Address.{Address}
 use Rattle.wire.specs.declared.address.Address.TheVariants as address
@@ -13,8 +13,6 @@ use Rattle.command.specs.Owner.{has}
 use Rattle.command.specs.Role.{role_of, is_pacing}
 use Rattle.command.specs.declared.Command.{Command}
 use Rattle.command.specs.declared.Command.TheVariants.{Nop}
-use Rattle.command.specs.declared.Reading.{Reading}
-use Rattle.command.specs.declared.Reading.TheVariants.{Known, Other}
 use Rattle.fields.specs.declared.answer.Answer.{Answer}
 use Rattle.fields.specs.Field.{fields_byte}
 use Rattle.fields.specs.Answer.{answer_put_all}
@@ -24,32 +22,32 @@ abbrev pub data_count : List ℕ → ℕ
 data_count s = fields_byte s 3 / 16
 
 -- by its FAMILY "00, as the LS-773 has it ..; 01, as the LS-173AP has it, only its own five"; "a value off its range .. the call's to refuse"
-unfoldable pub read_family : ℕ → ℕ → List ℕ → Reading
-read_family f k d = cond (eqb f 0) (codec_read Gate k d) (cond (eqb f 1) (drive_own k d) Other)
+unfoldable pub read_family : ℕ → ℕ → List ℕ → Option Command
+read_family f k d = cond (eqb f 0) (codec_read Gate k d) (cond (eqb f 1) (drive_own k d) None)
 
 -- the command of its family, of the command byte and of what stands behind it
-abbrev pub order_command : List ℕ → Reading
+abbrev pub order_command : List ℕ → Option Command
 order_command s = read_family (fields_byte s 2) (fields_byte s 3 % 16) (drop 4 s)
 
 -- the command, where s has four bytes and as many data bytes, and its kind is 00 or 01
-unfoldable pub read_order : List ℕ → Reading
+unfoldable pub read_order : List ℕ → Option Command
 read_order s =
-    cond (ltb (length s) 4) Other
-    (cond (eqb (length s) (4 + data_count s)) (cond (ltb 1 (fields_byte s 0)) Other (order_command s)) Other)
+    cond (ltb (length s) 4) None
+    (cond (eqb (length s) (4 + data_count s)) (cond (ltb 1 (fields_byte s 0)) None (order_command s)) None)
 
 -- a command was read, and of a Set Baud Rate the kind is "01 (a group) only"
-abbrev pub is_ordered : ℕ → Reading → Bool
-is_ordered k (Known c) = not (is_pacing (role_of c)) || eqb k 1
-is_ordered k Other = false
+abbrev pub is_ordered : ℕ → Option Command → Bool
+is_ordered k (Some c) = not (is_pacing (role_of c)) || eqb k 1
+is_ordered k None = false
 
 -- s is an order
 abbrev pub is_order : List ℕ → Bool
 is_order s = is_ordered (fields_byte s 0) (read_order s)
 
 -- the command that was read; Nop for none
-abbrev pub known_of : Reading → Command
-known_of (Known c) = c
-known_of Other = Nop
+abbrev pub known_of : Option Command → Command
+known_of (Some c) = c
+known_of None = Nop
 
 -- the command of an order
 abbrev pub read_command : List ℕ → Command

@@ -3,7 +3,7 @@
 ghost use Rattle.std.specs.Prelude.{◌≡◌};
 ghost use Rattle.state.specs.Order.{data_count, read_family, read_order, is_order, read_command, read_target, target_kind, family_of, put_order};
 
-use command::{Command, Reading};
+use command::Command;
 use fields::{Answer, byte};
 use text::rest;
 use wire::{Address, Group, Individual, Kind};
@@ -16,28 +16,28 @@ pub(crate) fn data_count(s: &[u8]) -> u8
 }
 
 // A command as its family has it. Of a drive's own no range is looked at: that is the call's to do.
-fn read_family(family: u8, command: u8, bytes: &[u8]) -> Reading
+fn read_family(family: u8, command: u8, bytes: &[u8]) -> Option<Command>
     ensures { result ≡ read_family family command bytes.now }
 {
     match family {
         0 => codec::read(Kind::Gate, command, bytes),
         1 => codec::drive_own(command, bytes),
-        _ => Reading::Other,
+        _ => None,
     }
 }
 
 // The command of s, where it is an order.
-fn read_order(s: &[u8]) -> Reading
+fn read_order(s: &[u8]) -> Option<Command>
     ensures { result ≡ read_order s.now }
 {
     if s.len() < 4 {
-        return Reading::Other;
+        return None;
     }
     if s.len() != 4 + data_count(s) as usize {
-        return Reading::Other;
+        return None;
     }
     if 1 < byte(s, 0) {
-        return Reading::Other;
+        return None;
     }
     read_family(byte(s, 2), byte(s, 3) % 16, rest(s, 4))
 }
@@ -47,8 +47,8 @@ pub fn is_order(s: &[u8]) -> bool
     ensures { result ≡ is_order s.now }
 {
     match read_order(s) {
-        Reading::Known(c) => !c.role().is_pacing() | (byte(s, 0) == 1),
-        Reading::Other => false,
+        Some(c) => !c.role().is_pacing() | (byte(s, 0) == 1),
+        None => false,
     }
 }
 
@@ -57,8 +57,8 @@ pub fn read_command(s: &[u8]) -> Command
     ensures { result ≡ read_command s.now }
 {
     match read_order(s) {
-        Reading::Known(command) => command,
-        Reading::Other => Command::Nop,
+        Some(command) => command,
+        None => Command::Nop,
     }
 }
 

@@ -1,5 +1,6 @@
 -- Status packets: one reads back as its parts, an accepted one is the one of its parts, and a changed one is never good.
 use Prim.Native.Nat.{ℕ, suc, ◌+◌, ◌-◌, ◌≤◌}
+use Rattle.std.specs.Prelude.{Ok, Err}
 use mathlib.Core.Path.{◌≡◌, refl, ap, ◌∙◌}
 use mathlib.Core.Bool.{Bool, true, false, cond}
 use mathlib.Core.List.{List, [], ◌∷◌}
@@ -13,7 +14,6 @@ use Rattle.status.specs.Status.{status_packet, status_read, items_part, T, most_
 use Rattle.buffer.specs.Change.{Altered}
 use Rattle.wire.specs.declared.refusal.Refusal.{Refusal}
 use Rattle.wire.specs.declared.refusal.Refusal.TheVariants.{Short, Long, Sum}
-use Rattle.status.specs.declared.Status.TheVariants.{Whole, Refused}
 use Rattle.status.specs.declared.Answer.TheVariants.{Silent}
 use Rattle.wire.proofs.Choice.{chose_first, chose_second}
 use Rattle.wire.proofs.Impossible.{impossible}
@@ -25,12 +25,12 @@ status_length b d = omega (arith, length_with_sum (b ∷ d))
 -- ---- reading
 
 -- a status packet of the right length, by its sum
-pub whole : (s : List ℕ) (k : ℕ) (t : Bool) → length s ≡ 2 + k → ends_in_sum s ≡ t → status_read s k ≡ cond t (Whole (get_or s 0 0)) (Refused Sum)
+pub whole : (s : List ℕ) (k : ℕ) (t : Bool) → length s ≡ 2 + k → ends_in_sum s ≡ t → status_read s k ≡ cond t (Ok (get_or s 0 0)) (Err Sum)
 unfolding status_read
 whole s k t n e = simp (le-ltb (length s) (2 + k) (omega arith), le-ltb (2 + k) (length s) (omega arith), e)
 
 -- a status packet reads back as its status byte
-pub packet_reads : (b : ℕ) (d : List ℕ) → status_read (status_packet b d) (length d) ≡ Whole b
+pub packet_reads : (b : ℕ) (d : List ℕ) → status_read (status_packet b d) (length d) ≡ Ok b
 packet_reads b d = whole (status_packet b d) (length d) true (status_length b d) (with_sum_ends (b ∷ d))
 
 -- and its items
@@ -40,7 +40,7 @@ packet_items b d =
     let k : length (status_packet b d) - 2 ≡ length d = omega (arith, status_length b d) in
     rw k (take-append_seam d (sum_of (b ∷ d) ∷ []))
 
-refused_not : (why : Refusal) (b : ℕ) → Refused why ≡ Whole b → ⊥
+refused_not : (why : Refusal) (b : ℕ) → Err why ≡ Ok b → ⊥
 refused_not why b e = impossible cc
 
 pub record Accepted (s : List ℕ) (k b : ℕ) : Type 0 where
@@ -48,7 +48,7 @@ pub record Accepted (s : List ℕ) (k b : ℕ) : Type 0 where
   pub ends : ends_in_sum s ≡ true
   pub first : get_or s 0 0 ≡ b
 
-pub accepted : (s : List ℕ) (k b : ℕ) → status_read s k ≡ Whole b → Accepted s k b
+pub accepted : (s : List ℕ) (k b : ℕ) → status_read s k ≡ Ok b → Accepted s k b
 unfolding status_read
 accepted s k b e =
     let t1 = chose_second (ltb (length s) (2 + k)) e (refused_not Short b) in
@@ -61,7 +61,7 @@ first_then [] k e = absurd (omega arith)
 first_then (x ∷ s) k e = refl
 
 -- an accepted status packet is the one of its parts
-pub accepted_packet : (s : List ℕ) (k b : ℕ) → status_read s k ≡ Whole b → s ≡ status_packet b (items_part s)
+pub accepted_packet : (s : List ℕ) (k b : ℕ) → status_read s k ≡ Ok b → s ≡ status_packet b (items_part s)
 unfolding items_part
 accepted_packet s k b e =
     let a = accepted s k b e in
@@ -71,7 +71,7 @@ accepted_packet s k b e =
     ends_shape s a.ends ∙ ap (λ (l : List ℕ). with_sum l) q
 
 -- one byte changed: wrong sum
-pub altered_reads : (s t : List ℕ) (k b : ℕ) → status_read s k ≡ Whole b → Altered s t → status_read t k ≡ Refused Sum
+pub altered_reads : (s t : List ℕ) (k b : ℕ) → status_read s k ≡ Ok b → Altered s t → status_read t k ≡ Err Sum
 altered_reads s t k b e d =
     let a = accepted s k b e in
     whole t k false (changed_length d.change ∙ a.size) (changed_breaks d.change a.ends)

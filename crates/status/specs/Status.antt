@@ -1,12 +1,11 @@
 -- Document 01, "Packets": status packets, and the host's judgement of a reply. Document 02, request 6: the items' byte counts by kind.
-use Rattle.std.specs.Prelude.{ℕ, ◌+◌, ◌-◌, ◌/◌, ◌%◌, cond, List, [], ◌∷◌, length, get_or, take, drop, ltb, eqb}
-use Rattle.wire.specs.Numbers.{done, number_of}
+use Rattle.std.specs.Prelude.{ℕ, ◌+◌, ◌-◌, ◌/◌, ◌%◌, cond, List, [], ◌∷◌, length, get_or, take, drop, ltb, eqb, Result, Ok, Err}
+use Rattle.wire.specs.declared.refusal.Refusal.{Refusal}
+use Rattle.wire.specs.Numbers.{done, number_of, number_by}
 use Rattle.buffer.specs.Sum.{with_sum, ends_in_sum}
 use Rattle.wire.specs.declared.kind.Kind.{Kind}
 use Rattle.wire.specs.declared.kind.Kind.TheVariants.{Gate, Drive}
 use Rattle.wire.specs.declared.refusal.Refusal.TheVariants.{Short, Long, Sum}
-use Rattle.status.specs.declared.Status.{Status}
-use Rattle.status.specs.declared.Status.TheVariants.{Whole, Refused}
 use Rattle.status.specs.declared.Answer.{Answer}
 use Rattle.status.specs.declared.Answer.TheVariants.{Clear, Marked, Silent}
 
@@ -15,12 +14,12 @@ abbrev pub status_packet : ℕ → List ℕ → List ℕ
 status_packet b d = with_sum (b ∷ d)
 
 -- "Reading a status packet under a mask: too short, 1; too long, 3; wrong sum, 4"; k is how many item bytes the mask asks for
-unfoldable pub status_read : List ℕ → ℕ → Status
+unfoldable pub status_read : List ℕ → ℕ → Result ℕ Refusal
 status_read s k =
-    cond (ltb (length s) (2 + k)) (Refused Short)
-    (cond (ltb (2 + k) (length s)) (Refused Long)
-    (cond (ends_in_sum s) (Whole (get_or s 0 0))
-    (Refused Sum)))
+    cond (ltb (length s) (2 + k)) (Err Short)
+    (cond (ltb (2 + k) (length s)) (Err Long)
+    (cond (ends_in_sum s) (Ok (get_or s 0 0))
+    (Err Sum)))
 
 -- the items start behind the status byte, which is byte 0
 abbrev pub items_from : ℕ
@@ -30,17 +29,12 @@ items_from = 1
 unfoldable pub items_part : List ℕ → List ℕ
 items_part s = take (length s - 2) (drop items_from s)
 
--- the number of what reading finds
-abbrev pub status_number : Status → ℕ
-status_number (Whole b) = done
-status_number (Refused why) = number_of why
-
--- Define Status in the LS-773 manual, the byte counts: bit 0 the inputs, bits 1 to 3 the three analog values, bit 4 the counter,
+-- Define (Result ℕ Refusal) in the LS-773 manual, the byte counts: bit 0 the inputs, bits 1 to 3 the three analog values, bit 4 the counter,
 -- bit 5 device ID and version, bits 6 and 7 the captured inputs and counter
 abbrev pub gate_counts : List ℕ
 gate_counts = 2 ∷ 1 ∷ 1 ∷ 1 ∷ 4 ∷ 2 ∷ 2 ∷ 4 ∷ []
 
--- Define Status in the LS-173AP manual, the byte counts: bit 0 the position, bit 1 the A/D value, bit 2 the velocity, bit 3 the auxiliary status,
+-- Define (Result ℕ Refusal) in the LS-173AP manual, the byte counts: bit 0 the position, bit 1 the A/D value, bit 2 the velocity, bit 3 the auxiliary status,
 -- bit 4 the home position, bit 5 device ID and version, bit 6 the position error, bit 7 "don't care": no item
 abbrev pub drive_counts : List ℕ
 drive_counts = 4 ∷ 1 ∷ 2 ∷ 1 ∷ 4 ∷ 2 ∷ 2 ∷ 0 ∷ []

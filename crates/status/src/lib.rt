@@ -4,9 +4,10 @@
 #![tactic(auto)]
 
 ghost use Rattle.std.specs.Prelude.{◌≡◌};
+ghost use Rattle.wire.specs.Numbers.{number_by};
 ghost use Rattle.wire.specs.Promise.{Promise};
 ghost use Rattle.wire.specs.Part.{Part};
-ghost use Rattle.status.specs.Status.{counts, status_read, status_number, items_from, items_part, judge_of};
+ghost use Rattle.status.specs.Status.{counts, status_read, items_from, items_part, judge_of};
 
 use wire::{Kind, Refusal};
 
@@ -56,43 +57,24 @@ pub fn counts(kind: Kind) -> [u8; 8]
     }
 }
 
-// What reading a status packet finds: its status byte, or the refusal. The items are `items_part`.
-#[derive(Clone, Copy)]
-pub enum Status {
-    Whole(u8),
-    Refused(Refusal),
-}
-
-impl Status {
-    // The paper's number.
-    pub fn number(self) -> u8
-        ensures { result ≡ status_number self }
-    {
-        match self {
-            Status::Whole(_) => wire::DONE,
-            Status::Refused(why) => why.number(),
-        }
-    }
-}
-
 // One whole status packet with so many item bytes.
-pub fn read(s: &[u8], items: usize) -> Status
-    ensures { Promise status_number result (status_read s.now items) }
+pub fn read(s: &[u8], items: usize) -> Result<u8, Refusal>
+    ensures { Promise number_by result (status_read s.now items) }
 {
     if s.len() < 2 {
-        return Status::Refused(Refusal::Short);
+        return Err(Refusal::Short);
     }
     let found = s.len() - 2;
     if found < items {
-        return Status::Refused(Refusal::Short);
+        return Err(Refusal::Short);
     }
     if items < found {
-        return Status::Refused(Refusal::Long);
+        return Err(Refusal::Long);
     }
     if buffer::ends_in_sum(s) {
-        Status::Whole(s[0])
+        Ok(s[0])
     } else {
-        Status::Refused(Refusal::Sum)
+        Err(Refusal::Sum)
     }
 }
 

@@ -1,10 +1,9 @@
 -- The exits of the functions that decide a delivery, as the code comes to them.
-use Rattle.std.proofs.Common.{◌≡◌, ℕ, Bool, true, false, not, List, sym, ap, ◌∙◌}
+use Rattle.std.proofs.Common.{◌≡◌, ℕ, Bool, true, false, not, List, sym, ap, ◌∙◌, Result, Ok, Err}
+use Rattle.wire.specs.Numbers.{number_by}
 use Rattle.wire.specs.Promise.{Outcome, Lending}
-use Rattle.buffer.specs.Buffer.{written, built_number}
+use Rattle.buffer.specs.Buffer.{written}
 use Rattle.wire.specs.declared.refusal.Refusal.{Refusal}
-use Rattle.buffer.specs.declared.Built.{Built}
-use Rattle.buffer.specs.declared.Built.TheVariants as built
 use Rattle.command.specs.declared.Command.{Command}
 use Rattle.command.specs.declared.Role.{Role}
 use Rattle.command.specs.Role.{role_of}
@@ -46,12 +45,12 @@ pub told_answer : (answer : Delivery) (acting r : ℕ) (h : Messages) → r ≡ 
 told_answer answer acting r h e = rw e
 
 -- one node replies, to what the packet says to its kind
-module _ (n : Node) (acting : ℕ) (h : Messages) (own : Message) (said : own ≡ message_to n.kind h) (out left : List ℕ) (b : Built) (p : Lending built_number b left (written (reply_of own n) out)) where
-  pub one_sent : (k : ℕ) (d : Decided) → b ≡ built.Bytes k → d ≡ decide_answer (Replied k) acting h → record { answer = d; left = left } ≡ decide_one n acting h out
+module _ (n : Node) (acting : ℕ) (h : Messages) (own : Message) (said : own ≡ message_to n.kind h) (out left : List ℕ) (b : Result ℕ Refusal) (p : Lending number_by b left (written (reply_of own n) out)) where
+  pub one_sent : (k : ℕ) (d : Decided) → b ≡ Ok k → d ≡ decide_answer (Replied k) acting h → record { answer = d; left = left } ≡ decide_one n acting h out
   unfolding decide_one
   one_sent k d e f = rw (← said, ← p.answer, e, f, p.leaves)
 
-  pub one_short : (why : Refusal) (d : Decided) → b ≡ built.Refused why → d ≡ decide_refusal why → record { answer = d; left = left } ≡ decide_one n acting h out
+  pub one_short : (why : Refusal) (d : Decided) → b ≡ Err why → d ≡ decide_refusal why → record { answer = d; left = left } ≡ decide_one n acting h out
   unfolding decide_one
   one_short why d e f = rw (← said, ← p.answer, e, f, p.leaves)
 

@@ -1,8 +1,8 @@
 -- "A node hears only commands at its own" divisor: one that hears has the divisor that was sent at, and one with another neither acts nor replies.
-use Rattle.std.proofs.Common.{◌≡◌, ℕ, suc, Bool, true, false, ◌&&◌, ◌||◌, eqb, List, [], ◌∷◌, refl, ap, ap₂, ne_eqb, eqb-true}
+use Rattle.std.proofs.Common.{◌≡◌, ℕ, suc, Bool, true, false, ◌&&◌, ◌||◌, eqb, List, [], ◌∷◌, refl, ap, ap₂, ne_eqb, eqb-true, Err}
+use Rattle.packet.specs.Packet.{whole}
 use Rattle.wire.specs.declared.address.Address.{Address}
 use Rattle.wire.proofs.Choice.{same, both}
-use Rattle.packet.specs.declared.Framed.TheVariants as framed
 use Rattle.node.specs.declared.state.Node.{Node}
 use Rattle.message.specs.declared.Messages.{Messages}
 use Rattle.message.specs.Message.{is_answered}
@@ -64,7 +64,7 @@ module _ (at : ℕ) (to : Address) (h : Messages) where
   silent ns u = rw (quiet_at true ns u 0) (same (is_answered h.gate) silence)
 
 -- a packet at a divisor that no node has: nobody replies, and all stays as it stood
-pub nobody_hears : (ns : List Node) (at : ℕ) (p out : List ℕ) (to : Address) (k n : ℕ) → valid ns ≡ true → frame_alone p ≡ framed.Whole to k n → NobodyAt at ns
+pub nobody_hears : (ns : List Node) (at : ℕ) (p out : List ℕ) (to : Address) (k n : ℕ) → valid ns ≡ true → frame_alone p ≡ whole to k n → NobodyAt at ns
     → deliver_of ns at p out ≡ record { answer = Silent; left = record { nodes = ns; reply = out } }
 unfolding deliver_of delivered_to after
 nobody_hears ns at p out to k n v f u =

@@ -1,16 +1,14 @@
 -- What the steps of a delivery come to together is what document 01 says of the packet.
-use Rattle.std.proofs.Common.{◌≡◌, ℕ, zero, suc, ◌<◌, ◌≤◌, Bool, true, false, cond, ◌&&◌, leb, List, [], ◌∷◌, length, get_or, sym, refl, ap, ◌∙◌, le_of_suc-le-suc, not-suc-le-zero, leb-true}
+use Rattle.std.proofs.Common.{◌≡◌, ℕ, zero, suc, ◌<◌, ◌≤◌, Bool, true, false, cond, ◌&&◌, leb, List, [], ◌∷◌, length, get_or, sym, refl, ap, ◌∙◌, le_of_suc-le-suc, not-suc-le-zero, leb-true, Result, Ok, Err}
+use Rattle.packet.specs.declared.Framed.{Framed}
+use Rattle.packet.specs.Packet.{whole}
 use Rattle.wire.specs.Numbers.{most_nodes}
 use Rattle.wire.specs.Promise.{Outcome, Lending, lent}
 use Rattle.buffer.specs.Buffer.{written}
 use Rattle.wire.specs.declared.address.Address.{Address}
 use Rattle.wire.specs.declared.refusal.Refusal.{Refusal}
 use Rattle.wire.specs.declared.refusal.Refusal.TheVariants.{Range}
-use Rattle.buffer.specs.declared.Built.{Built}
-use Rattle.buffer.specs.declared.Built.TheVariants as built
 use Rattle.wire.proofs.Choice.{both}
-use Rattle.packet.specs.declared.Framed.{Framed}
-use Rattle.packet.specs.declared.Framed.TheVariants as framed
 use Rattle.node.specs.declared.state.Node.{Node}
 use Rattle.message.specs.declared.Message.TheVariants.{Other}
 use Rattle.message.specs.declared.Messages.{Messages}
@@ -49,9 +47,9 @@ refused_all : (why : Refusal) (n : Node) (ns : List Node) (out : List ℕ) → c
 refused_all why n ns out = rw (visit_none (to_both Other) ns)
 
 module _ (at : ℕ) (to : Address) (h : Messages) (ns : List Node) (out : List ℕ) (acting : ℕ) (acted : act_all h (touched_of h acting) ns ≡ after at to h ns) where
-  by_built : (b : Built) (left : List ℕ) → came (record { answer = decide_built b acting h; left = left }) ns ≡ on_built b at to h ns left
-  by_built (built.Bytes n) left = rw acted
-  by_built (built.Refused why) left = rw (visit_none (to_both Other) ns)
+  by_built : (b : Result ℕ Refusal) (left : List ℕ) → came (record { answer = decide_built b acting h; left = left }) ns ≡ on_built b at to h ns left
+  by_built (Ok n) left = rw acted
+  by_built (Err why) left = rw (visit_none (to_both Other) ns)
 
   -- by who replies; the one that does is a node of the chain
   by_replier : (r : Replier) → ((i : ℕ) → r ≡ One i → i < length ns)
@@ -97,11 +95,11 @@ read_plan at to h ns out b =
     ∙ said_is at to h ns out
 
 -- by the frame
-framed_plan : (at : ℕ) (f : Framed) (p : List ℕ) (ns : List Node) (out : List ℕ) → length ns ≤ most_nodes
+framed_plan : (at : ℕ) (f : Result Framed Refusal) (p : List ℕ) (ns : List Node) (out : List ℕ) → length ns ≤ most_nodes
     → came (decide_plan (plan_by (receive_by at f p) (glances_of (receive_by at f p) chain_start ns) (length ns)) (get_or ns (speaker_of (plan_by (receive_by at f p) (glances_of (receive_by at f p) chain_start ns) (length ns))) nobody) out) ns
     ≡ on_frame at f p ns out
-framed_plan at (framed.Whole to k n) p ns out b = read_plan at to (messages_as to k p) ns out b
-framed_plan at (framed.Refused why) p ns out b = refused_all why nobody ns out
+framed_plan at (whole to k n) p ns out b = read_plan at to (messages_as to k p) ns out b
+framed_plan at (Err why) p ns out b = refused_all why nobody ns out
 
 -- by the table
 tabled_plan : (c : Incoming) (t : Bool) (q : Plan) (ns : List Node) (out : List ℕ) (o : Outcome Delivery Lent) → (t ≡ true → came (decide_plan q (get_or ns (speaker_of q) nobody) out) ns ≡ o)

@@ -1,19 +1,16 @@
 -- What a delivery tells of packets that stand alone, of those with bytes left over, of long and of brief ones, and of the reply buffer.
-use Rattle.std.proofs.Common.{◌≡◌, ℕ, ◌<◌, ◌≤◌, Bool, true, false, cond, not, eqb, ltb, List, length, get_or, take, refl, ap, ◌∙◌, arith, length-take-le, get_or-take, le-ltb, lt-ltb}
+use Rattle.std.proofs.Common.{◌≡◌, ℕ, ◌<◌, ◌≤◌, Bool, true, false, cond, not, eqb, ltb, List, length, get_or, take, refl, ap, ◌∙◌, arith, length-take-le, get_or-take, le-ltb, lt-ltb, Result, Ok, Err}
+use Rattle.packet.specs.declared.Framed.{Framed}
 use Rattle.wire.specs.Promise.{Outcome}
 use Rattle.buffer.specs.Buffer.{written}
 use Rattle.wire.specs.declared.address.Address.{Address}
 use Rattle.wire.specs.declared.refusal.Refusal.{Refusal}
 use Rattle.wire.specs.declared.refusal.Refusal.TheVariants.{Short, Header, Long, Room, Range}
 use Rattle.wire.proofs.Impossible.{impossible}
-use Rattle.buffer.specs.declared.Built.{Built}
-use Rattle.buffer.specs.declared.Built.TheVariants as built
 use Rattle.buffer.proofs.Writing.{written_long}
-use Rattle.packet.specs.Packet.{end_of, parts_of, frame_of}
+use Rattle.packet.specs.Packet.{end_of, parts_of, frame_of, whole}
 use Rattle.packet.proofs.Refusals.{Unframed, frame_refuses}
 use Rattle.packet.proofs.Refusals as unframed
-use Rattle.packet.specs.declared.Framed.{Framed}
-use Rattle.packet.specs.declared.Framed.TheVariants as framed
 use Rattle.status.specs.Status.{most_reply}
 use Rattle.node.specs.declared.state.Node.{Node}
 use Rattle.message.specs.declared.Messages.{Messages}
@@ -30,32 +27,32 @@ use Rattle.survey.proofs.Meaning.{said_says}
 
 -- ---- a packet with nothing behind it is the one that reading finds
 
-pub stands_alone : (p : List ℕ) (to : Address) (k n : ℕ) → frame_of p ≡ framed.Whole to k n → length p ≤ n → frame_alone p ≡ framed.Whole to k n
+pub stands_alone : (p : List ℕ) (to : Address) (k n : ℕ) → frame_of p ≡ whole to k n → length p ≤ n → frame_alone p ≡ whole to k n
 unfolding frame_alone
 stands_alone p to k n f h = rw (f, le-ltb n (length p) h)
 
 -- left-over bytes are 3, whatever the sum, whoever is meant, whatever room there is; 6 comes first
-pub left_over : (ns : List Node) (at : ℕ) (p out : List ℕ) (to : Address) (k n : ℕ) → valid ns ≡ true → frame_of p ≡ framed.Whole to k n → n < length p
+pub left_over : (ns : List Node) (at : ℕ) (p out : List ℕ) (to : Address) (k n : ℕ) → valid ns ≡ true → frame_of p ≡ whole to k n → n < length p
     → deliver_of ns at p out ≡ refused_delivery Long ns out
 unfolding deliver_of frame_alone
 left_over ns at p out to k n v f h = rw (v, f, lt-ltb n (length p) h)
 
 -- ---- a packet of 20 bytes or more is refused for what its first 20 are refused for: no packet has more than 19
 
-abbrev overlong : ℕ → Framed
-overlong head = cond (not (eqb head 0xAA)) (framed.Refused Header) (framed.Refused Long)
+abbrev overlong : ℕ → Result Framed Refusal
+overlong head = cond (not (eqb head 0xAA)) (Err Header) (Err Long)
 
 frame_over : (p : List ℕ) → 20 ≤ length p → get_or p 2 0 < 256 → frame_alone p ≡ overlong (get_or p 0 0)
 unfolding frame_of frame_alone
 frame_over p h b =
     rw (le-ltb (length p) 1 (omega arith), le-ltb (length p) 4 (omega arith), le-ltb (length p) (end_of p) (omega arith)) (go (not (eqb (get_or p 0 0) 0xAA)))
   where
-    go : (n : Bool) → alone p (cond n (framed.Refused Header) (parts_of p)) ≡ cond n (framed.Refused Header) (framed.Refused Long)
+    go : (n : Bool) → alone p (cond n (Err Header) (parts_of p)) ≡ cond n (Err Header) (Err Long)
     go true = refl
     go false = rw (lt-ltb (end_of p) (length p) (omega arith))
 
 on_overlong : (at : ℕ) (t : Bool) (p q : List ℕ) (ns : List Node) (out : List ℕ)
-    → on_frame at (cond t (framed.Refused Header) (framed.Refused Long)) p ns out ≡ on_frame at (cond t (framed.Refused Header) (framed.Refused Long)) q ns out
+    → on_frame at (cond t (Err Header) (Err Long)) p ns out ≡ on_frame at (cond t (Err Header) (Err Long)) q ns out
 on_overlong at true p q ns out = refl
 on_overlong at false p q ns out = refl
 
@@ -77,7 +74,7 @@ unfolding deliver_of frame_of frame_alone
 deliver_brief ns at p out h Q short header range =
     rw (lt-ltb (length p) 4 h) (go (valid ns) (ltb (length p) 1) (not (eqb (get_or p 0 0) 0xAA)))
   where
-    go : (v e n : Bool) → Q (cond v (on_frame at (alone p (cond e (framed.Refused Short) (cond n (framed.Refused Header) (framed.Refused Short)))) p ns out) (refused_delivery Range ns out))
+    go : (v e n : Bool) → Q (cond v (on_frame at (alone p (cond e (Err Short) (cond n (Err Header) (Err Short)))) p ns out) (refused_delivery Range ns out))
     go false e n = range
     go true true n = short
     go true false true = header
@@ -85,19 +82,19 @@ deliver_brief ns at p out h Q short header range =
 
 -- ---- the reply buffer keeps its length
 
-built_left : (b : Built) (at : ℕ) (to : Address) (h : Messages) (ns : List Node) (out : List ℕ) → (on_built b at to h ns out).left.reply ≡ out
-built_left (built.Bytes n) at to h ns out = refl
-built_left (built.Refused why) at to h ns out = refl
+built_left : (b : Result ℕ Refusal) (at : ℕ) (to : Address) (h : Messages) (ns : List Node) (out : List ℕ) → (on_built b at to h ns out).left.reply ≡ out
+built_left (Ok n) at to h ns out = refl
+built_left (Err why) at to h ns out = refl
 
 said_left : (s : Said) (at : ℕ) (to : Address) (h : Messages) (ns : List Node) (out : List ℕ) → length (on_said s at to h ns out).left.reply ≡ length out
 said_left silence at to h ns out = refl
 said_left (reply r) at to h ns out = ap length (built_left (written r out).answer at to h ns (written r out).left) ∙ written_long r out
 said_left collided at to h ns out = refl
 
-frame_left : (at : ℕ) (f : Framed) (p : List ℕ) (ns : List Node) (out : List ℕ) → length (on_frame at f p ns out).left.reply ≡ length out
+frame_left : (at : ℕ) (f : Result Framed Refusal) (p : List ℕ) (ns : List Node) (out : List ℕ) → length (on_frame at f p ns out).left.reply ≡ length out
 unfolding delivered_to
-frame_left at (framed.Whole to k n) p ns out = said_left (said at to (messages_as to k p) ns) at to (messages_as to k p) ns out
-frame_left at (framed.Refused why) p ns out = refl
+frame_left at (whole to k n) p ns out = said_left (said at to (messages_as to k p) ns) at to (messages_as to k p) ns out
+frame_left at (Err why) p ns out = refl
 
 pub deliver_left : (ns : List Node) (at : ℕ) (p out : List ℕ) → length (deliver_of ns at p out).left.reply ≡ length out
 unfolding deliver_of
@@ -115,17 +112,17 @@ not_room unframed.short e = impossible cc
 not_room unframed.header e = impossible cc
 
 -- the chain refuses a packet for what the frame is refused for, or for left-over bytes
-frame_whys : (p : List ℕ) → frame_alone p ≡ framed.Refused Room → ⊥
+frame_whys : (p : List ℕ) → frame_alone p ≡ Err Room → ⊥
 unfolding frame_alone
 frame_whys p e = by_frame (frame_of p) refl e
   where
-    ends : (t : Bool) (to : Address) (k n : ℕ) → cond t (framed.Refused Long) (framed.Whole to k n) ≡ framed.Refused Room → ⊥
+    ends : (t : Bool) (to : Address) (k n : ℕ) → cond t (Err Long) (whole to k n) ≡ Err Room → ⊥
     ends true to k n e = impossible cc
     ends false to k n e = impossible cc
 
-    by_frame : (f : Framed) → frame_of p ≡ f → alone p f ≡ framed.Refused Room → ⊥
-    by_frame (framed.Whole to k n) r e = ends (ltb n (length p)) to k n e
-    by_frame (framed.Refused why) r e = let z : why ≡ Room = cc in not_room (frame_refuses p why r) z
+    by_frame : (f : Result Framed Refusal) → frame_of p ≡ f → alone p f ≡ Err Room → ⊥
+    by_frame (whole to k n) r e = ends (ltb n (length p)) to k n e
+    by_frame (Err why) r e = let z : why ≡ Room = cc in not_room (frame_refuses p why r) z
 
 module _ (ns : List Node) (out : List ℕ) (room : most_reply ≤ length out) where
   reply_fits : (at : ℕ) (to : Address) (h : Messages) (r : List ℕ) → said at to h ns ≡ reply r → length r ≤ length out
@@ -143,12 +140,12 @@ module _ (ns : List Node) (out : List ℕ) (room : most_reply ≤ length out) wh
       impossible cc
   said_roomy collided at to h e x = impossible cc
 
-  frame_roomy : (at : ℕ) (f : Framed) (p : List ℕ) → frame_alone p ≡ f → (on_frame at f p ns out).answer ≡ Refused Room → ⊥
+  frame_roomy : (at : ℕ) (f : Result Framed Refusal) (p : List ℕ) → frame_alone p ≡ f → (on_frame at f p ns out).answer ≡ Refused Room → ⊥
   unfolding delivered_to
-  frame_roomy at (framed.Whole to k n) p e x = said_roomy (said at to (messages_as to k p) ns) at to (messages_as to k p) refl x
-  frame_roomy at (framed.Refused why) p e x =
+  frame_roomy at (whole to k n) p e x = said_roomy (said at to (messages_as to k p) ns) at to (messages_as to k p) refl x
+  frame_roomy at (Err why) p e x =
       let y : why ≡ Room = cc in
-      frame_whys p (e ∙ ap framed.Refused y)
+      frame_whys p (e ∙ ap Err y)
 
   pub never_five : (at : ℕ) (p : List ℕ) → (deliver_of ns at p out).answer ≡ Refused Room → ⊥
   unfolding deliver_of

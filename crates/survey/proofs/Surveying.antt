@@ -1,15 +1,14 @@
 -- The exits of the functions that look along the chain, as the code comes to them.
-use Rattle.std.proofs.Common.{◌≡◌, ℕ, ◌+◌, ◌%◌, ◌^◌, ◌<◌, ◌≤◌, Bool, true, false, cond, ◌&&◌, leb, List, length, sym, ap, ◌∙◌, lt-ltb, le-leb}
+use Rattle.std.proofs.Common.{◌≡◌, ℕ, ◌+◌, ◌%◌, ◌^◌, ◌<◌, ◌≤◌, Bool, true, false, cond, ◌&&◌, leb, List, length, sym, ap, ◌∙◌, lt-ltb, le-leb, Result, Err}
+use Rattle.packet.specs.declared.Framed.{Framed}
 use borrow.Author.Tests.{lt-leb}
-use Rattle.wire.specs.Numbers.{most_nodes}
+use Rattle.wire.specs.Numbers.{most_nodes, number_by}
 use Rattle.wire.specs.Promise.{Promise}
 use Rattle.wire.specs.declared.address.Address.{Address}
 use Rattle.wire.specs.declared.kind.Kind.TheVariants.{Gate, Drive}
 use Rattle.wire.specs.declared.refusal.Refusal.{Refusal}
 use Rattle.wire.specs.declared.refusal.Refusal.TheVariants.{Long, Range}
-use Rattle.packet.specs.Packet.{frame_of, framed_number, data_part, is_intact}
-use Rattle.packet.specs.declared.Framed.{Framed}
-use Rattle.packet.specs.declared.Framed.TheVariants as framed
+use Rattle.packet.specs.Packet.{frame_of, data_part, is_intact, whole}
 use Rattle.command.specs.declared.Place.{Place}
 use Rattle.codec.specs.Reading.{codec_read, readings_of}
 use Rattle.codec.specs.declared.reading.Readings.{Readings}
@@ -31,8 +30,8 @@ use Rattle.survey.specs.Survey.{receive_of, is_still_ranged, glance_for, glance_
 use Rattle.survey.proofs.Lengths.{stands_alone}
 
 -- ---- a packet as it comes in
-module _ (at : ℕ) (p : List ℕ) (f : Framed) (e : Promise framed_number f (frame_of p)) where
-  module _ (to : Address) (k n : ℕ) (q : f ≡ framed.Whole to k n) where
+module _ (at : ℕ) (p : List ℕ) (f : Result Framed Refusal) (e : Promise number_by f (frame_of p)) where
+  module _ (to : Address) (k n : ℕ) (q : f ≡ whole to k n) where
     pub came_long : n < length p → Unread Long ≡ receive_of at p
     unfolding receive_of frame_alone
     came_long l = rw (← e.answer, q, lt-ltb n (length p) l)
@@ -45,7 +44,7 @@ module _ (at : ℕ) (p : List ℕ) (f : Framed) (e : Promise framed_number f (fr
         let told = i ∙ ap (λ (x : Readings). messages_of x.gate x.drive to ok) read ∙ ap (messages_of (codec_read Gate k (data_part p)) (codec_read Drive k (data_part p)) to) c in
         rw (stands_alone p to k n (sym e.answer ∙ q) l) (ap (Whole to at) told)
 
-  pub came_unread : (why : Refusal) → f ≡ framed.Refused why → Unread why ≡ receive_of at p
+  pub came_unread : (why : Refusal) → f ≡ Err why → Unread why ≡ receive_of at p
   unfolding receive_of frame_alone
   came_unread why q = rw (← e.answer, q)
 

@@ -1,10 +1,8 @@
 -- Serves inner calls: how a delivery is done, which comes to what Delivery says. How it is decided by its plan, and how those that act are gone through.
-use Rattle.std.specs.Prelude.{ℕ, ◌/◌, ◌%◌, Bool, true, false, cond, not, List, [], ◌∷◌, ◌==◌, nat_lt}
+use Rattle.std.specs.Prelude.{ℕ, ◌/◌, ◌%◌, Bool, true, false, cond, not, List, [], ◌∷◌, ◌==◌, nat_lt, Result, Ok, Err}
 use Rattle.wire.specs.Promise.{Outcome}
 use Rattle.buffer.specs.Buffer.{written}
 use Rattle.wire.specs.declared.refusal.Refusal.{Refusal}
-use Rattle.buffer.specs.declared.Built.{Built}
-use Rattle.buffer.specs.declared.Built.TheVariants as built
 use Rattle.node.specs.declared.state.Node.{Node}
 use Rattle.command.specs.declared.Role.{Role}
 use Rattle.command.specs.declared.Role.TheVariants.{Plain, Places, Paces, Masks, Captures, Zeroes, Idles, Resets}
@@ -53,9 +51,9 @@ decide_refusal why = record { answer = Refused why; acting = 0; messages = to_bo
 abbrev pub decide_answer : Delivery → ℕ → Messages → Decided
 decide_answer answer acting h = record { answer = answer; acting = touched_of h acting; messages = h }
 
-abbrev pub decide_built : Built → ℕ → Messages → Decided
-decide_built (built.Bytes n) acting h = decide_answer (Replied n) acting h
-decide_built (built.Refused why) acting h = decide_refusal why
+abbrev pub decide_built : Result ℕ Refusal → ℕ → Messages → Decided
+decide_built (Ok n) acting h = decide_answer (Replied n) acting h
+decide_built (Err why) acting h = decide_refusal why
 
 -- one node replies, if its reply has room
 unfoldable pub decide_one : Node → ℕ → Messages → List ℕ → Outcome Decided (List ℕ)

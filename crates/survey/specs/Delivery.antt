@@ -1,16 +1,13 @@
 -- Document 01, "The chain" and "Numbers returned", with document 02, requests 2 and 7: a packet delivered, at the divisor `at`, to a lent table of nodes.
-use Rattle.std.specs.Prelude.{ℕ, Bool, cond, ◌&&◌, List, length, nat_le, nat_lt}
+use Rattle.std.specs.Prelude.{ℕ, Bool, cond, ◌&&◌, List, length, nat_le, nat_lt, Result, Ok, Err}
+use Rattle.packet.specs.declared.Framed.{Framed}
 use Rattle.wire.specs.Promise.{Outcome}
 use Rattle.wire.specs.Numbers.{done, collision, most_nodes, number_of}
 use Rattle.buffer.specs.Buffer.{written}
 use Rattle.wire.specs.declared.address.Address.{Address}
 use Rattle.wire.specs.declared.refusal.Refusal.{Refusal}
 use Rattle.wire.specs.declared.refusal.Refusal.TheVariants.{Long, Range}
-use Rattle.buffer.specs.declared.Built.{Built}
-use Rattle.buffer.specs.declared.Built.TheVariants as built
-use Rattle.packet.specs.Packet.{frame_of}
-use Rattle.packet.specs.declared.Framed.{Framed}
-use Rattle.packet.specs.declared.Framed.TheVariants as framed
+use Rattle.packet.specs.Packet.{frame_of, whole}
 use Rattle.node.specs.declared.state.Node.{Node}
 use Rattle.message.specs.declared.Messages.{Messages}
 use Rattle.survey.specs.declared.decision.Delivery.{Delivery}
@@ -35,9 +32,9 @@ abbrev pub acted : Delivery → ℕ → Address → Messages → List Node → L
 acted answer at to h ns out = record { answer = answer; left = record { nodes = after at to h ns; reply = out } }
 
 -- the one reply "goes to the start of the reply buffer, the rest of the buffer stays"; 5 where it has no room, "tested .. before any node acts"
-abbrev pub on_built : Built → ℕ → Address → Messages → List Node → List ℕ → Outcome Delivery Lent
-on_built (built.Bytes n) at to h ns out = acted (Replied n) at to h ns out
-on_built (built.Refused why) at to h ns out = refused_delivery why ns out
+abbrev pub on_built : Result ℕ Refusal → ℕ → Address → Messages → List Node → List ℕ → Outcome Delivery Lent
+on_built (Ok n) at to h ns out = acted (Replied n) at to h ns out
+on_built (Err why) at to h ns out = refused_delivery why ns out
 
 -- "None: nothing is written. Two or more: they act, nothing is written, and 13 is returned"
 abbrev pub on_said : Said → ℕ → Address → Messages → List Node → List ℕ → Outcome Delivery Lent
@@ -49,18 +46,18 @@ unfoldable pub delivered_to : ℕ → Address → Messages → List Node → Lis
 delivered_to at to h ns out = on_said (said at to h ns) at to h ns out
 
 -- "the chain and bench program then refuse left-over bytes with 3 themselves": 3, unless what reading finds ends where the bytes do
-abbrev pub alone : List ℕ → Framed → Framed
-alone p (framed.Whole to k n) = cond (nat_lt n (length p)) (framed.Refused Long) (framed.Whole to k n)
-alone p (framed.Refused why) = framed.Refused why
+abbrev pub alone : List ℕ → Result Framed Refusal → Result Framed Refusal
+alone p (whole to k n) = cond (nat_lt n (length p)) (Err Long) (whole to k n)
+alone p (Err why) = Err why
 
 -- "then 1, 2, 3 in reading order"
-unfoldable pub frame_alone : List ℕ → Framed
+unfoldable pub frame_alone : List ℕ → Result Framed Refusal
 frame_alone p = alone p (frame_of p)
 
 -- "Wrong sum isn't refused by the chain"
-abbrev pub on_frame : ℕ → Framed → List ℕ → List Node → List ℕ → Outcome Delivery Lent
-on_frame at (framed.Whole to k n) p ns out = delivered_to at to (messages_as to k p) ns out
-on_frame at (framed.Refused why) p ns out = refused_delivery why ns out
+abbrev pub on_frame : ℕ → Result Framed Refusal → List ℕ → List Node → List ℕ → Outcome Delivery Lent
+on_frame at (whole to k n) p ns out = delivered_to at to (messages_as to k p) ns out
+on_frame at (Err why) p ns out = refused_delivery why ns out
 
 -- "For the chain 6 comes first"
 unfoldable pub deliver_of : List Node → ℕ → List ℕ → List ℕ → Outcome Delivery Lent

@@ -1,11 +1,12 @@
 -- Serves inner calls: how a delivery is done, which comes to what Delivery says. How it comes by its plan: a look at each node in order, then the tests of document 01 in their sequence.
-use Rattle.std.specs.Prelude.{ℕ, ◌+◌, ◌%◌, ◌^◌, Bool, true, cond, ◌&&◌, List, [], ◌∷◌, length, nat_le, slice_index_or}
+use Rattle.std.specs.Prelude.{ℕ, ◌+◌, ◌%◌, ◌^◌, Bool, true, cond, ◌&&◌, List, [], ◌∷◌, length, nat_le, slice_index_or, Result, Err}
+use Rattle.wire.specs.declared.refusal.Refusal.{Refusal}
+use Rattle.packet.specs.declared.Framed.{Framed}
+use Rattle.packet.specs.Packet.{whole}
 use Rattle.wire.specs.Numbers.{done, number_of, most_nodes}
 use Rattle.wire.specs.declared.address.Address.{Address}
 use Rattle.wire.specs.declared.kind.Kind.TheVariants.{Gate}
 use Rattle.wire.specs.declared.refusal.Refusal.TheVariants.{Range}
-use Rattle.packet.specs.declared.Framed.{Framed}
-use Rattle.packet.specs.declared.Framed.TheVariants as framed
 use Rattle.command.specs.declared.Place.{Place}
 use Rattle.node.specs.Node.{power_up}
 use Rattle.node.specs.declared.state.Node.{Node}
@@ -25,9 +26,9 @@ use Rattle.survey.specs.Delivery.{frame_alone}
 use Rattle.survey.specs.Sets.{set_width, join_of, members}
 
 -- a packet as it comes in, at a divisor
-abbrev pub receive_by : ℕ → Framed → List ℕ → Incoming
-receive_by at (framed.Whole to k n) p = Whole to at (messages_as to k p)
-receive_by at (framed.Refused why) p = Unread why
+abbrev pub receive_by : ℕ → Result Framed Refusal → List ℕ → Incoming
+receive_by at (whole to k n) p = Whole to at (messages_as to k p)
+receive_by at (Err why) p = Unread why
 
 unfoldable pub receive_of : ℕ → List ℕ → Incoming
 receive_of at p = receive_by at (frame_alone p) p

@@ -5,7 +5,6 @@ ghost use Rattle.survey.specs.Decision.{is_idle, does_touch, touched_of, decide_
 
 use crate::plan::{Plan, Survey};
 use crate::sets::Replier;
-use buffer::Built;
 use command::Role;
 use message::{Message, Messages};
 use node::Node;
@@ -115,8 +114,8 @@ fn decide_one(speaker: Node, acting: u32, messages: Messages, reply: &mut [u8]) 
 {
     let kind = speaker.kind;
     match reply::reply(speaker, messages.to(kind), reply) {
-        Built::Bytes(n) => decide_answer(Delivery::Replied(n), acting, messages),
-        Built::Refused(why) => decide_refusal(why),
+        Ok(n) => decide_answer(Delivery::Replied(n), acting, messages),
+        Err(why) => decide_refusal(why),
     }
 }
 

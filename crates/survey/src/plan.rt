@@ -8,7 +8,6 @@ use codec::Readings;
 use command::Place;
 use message::Messages;
 use node::Node;
-use packet::Framed;
 use wire::{Address, Refusal};
 
 // A packet as it comes in: whom it is for, the divisor that it is sent at and what it says to either kind of node, or why it is refused.
@@ -56,7 +55,7 @@ pub fn receive(at: u8, p: &[u8]) -> Incoming
     ensures { result ≡ receive_of at p.now }
 {
     match packet::frame(p) {
-        Framed::Whole {
+        whole {
             address,
             command,
             end,
@@ -75,7 +74,7 @@ pub fn receive(at: u8, p: &[u8]) -> Incoming
                 messages,
             }
         }
-        Framed::Refused(why) => Incoming::Unread(why),
+        Err(why) => Incoming::Unread(why),
     }
 }
 

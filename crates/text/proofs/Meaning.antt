@@ -1,5 +1,6 @@
 -- What the definitions mean: decimal numbers of their form; lines and their newlines.
 use Prim.Native.Nat.{ℕ, ◌+◌, ◌-◌, ◌*◌, ◌/◌, ◌%◌, ◌≤◌, ◌<◌}
+use Rattle.std.specs.Prelude.{Some, None}
 use mathlib.Core.Bool.{Bool, true, false, cond}
 use mathlib.Core.List.{List, [], ◌∷◌, ◌++◌}
 use mathlib.Core.Path.{◌≡◌, refl}
@@ -10,7 +11,6 @@ use borrow.Author.Tests.{lt-ltb, le-ltb, ne_eqb, ltb-true, ltb-false}
 use Rattle.wire.proofs.Impossible.{impossible}
 use Rattle.text.specs.Lines.{newline, lines_of}
 use Rattle.text.specs.Digits.{value_of, decimal_of, one_digit, two_digits, read_decimal}
-use Rattle.text.specs.declared.digits.Decimal.TheVariants as decimal
 
 -- ---- decimal numbers: of their form exactly if they are a number below 100, written in decimal
 
@@ -18,11 +18,11 @@ value_back : (v : ℕ) → v < 10 → value_of (48 + v) ≡ v
 unfolding value_of
 value_back v k = rw (le-ltb (48 + v) 48 (omega arith), lt-ltb (48 + v) 58 (omega arith)) (omega arith)
 
-pub decimal_reads : (n : ℕ) → n < 100 → read_decimal (decimal_of n) ≡ decimal.Value n
+pub decimal_reads : (n : ℕ) → n < 100 → read_decimal (decimal_of n) ≡ Some n
 unfolding read_decimal decimal_of one_digit two_digits
 decimal_reads n h = go (ltb n 10) refl
   where
-    go : (t : Bool) → ltb n 10 ≡ t → read_decimal (cond t ((48 + n) ∷ []) ((48 + n / 10) ∷ (48 + n % 10) ∷ [])) ≡ decimal.Value n
+    go : (t : Bool) → ltb n 10 ≡ t → read_decimal (cond t ((48 + n) ∷ []) ((48 + n / 10) ∷ (48 + n % 10) ∷ [])) ≡ Some n
     go true e =
         let x : n < 10 = ltb-true n 10 e in
         rw (value_back n x, le-ltb 9 n (omega arith))
@@ -46,23 +46,23 @@ char_of a h = go (ltb a 48) (ltb a 58) refl h
     go false true e k = let x : 48 ≤ a = ltb-false a 48 e in omega arith
     go false false e k = absurd (let y : ⊥ = omega arith in y)
 
-one_read : (a n : ℕ) → one_digit (value_of a) ≡ decimal.Value n → Numeral (a ∷ []) n
+one_read : (a n : ℕ) → one_digit (value_of a) ≡ Some n → Numeral (a ∷ []) n
 unfolding one_digit decimal_of
 one_read a n e = go (ltb 9 (value_of a)) refl e
   where
-    go : (t : Bool) → ltb 9 (value_of a) ≡ t → cond t decimal.Malformed (decimal.Value (value_of a)) ≡ decimal.Value n → Numeral (a ∷ []) n
+    go : (t : Bool) → ltb 9 (value_of a) ≡ t → cond t None (Some (value_of a)) ≡ Some n → Numeral (a ∷ []) n
     go true x e = impossible cc
     go false x e =
         let p = ltb-false 9 (value_of a) x in
         let z : n ≡ value_of a = cc in
         rw z (record { same = rw (lt-ltb (value_of a) 10 (omega arith), char_of a p); small = omega arith })
 
-two_read : (a b n : ℕ) → two_digits (value_of a) (value_of b) ≡ decimal.Value n → Numeral (a ∷ b ∷ []) n
+two_read : (a b n : ℕ) → two_digits (value_of a) (value_of b) ≡ Some n → Numeral (a ∷ b ∷ []) n
 unfolding two_digits decimal_of
 two_read a b n e = go (ltb (value_of a) 1) (ltb 9 (value_of a)) (ltb 9 (value_of b)) refl refl refl e
   where
     go : (t u v : Bool) → ltb (value_of a) 1 ≡ t → ltb 9 (value_of a) ≡ u → ltb 9 (value_of b) ≡ v
-        → cond t decimal.Malformed (cond u decimal.Malformed (cond v decimal.Malformed (decimal.Value (value_of a * 10 + value_of b)))) ≡ decimal.Value n → Numeral (a ∷ b ∷ []) n
+        → cond t None (cond u None (cond v None (Some (value_of a * 10 + value_of b)))) ≡ Some n → Numeral (a ∷ b ∷ []) n
     go true u v x y w e = impossible cc
     go false true v x y w e = impossible cc
     go false false true x y w e = impossible cc
@@ -75,13 +75,13 @@ two_read a b n e = go (ltb (value_of a) 1) (ltb 9 (value_of a)) (ltb 9 (value_of
         let j : (value_of a * 10 + value_of b) % 10 ≡ value_of b = omega arith in
         rw z (record { same = rw (le-ltb (value_of a * 10 + value_of b) 10 (omega arith), i, j, char_of a q, char_of b r); small = omega arith })
 
-pub decimal_written : (l : List ℕ) (n : ℕ) → read_decimal l ≡ decimal.Value n → Numeral l n
+pub decimal_written : (l : List ℕ) (n : ℕ) → read_decimal l ≡ Some n → Numeral l n
 unfolding read_decimal
 decimal_written [] n e = impossible cc
 decimal_written (a ∷ []) n e = one_read a n e
 decimal_written (a ∷ b ∷ []) n e = two_read a b n e
 decimal_written (a ∷ b ∷ c ∷ s) n e =
-    let x : read_decimal (a ∷ b ∷ c ∷ s) ≡ decimal.Malformed =
+    let x : read_decimal (a ∷ b ∷ c ∷ s) ≡ None =
     rw (ne_eqb (length (a ∷ b ∷ c ∷ s)) 1 (λ e. omega arith), ne_eqb (length (a ∷ b ∷ c ∷ s)) 2 (λ e. omega arith)) in
     impossible cc
 

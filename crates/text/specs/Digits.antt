@@ -1,9 +1,7 @@
--- Decimal numbers of one or two digits: 0 to 9 are the ASCII codes 48 to 57.
-use Rattle.std.specs.Prelude.{ℕ, ◌+◌, ◌-◌, ◌*◌, ◌/◌, ◌%◌, cond, List, [], ◌∷◌, ltb, eqb, length, get_or}
+-- (Option ℕ) numbers of one or two digits: 0 to 9 are the ASCII codes 48 to 57.
+use Rattle.std.specs.Prelude.{ℕ, ◌+◌, ◌-◌, ◌*◌, ◌/◌, ◌%◌, cond, List, [], ◌∷◌, ltb, eqb, length, get_or, Option, Some, None}
 use Rattle.wire.specs.Numbers.{done, number_of}
 use Rattle.wire.specs.declared.refusal.Refusal.TheVariants.{Range}
-use Rattle.text.specs.declared.digits.Decimal.{Decimal}
-use Rattle.text.specs.declared.digits.Decimal.TheVariants.{Value, Malformed}
 
 -- the value of a decimal digit; 10 for all else
 unfoldable pub value_of : ℕ → ℕ
@@ -14,20 +12,20 @@ unfoldable pub decimal_of : ℕ → List ℕ
 decimal_of n = cond (ltb n 10) ((48 + n) ∷ []) ((48 + n / 10) ∷ (48 + n % 10) ∷ [])
 
 -- one digit of this value
-unfoldable pub one_digit : ℕ → Decimal
-one_digit a = cond (ltb 9 a) Malformed (Value a)
+unfoldable pub one_digit : ℕ → Option ℕ
+one_digit a = cond (ltb 9 a) None (Some a)
 
 -- two digits of these values, "without a leading zero"
-unfoldable pub two_digits : ℕ → ℕ → Decimal
-two_digits a b = cond (ltb a 1) Malformed (cond (ltb 9 a) Malformed (cond (ltb 9 b) Malformed (Value (a * 10 + b))))
+unfoldable pub two_digits : ℕ → ℕ → Option ℕ
+two_digits a b = cond (ltb a 1) None (cond (ltb 9 a) None (cond (ltb 9 b) None (Some (a * 10 + b))))
 
 -- the decimal number that some text is
-unfoldable pub read_decimal : List ℕ → Decimal
+unfoldable pub read_decimal : List ℕ → Option ℕ
 read_decimal s =
     cond (eqb (length s) 1) (one_digit (value_of (get_or s 0 0)))
-    (cond (eqb (length s) 2) (two_digits (value_of (get_or s 0 0)) (value_of (get_or s 1 0))) Malformed)
+    (cond (eqb (length s) 2) (two_digits (value_of (get_or s 0 0)) (value_of (get_or s 1 0))) None)
 
 -- the number of what reading finds: 6, "bench line not of its form"
-abbrev pub decimal_number : Decimal → ℕ
-decimal_number (Value n) = done
-decimal_number Malformed = number_of Range
+abbrev pub decimal_number : Option ℕ → ℕ
+decimal_number (Some n) = done
+decimal_number None = number_of Range

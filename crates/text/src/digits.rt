@@ -3,13 +3,6 @@ ghost use Rattle.std.specs.Prelude.{◌≡◌};
 ghost use Rattle.wire.specs.Promise.{Promise};
 ghost use Rattle.text.specs.Digits.{value_of, one_digit, two_digits, read_decimal, decimal_number};
 
-// What reading a decimal number finds.
-#[derive(Clone, Copy)]
-pub enum Decimal {
-    Value(u8),
-    Malformed,
-}
-
 // The value of a decimal digit; 10 where b is none.
 fn value(b: u8) -> u8
     ensures { result ≡ value_of b }
@@ -24,33 +17,33 @@ fn value(b: u8) -> u8
 }
 
 // A number of one digit, by that digit's value.
-fn one_digit(a: u8) -> Decimal
+fn one_digit(a: u8) -> Option<u8>
     ensures { result ≡ one_digit a }
 {
     if 9 < a {
-        return Decimal::Malformed;
+        return None;
     }
-    Decimal::Value(a)
+    Some(a)
 }
 
 // A number of two digits, by their values: the first isn't 0.
-fn two_digits(a: u8, b: u8) -> Decimal
+fn two_digits(a: u8, b: u8) -> Option<u8>
     ensures { result ≡ two_digits a b }
 {
     if a < 1 {
-        return Decimal::Malformed;
+        return None;
     }
     if 9 < a {
-        return Decimal::Malformed;
+        return None;
     }
     if 9 < b {
-        return Decimal::Malformed;
+        return None;
     }
-    Decimal::Value(a * 10 + b)
+    Some(a * 10 + b)
 }
 
 // A decimal number of one or two digits, without a leading zero.
-pub fn read_decimal(s: &[u8]) -> Decimal
+pub fn read_decimal(s: &[u8]) -> Option<u8>
     ensures { Promise decimal_number result (read_decimal s.now) }
 {
     if s.len() == 1 {
@@ -59,5 +52,5 @@ pub fn read_decimal(s: &[u8]) -> Decimal
     if s.len() == 2 {
         return two_digits(value(s[0]), value(s[1]));
     }
-    Decimal::Malformed
+    None
 }

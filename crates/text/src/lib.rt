@@ -7,6 +7,6 @@ mod digits;
 mod lines;
 mod same;
 
-pub use digits::{Decimal, read_decimal};
+pub use digits::read_decimal;
 pub use lines::{NEWLINE, first, first_line, rest};
 pub use same::is_same;

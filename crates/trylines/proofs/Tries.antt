@@ -4,14 +4,12 @@ use mathlib.Core.List.{List, [], ◌∷◌}
 use mathlib.Core.Path.{◌≡◌, refl, sym, ap, ◌∙◌}
 use lib.ListN.{length, take, drop, replicate, drop_of_length-le}
 use borrow.Author.Tests.{eq-eqb, ne_eqb, lt-ltb, le-ltb}
-use Rattle.std.proofs.Common.{Result, IfOk}
+use Rattle.std.proofs.Common.{Result, IfOk, Option, Some, None, ℕ}
 use Rattle.std.proofs.lemmas.Result.{IfOk-weaker}
 use Rattle.wire.specs.Promise.{Lending}
 use Rattle.wire.proofs.Impossible.{impossible}
 use Rattle.text.specs.Lines.{first_line, lines_of}
 use Rattle.text.proofs.Parts.{lines_next}
-use Rattle.hexadecimal.specs.declared.pairs.Parsed.{Parsed}
-use Rattle.hexadecimal.specs.declared.pairs.Parsed.TheVariants as parsed
 use Rattle.hexadecimal.specs.Hex.{Content, bytes, malformed, bytes_in, over, read_bytes, parsed_number}
 use Rattle.fields.specs.declared.answer.Answer.{Answer}
 use Rattle.fields.specs.Field.{fields_byte}
@@ -103,25 +101,25 @@ none_kept : (n : ℕ) → take {A = ℕ} n [] ≡ []
 none_kept zero = refl
 none_kept (suc n) = refl
 
-module _ (c : Content) (found : Parsed) (out left : List ℕ) (p : Lending parsed_number found left (read_bytes c out)) where
-  pub said_bytes_lem : (n : ℕ) → found ≡ parsed.Bytes n → take n left ≡ take (length out) (said_bytes c)
+module _ (c : Content) (found : Option ℕ) (out left : List ℕ) (p : Lending parsed_number found left (read_bytes c out)) where
+  pub said_bytes_lem : (n : ℕ) → found ≡ Some n → take n left ≡ take (length out) (said_bytes c)
   said_bytes_lem n e = go c p
     where
       go : (c : Content) → Lending parsed_number found left (read_bytes c out) → take n left ≡ take (length out) (said_bytes c)
       go (bytes d) p =
-          let a : parsed.Bytes n ≡ parsed.Bytes (length d) = sym e ∙ p.answer in
+          let a : Some n ≡ Some (length d) = sym e ∙ p.answer in
           let f : n ≡ length d = cc in
           rw (f, p.leaves) (kept_over d out)
       go malformed p =
-          let a : parsed.Bytes n ≡ parsed.Malformed = sym e ∙ p.answer in
+          let a : Some n ≡ None = sym e ∙ p.answer in
           impossible cc
 
-  pub said_nothing : found ≡ parsed.Malformed → take 0 left ≡ take (length out) (said_bytes c)
+  pub said_nothing : found ≡ None → take 0 left ≡ take (length out) (said_bytes c)
   said_nothing e = go c p
     where
       go : (c : Content) → Lending parsed_number found left (read_bytes c out) → take 0 left ≡ take (length out) (said_bytes c)
       go (bytes d) p =
-          let a : parsed.Malformed ≡ parsed.Bytes (length d) = sym e ∙ p.answer in
+          let a : None ≡ Some (length d) = sym e ∙ p.answer in
           impossible cc
       go malformed p = sym (none_kept (length out))
 

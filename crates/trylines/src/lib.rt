@@ -9,9 +9,7 @@ ghost use Rattle.start.specs.Start.{fresh_of};
 ghost use Rattle.text.specs.Lines.{lines_of};
 ghost use Rattle.trylines.specs.Trying.{input_room, trylines_answer, trylines_attempt, trylines_read_line, try_bytes, try_line, try_lines, try_all};
 
-use buffer::Built;
 use fields::{Answer, byte, malformed};
-use hexadecimal::Parsed;
 use session::Session;
 use std::io;
 use tryhost::Tried;
@@ -56,8 +54,8 @@ fn recording_line_room() -> [u8; 3 * tryrecording::MOST_BYTES]
 // Writes bytes as a line, which `line` has room for.
 fn show_bytes(rt: &impl Print, bytes: &[u8], line: &mut [u8]) -> io::Result<()> {
     match hexadecimal::write_line(bytes, line) {
-        Built::Bytes(n) => rt.write_all(text::first(line, n)),
-        Built::Refused(_) => Ok(()),
+        Ok(n) => rt.write_all(text::first(line, n)),
+        Err(_) => Ok(()),
     }
 }
 
@@ -108,8 +106,8 @@ fn read_line(line: &[u8], bytes: &mut [u8]) -> usize
     ensures { take result bytes.new ≡ take (length bytes.old) (trylines_read_line line.now) }
 {
     match hexadecimal::read_bytes(line, bytes) {
-        Parsed::Bytes(n) => n,
-        Parsed::Malformed => 0,
+        Some(n) => n,
+        None => 0,
     }
 }
 

@@ -1,5 +1,8 @@
 -- What the exits of the functions of trypacket need, in the form in which the code gives it.
 use Prim.Native.Nat.{ℕ, ◌-◌, ◌<◌, ◌≤◌}
+use Rattle.packet.specs.declared.Framed.{Framed}
+use Rattle.std.specs.Prelude.{Result, Ok, Err, ℕ}
+use Rattle.wire.specs.Numbers.{number_by}
 use mathlib.Core.Bool.{Bool, true, false, not}
 use mathlib.Core.List.{List}
 use mathlib.Core.Path.{◌≡◌, sym, ◌∙◌}
@@ -12,16 +15,10 @@ use Rattle.wire.specs.Address.{byte_of}
 use Rattle.wire.specs.declared.address.Address.{Address}
 use Rattle.wire.specs.declared.kind.Kind.{Kind}
 use Rattle.wire.specs.declared.refusal.Refusal.{Refusal}
-use Rattle.buffer.specs.declared.Built.{Built}
-use Rattle.buffer.specs.Buffer.{built_number}
-use Rattle.packet.specs.declared.Framed.{Framed}
-use Rattle.packet.specs.declared.Framed.TheVariants as framed
-use Rattle.packet.specs.Packet.{read_of, framed_number, data_part}
+use Rattle.packet.specs.Packet.{read_of, data_part, whole}
 use Rattle.packet.specs.Build.{build_of}
 use Rattle.packet.proofs.Packets.{most_end, read_says}
-use Rattle.status.specs.declared.Status.{Status}
-use Rattle.status.specs.declared.Status.TheVariants as status
-use Rattle.status.specs.Status.{status_number, items_part}
+use Rattle.status.specs.Status.{items_part}
 use Rattle.mask.specs.Mask.{mask_read}
 use Rattle.fields.specs.declared.answer.Answer.{Answer}
 use Rattle.fields.specs.Field.{fields_byte}
@@ -31,8 +28,8 @@ use Rattle.fields.specs.Answer.{fields_nothing, answer_put, answer_put_all, malf
 use Rattle.trypacket.specs.Trial.{build_into, trypacket_build, trypacket_read, read_under, read_status}
 
 -- what is built is shown
-pub into_shown : (s d out left : List ℕ) (a c n : ℕ) (b : Built) (r : Answer) → a ≡ fields_byte s 1 → c ≡ fields_byte s 2 → d ≡ drop 3 s
-    → Lending built_number b left (build_of a c d out) → n ≡ built_number b → r ≡ numbered_of n left → r ≡ build_into s out
+pub into_shown : (s d out left : List ℕ) (a c n : ℕ) (b : Result ℕ Refusal) (r : Answer) → a ≡ fields_byte s 1 → c ≡ fields_byte s 2 → d ≡ drop 3 s
+    → Lending number_by b left (build_of a c d out) → n ≡ number_by b → r ≡ numbered_of n left → r ≡ build_into s out
 unfolding build_into
 into_shown s d out left a c n b r ea ec ed l en er = rw (er, en, l.answer, l.leaves, ea, ec, ed)
 
@@ -48,32 +45,32 @@ module _ (s : List ℕ) (t : Bool) (r : Answer) (e : t ≡ is_lending s 3 most_r
   not_built y er = rw (sym e ∙ y, er)
 
 -- where a packet ends is a byte
-pub end_small : (s : List ℕ) (f : Framed) (a : Address) (c e : ℕ) → Promise framed_number f (read_of s) → f ≡ framed.Whole a c e → get_or s 2 0 < 256 → e < 256
+pub end_small : (s : List ℕ) (f : Result Framed Refusal) (a : Address) (c e : ℕ) → Promise number_by f (read_of s) → f ≡ whole a c e → get_or s 2 0 < 256 → e < 256
 end_small s f a c e p ef h = let k = most_end s a c e (read_says s a c e (sym p.answer ∙ ef)).0 h in omega arith
 
-module _ (s : List ℕ) (f : Framed) (n : ℕ) (x₀ x₁ : Answer) (p : Promise framed_number f (read_of s)) (en : n ≡ framed_number f)
+module _ (s : List ℕ) (f : Result Framed Refusal) (n : ℕ) (x₀ x₁ : Answer) (p : Promise number_by f (read_of s)) (en : n ≡ number_by f)
     (e₀ : x₀ ≡ fields_nothing) (e₁ : x₁ ≡ answer_put x₀ n) where
   -- the end and the parts of a packet
-  pub read_whole : (a : Address) (c e b : ℕ) (x₂ x₃ x₄ r : Answer) (d : List ℕ) → f ≡ framed.Whole a c e → x₂ ≡ answer_put x₁ e → b ≡ byte_of a → x₃ ≡ answer_put x₂ b
+  pub read_whole : (a : Address) (c e b : ℕ) (x₂ x₃ x₄ r : Answer) (d : List ℕ) → f ≡ whole a c e → x₂ ≡ answer_put x₁ e → b ≡ byte_of a → x₃ ≡ answer_put x₂ b
       → x₄ ≡ answer_put x₃ c → d ≡ data_part s → r ≡ answer_put_all x₄ d → r ≡ trypacket_read s
   unfolding trypacket_read answer_put_all
   read_whole a c e b x₂ x₃ x₄ r d ef e₂ eb e₃ e₄ ed er = rw (sym p.answer ∙ ef, er, ed, e₄, e₃, eb, e₂, e₁, e₀, en, ef)
 
   -- the refusal alone
-  pub read_refused : (why : Refusal) → f ≡ framed.Refused why → x₁ ≡ trypacket_read s
+  pub read_refused : (why : Refusal) → f ≡ Err why → x₁ ≡ trypacket_read s
   unfolding trypacket_read answer_put_all
   read_refused why ef = rw (sym p.answer ∙ ef, e₁, e₀, en, ef)
 
-module _ (s : List ℕ) (k : Kind) (m n : ℕ) (f : Status) (x₀ x₁ : Answer) (p : Promise status_number f (mask_read k m s)) (en : n ≡ status_number f)
+module _ (s : List ℕ) (k : Kind) (m n : ℕ) (f : Result ℕ Refusal) (x₀ x₁ : Answer) (p : Promise number_by f (mask_read k m s)) (en : n ≡ number_by f)
     (e₀ : x₀ ≡ fields_nothing) (e₁ : x₁ ≡ answer_put x₀ n) where
   -- the parts of a status packet
-  pub under_whole : (b : ℕ) (x₂ r : Answer) (d : List ℕ) → f ≡ status.Whole b → x₂ ≡ answer_put x₁ b → d ≡ items_part s → r ≡ answer_put_all x₂ d
+  pub under_whole : (b : ℕ) (x₂ r : Answer) (d : List ℕ) → f ≡ Ok b → x₂ ≡ answer_put x₁ b → d ≡ items_part s → r ≡ answer_put_all x₂ d
       → r ≡ read_under k m s
   unfolding read_under answer_put_all
   under_whole b x₂ r d ef e₂ ed er = rw (sym p.answer ∙ ef, er, ed, e₂, e₁, e₀, en, ef)
 
   -- the refusal alone
-  pub under_refused : (why : Refusal) → f ≡ status.Refused why → x₁ ≡ read_under k m s
+  pub under_refused : (why : Refusal) → f ≡ Err why → x₁ ≡ read_under k m s
   unfolding read_under answer_put_all
   under_refused why ef = rw (sym p.answer ∙ ef, e₁, e₀, en, ef)
 

@@ -10,8 +10,6 @@ use fields::{
     Answer, MOST_ROOM, byte, filled, is_kind, is_lending, malformed, nothing, numbered, read_kind,
     room,
 };
-use packet::Framed;
-use status::Status;
 use text::rest;
 use wire::Kind;
 
@@ -42,7 +40,7 @@ pub fn read(args: &[u8]) -> Answer
     let found = packet::read(args);
     let answer = nothing().put(found.number());
     match found {
-        Framed::Whole {
+        whole {
             address,
             command,
             end,
@@ -51,7 +49,7 @@ pub fn read(args: &[u8]) -> Answer
             .put(address.byte())
             .put(command)
             .put_all(packet::data_part(args)),
-        Framed::Refused(_) => answer,
+        Err(_) => answer,
     }
 }
 
@@ -62,8 +60,8 @@ fn read_under(kind: Kind, mask: u8, s: &[u8]) -> Answer
     let found = mask::read(kind, s, mask);
     let answer = nothing().put(found.number());
     match found {
-        Status::Whole(first) => answer.put(first).put_all(status::items_part(s)),
-        Status::Refused(_) => answer,
+        Ok(first) => answer.put(first).put_all(status::items_part(s)),
+        Err(_) => answer,
     }
 }
 

@@ -1,5 +1,7 @@
 -- The steps of a walk: what each adds, and that they end; a law for each exit of the code.
 use Prim.Native.Nat.{ℕ, ◌*◌, ◌/◌, ◌≤◌, ◌<◌}
+use Rattle.calls.specs.declared.Call.{Call}
+use Rattle.std.specs.Prelude.{Option, Some, None}
 use mathlib.Core.Bool.{Bool, true, false, cond}
 use mathlib.Core.List.{List, [], ◌∷◌, ◌++◌}
 use mathlib.Core.Path.{◌≡◌, refl, subst}
@@ -11,8 +13,6 @@ use Rattle.session.specs.declared.End.{End}
 use Rattle.session.specs.declared.End.TheVariants as end
 use Rattle.reports.specs.Report.{report_of}
 use Rattle.calls.specs.Finding.{by_source, find_of}
-use Rattle.calls.specs.declared.Source.{Source}
-use Rattle.calls.specs.declared.Source.TheVariants.{Found, Missing}
 use Rattle.capture.specs.Packets.{Packet}
 use Rattle.capture.specs.Steps.{Recorded, sent, got, left_at, packet_from, capture_step, bytes_left}
 use Rattle.capture.specs.declared.Cursor.{Cursor}
@@ -45,9 +45,9 @@ event_long event.End from to = omega arith
 step_more : (x : List ℕ) (xs : List (List ℕ)) → length x ≡ 5 → length (joined_steps xs) ≡ 5 * length xs → length (joined_steps (x ∷ xs)) ≡ 5 * length (x ∷ xs)
 step_more x xs e f = omega (arith, length-append x (joined_steps xs))
 
-by_source_lem : (c : Source) (xs : List (List ℕ)) → length (joined_steps xs) ≡ 5 * length xs → length (joined_steps (by_source c xs [])) ≡ 5 * length (by_source c xs [])
-by_source_lem (Found c) xs e = e
-by_source_lem Missing xs e = refl
+by_source_lem : (c : Option Call) (xs : List (List ℕ)) → length (joined_steps xs) ≡ 5 * length xs → length (joined_steps (by_source c xs [])) ≡ 5 * length (by_source c xs [])
+by_source_lem (Some c) xs e = e
+by_source_lem None xs e = refl
 
 pub steps_long : (s : Session) (at : Cursor) (ps : List Recorded) → length (joined_steps (steps_of s at ps)) ≡ 5 * length (steps_of s at ps)
 unfolding steps_of step_bytes
@@ -69,12 +69,12 @@ module _ (cs cts rs rts : List ℕ) where
   abbrev shown : Cursor → Moved → List ℕ
   shown at m = event_bytes m.event at m.stage.at ++ behind m
 
-  command_shown : (at : Cursor) (p : Packet) (b s : Session) (c : Source)
+  command_shown : (at : Cursor) (p : Packet) (b s : Session) (c : Option Call)
       → step_bytes 0 at.command (length p.bytes) ++ joined_steps (by_source c (steps_of s (past_command at p) (left_at cs cts rs rts (past_command at p))) [])
       ≡ shown at (command_by c (past_command at p) b s)
   unfolding steps_from
-  command_shown at p b s (Found c) = rw (add-sub_cancel_left at.command (length p.bytes))
-  command_shown at p b s Missing = rw (add-sub_cancel_left at.command (length p.bytes))
+  command_shown at p b s (Some c) = rw (add-sub_cancel_left at.command (length p.bytes))
+  command_shown at p b s None = rw (add-sub_cancel_left at.command (length p.bytes))
 
   reply_shown : (at : Cursor) (p : Packet) (s : Session) (e : End)
       → step_bytes 1 at.reply (length p.bytes) ++ joined_steps (steps_of s (past_reply at p) (left_at cs cts rs rts (past_reply at p)))

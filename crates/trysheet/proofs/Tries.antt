@@ -1,9 +1,9 @@
 -- What the lines are answered; a law for each exit of the code.
-use Rattle.std.proofs.Common.{◌≡◌, ℕ, ◌-◌, ◌≤◌, Bool, true, false, List, length, take, drop, sym, ◌∙◌, arith}
+use Rattle.std.proofs.Common.{◌≡◌, ℕ, ◌-◌, ◌≤◌, Bool, true, false, List, length, take, drop, sym, ◌∙◌, arith, Result}
+use Rattle.wire.specs.declared.refusal.Refusal.{Refusal}
+use Rattle.wire.specs.Numbers.{number_by}
 use native.Mathlib.Nat.{sub-zero}
 use Rattle.wire.specs.Promise.{Lending}
-use Rattle.buffer.specs.declared.Built.{Built}
-use Rattle.buffer.specs.Buffer.{built_number}
 use Rattle.sheet.specs.declared.importing.Imported.{Imported}
 use Rattle.sheet.specs.Sheet.{import_of, imported_number}
 use Rattle.sheet.specs.Packets.{export_of}
@@ -37,7 +37,7 @@ module _ (w : View) (s out left : List ℕ) (n v : ℕ) (r : Answer) (f : r ≡ 
   unfolding import_into
   import_shown_lem d l en ev = rw (f, en, ev, l.answer, l.leaves)
 
-  pub export_shown_lem : (d : Built) → Lending built_number d left (export_of s out) → n ≡ built_number d → v ≡ export_value d → r ≡ export_into w s out
+  pub export_shown_lem : (d : Result ℕ Refusal) → Lending number_by d left (export_of s out) → n ≡ number_by d → v ≡ export_value d → r ≡ export_into w s out
   unfolding export_into
   export_shown_lem d l en ev = rw (f, en, ev, l.answer, l.leaves)
 

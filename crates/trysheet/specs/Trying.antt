@@ -1,9 +1,8 @@
 -- The lines of the program `trials` that try movement sheets: what each is answered, by the bytes behind its first.
-use Rattle.std.specs.Prelude.{ℕ, cond, List, take, drop}
+use Rattle.std.specs.Prelude.{ℕ, cond, List, take, drop, Result, Ok, Err}
+use Rattle.wire.specs.declared.refusal.Refusal.{Refusal}
+use Rattle.wire.specs.Numbers.{number_by}
 use Rattle.wire.specs.Promise.{Outcome}
-use Rattle.buffer.specs.declared.Built.{Built}
-use Rattle.buffer.specs.declared.Built.TheVariants as built
-use Rattle.buffer.specs.Buffer.{built_number}
 use Rattle.sheet.specs.declared.importing.Imported.{Imported}
 use Rattle.sheet.specs.declared.importing.Imported.TheVariants as imported
 use Rattle.sheet.specs.Sheet.{import_of, imported_number}
@@ -23,9 +22,9 @@ import_value (imported.Refused why) = 0
 import_value (imported.Fault k) = k
 
 -- "value: the length written, 0000 for a refusal"
-abbrev pub export_value : Built → ℕ
-export_value (built.Bytes n) = n
-export_value (built.Refused why) = 0
+abbrev pub export_value : Result ℕ Refusal → ℕ
+export_value (Ok n) = n
+export_value (Err why) = 0
 
 -- `NN value(3) SUMS`
 unfoldable pub summed_of : ℕ → ℕ → List ℕ → Answer
@@ -44,8 +43,8 @@ unfoldable pub import_into : View → List ℕ → List ℕ → Answer
 import_into w s out = import_shown w (import_of s out)
 
 -- packets exported into one
-abbrev pub export_shown : View → Outcome Built (List ℕ) → Answer
-export_shown w o = trysheet_show w (built_number o.answer) (export_value o.answer) o.left
+abbrev pub export_shown : View → Outcome (Result ℕ Refusal) (List ℕ) → Answer
+export_shown w o = trysheet_show w (number_by o.answer) (export_value o.answer) o.left
 
 unfoldable pub export_into : View → List ℕ → List ℕ → Answer
 export_into w s out = export_shown w (export_of s out)

@@ -9,7 +9,6 @@ mod sums;
 ghost use Rattle.std.specs.Prelude.{◌≡◌, length};
 ghost use Rattle.trysheet.specs.Trying.{import_value, export_value, summed_of, trysheet_show, import_into, export_into, import_summed, export_summed, trysheet_import, trysheet_export, import_copied, export_copied};
 
-use buffer::Built;
 use copies::{is_copied, put_copied};
 use fields::{
     Answer, MOST_TRIPLE_ROOM, MOST_WORD_ROOM, filled_triple, filled_word, is_lending, malformed,
@@ -44,12 +43,12 @@ fn import_value(done: Imported) -> usize
 }
 
 // The length written, or 0.
-fn export_value(done: Built) -> usize
+fn export_value(done: Result<usize, Refusal>) -> usize
     ensures { result ≡ export_value done }
 {
     match done {
-        Built::Bytes(n) => n,
-        Built::Refused(_) => 0,
+        Ok(n) => n,
+        Err(_) => 0,
     }
 }
 

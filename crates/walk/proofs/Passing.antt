@@ -1,5 +1,7 @@
 -- What a passed check of the walk says: each of its tests failed.
 use Prim.Native.Nat.{ℕ, ◌+◌, ◌<◌}
+use Rattle.wire.specs.declared.refusal.Refusal.{Refusal}
+use Rattle.std.specs.Prelude.{Result, Ok, ⊤}
 use mathlib.Core.Bool.{true, false, not, ◌||◌}
 use mathlib.Core.Path.{◌≡◌, sym, ◌∙◌}
 use native.Mathlib.Omega.{arith}
@@ -12,8 +14,6 @@ use Rattle.ledger.specs.Ledger.{is_off_list}
 use Rattle.session.specs.declared.Session.{Session}
 use Rattle.session.specs.Session.{entry_of, is_ask_due}
 use Rattle.session.proofs.Sessions.{due_says}
-use Rattle.sending.specs.declared.Check.{Check}
-use Rattle.sending.specs.declared.Check.TheVariants.{Passed}
 use Rattle.sending.proofs.Passing.{Free, check_says}
 use Rattle.walk.specs.Walk.{walk_tests, next_check, ask_check}
 
@@ -24,7 +24,7 @@ pub record NextPasses (s : Session) (at : ℕ) : Type 0 where
   pub walking : s.walk < s.n
   pub placed : knows (entry_of s (s.walk + 1)) place ≡ true
 
-pub next_says : (s : Session) (at : ℕ) → next_check s at ≡ Passed → NextPasses s at
+pub next_says : (s : Session) (at : ℕ) → next_check s at ≡ (Ok tt) → NextPasses s at
 unfolding next_check
 next_says s at h =
     let t = check_says s (walk_tests s at (leb s.n s.walk || is_ask_due s)) h in
@@ -45,7 +45,7 @@ pub record AskPasses (s : Session) (at : ℕ) : Type 0 where
   pub walking : s.walk < s.n
   pub doubtful : knows (entry_of s (s.walk + 1)) place ≡ false
 
-pub ask_says : (s : Session) (at : ℕ) → ask_check s at ≡ Passed → AskPasses s at
+pub ask_says : (s : Session) (at : ℕ) → ask_check s at ≡ (Ok tt) → AskPasses s at
 unfolding ask_check
 ask_says s at h =
     let t = check_says s (walk_tests s at (leb s.n s.walk || not (is_ask_due s))) h in
@@ -61,8 +61,8 @@ ask_says s at h =
     }
 
 -- as the code's checks give it
-pub next_walks : (k : Check) (s : Session) (at : ℕ) → k ≡ next_check s at → k ≡ Passed → s.walk < s.n
+pub next_walks : (k : Result ⊤ Refusal) (s : Session) (at : ℕ) → k ≡ next_check s at → k ≡ (Ok tt) → s.walk < s.n
 next_walks k s at p q = (next_says s at (sym p ∙ q)).walking
 
-pub ask_walks : (k : Check) (s : Session) (at : ℕ) → k ≡ ask_check s at → k ≡ Passed → s.walk < s.n
+pub ask_walks : (k : Result ⊤ Refusal) (s : Session) (at : ℕ) → k ≡ ask_check s at → k ≡ (Ok tt) → s.walk < s.n
 ask_walks k s at p q = (ask_says s at (sym p ∙ q)).walking

@@ -1,5 +1,6 @@
 -- Document 01, "The host session" and "Numbers returned", with document 02, request 7: the walk, when "next" and "ask" are due and what they send.
-use Rattle.std.specs.Prelude.{ℕ, ◌+◌, Bool, false, not, ◌||◌, List, leb}
+use Rattle.std.specs.Prelude.{ℕ, ◌+◌, Bool, false, not, ◌||◌, List, leb, Result, ⊤}
+use Rattle.wire.specs.declared.refusal.Refusal.{Refusal}
 use Rattle.wire.specs.Promise.{Outcome}
 use Rattle.command.specs.declared.Command.TheVariants.{SetAddress, Nop}
 use Rattle.node.specs.Effect.{address_up}
@@ -7,7 +8,6 @@ use Rattle.ledger.specs.Ledger.{is_off_list}
 use Rattle.session.specs.declared.Session.{Session}
 use Rattle.session.specs.declared.Step.{Step}
 use Rattle.session.specs.Session.{given_place, is_ask_due, node_at}
-use Rattle.sending.specs.declared.Check.{Check}
 use Rattle.sending.specs.declared.Tests.{Tests}
 use Rattle.sending.specs.Sending.{test_of, transmit_of, by_check}
 
@@ -24,11 +24,11 @@ walk_tests s at undue = record {
 }
 
 -- 9: "next" is due until the walk has ended, unless "ask" is
-unfoldable pub next_check : Session → ℕ → Check
+unfoldable pub next_check : Session → ℕ → Result ⊤ Refusal
 next_check s at = test_of s (walk_tests s at (leb s.n s.walk || is_ask_due s))
 
 -- 9: "ask" is due where the place that "next" gave is in doubt
-unfoldable pub ask_check : Session → ℕ → Check
+unfoldable pub ask_check : Session → ℕ → Result ⊤ Refusal
 ask_check s at = test_of s (walk_tests s at (leb s.n s.walk || not (is_ask_due s)))
 
 -- "'next' sends Set Address to 0x00 with the next address"

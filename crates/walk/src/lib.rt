@@ -4,14 +4,14 @@
 #![tactic(auto)]
 
 ghost use Rattle.std.specs.Prelude.{◌≡◌};
+ghost use Rattle.wire.specs.Numbers.{number_by};
 ghost use Rattle.wire.specs.Promise.{Promise, Lending};
 ghost use Rattle.session.specs.Session.{step_number};
-ghost use Rattle.sending.specs.Sending.{check_number};
 ghost use Rattle.walk.specs.Walk.{walk_tests, next_check, ask_check, next_of, ask_of};
 
 use command::Command;
 use node::Node;
-use sending::{Check, Tests, test, transmit};
+use sending::{Tests, test, transmit};
 use session::{Session, Step, given_place, is_ask_due, refuse};
 use wire::{Address, Individual, Refusal};
 
@@ -32,15 +32,15 @@ fn walk_tests(s: Session, at: u8, undue: bool) -> Tests
 }
 
 // 9 where the walk has ended, or "ask" is due instead.
-fn next_check(s: Session, at: u8) -> Check
-    ensures { Promise check_number result (next_check s at) }
+fn next_check(s: Session, at: u8) -> Result<(), Refusal>
+    ensures { Promise number_by result (next_check s at) }
 {
     test(s, walk_tests(s, at, (s.n <= s.walk) | is_ask_due(s)))
 }
 
 // 9 where the walk has ended, or nothing is unconfirmed.
-fn ask_check(s: Session, at: u8) -> Check
-    ensures { Promise check_number result (ask_check s at) }
+fn ask_check(s: Session, at: u8) -> Result<(), Refusal>
+    ensures { Promise number_by result (ask_check s at) }
 {
     test(s, walk_tests(s, at, (s.n <= s.walk) | !is_ask_due(s)))
 }
@@ -50,8 +50,8 @@ pub fn next(s: Session, at: u8, out: &mut [u8]) -> Step
     ensures { Lending step_number result out.new (next_of s at out.old) }
 {
     match next_check(s, at) {
-        Check::Refuse(why) => refuse(s, why),
-        Check::Passed => {
+        Err(why) => refuse(s, why),
+        Ok(()) => {
             let k = s.walk + 1;
             let c = Command::SetAddress(given_place(k));
             transmit(
@@ -71,8 +71,8 @@ pub fn ask(s: Session, at: u8, out: &mut [u8]) -> Step
     ensures { Lending step_number result out.new (ask_of s at out.old) }
 {
     match ask_check(s, at) {
-        Check::Refuse(why) => refuse(s, why),
-        Check::Passed => {
+        Err(why) => refuse(s, why),
+        Ok(()) => {
             let to = Address::Individual(Individual(s.walk + 1));
             transmit(s, at, to, to, Command::Nop, out)
         }

@@ -6,3 +6,4 @@ pub mod Addresses
 pub mod OneResult
 pub mod Parts
 pub mod Unique
+pub mod Answered

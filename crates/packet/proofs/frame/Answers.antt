@@ -31,4 +31,4 @@ returns-then-s-end c = promised (search tests)
 
 pub returns : goal.returns
 unfolding frame_of
-returns c = promised (search tests)
+returns c = promised (rw c.of.ensures (search tests))

@@ -1,41 +1,42 @@
 -- The frame decides, and then the sum of the bytes up to its end.
-use Rattle.std.proofs.Common.{◌≡◌, ℕ, Bool, true, false, List, length, take, sym, ◌∙◌, length-take-le}
+use Rattle.std.proofs.Common.{◌≡◌, ℕ, Bool, true, false, List, length, take, sym, ◌∙◌, length-take-le, Result, Ok, Err}
+use Rattle.packet.specs.declared.Framed.{Framed}
+use Rattle.wire.specs.Numbers.{number_by}
 use Rattle.wire.specs.Promise.{Promise, promised}
-use Rattle.packet.specs.Packet.{frame_of, is_intact, read_of, framed_number}
+use Rattle.packet.specs.Packet.{frame_of, is_intact, read_of, whole}
 use Rattle.wire.specs.declared.address.Address.{Address}
 use Rattle.wire.specs.declared.refusal.Refusal.{Refusal}
 use Rattle.wire.specs.declared.refusal.Refusal.TheVariants.{Sum}
-use Rattle.packet.specs.declared.Framed.{Framed}
-use Rattle.packet.specs.declared.Framed.TheVariants.{Whole, Refused}
 use Rattle.packet.proofs.Packets.{framing}
+use Rattle.std.proofs.lemmas.Result.{err_from_is_err_and}
 use Rattle.packet.proofs.read.Goals as goal
 
-module _ (s : List ℕ) (r : Framed) (f : Promise framed_number r (frame_of s)) where
-  refused : (why : Refusal) → r ≡ Refused why → Promise framed_number (Refused why) (read_of s)
+module _ (s : List ℕ) where
+  refused : (why : Refusal) → Promise number_by (Err why) (frame_of s) → Err why ≡ read_of s
   unfolding read_of
-  refused why e = promised (rw (sym f.answer ∙ e))
+  refused why p = rw (sym p.answer)
 
-  module _ (a : Address) (k n : ℕ) (e : r ≡ Whole a k n) where
-    own : n ≡ length (take n s)
-    own = sym (length-take-le n s (framing s a k n (sym f.answer ∙ e)).reaches)
+  module _ (f : Framed) (p : Promise number_by (Ok f) (frame_of s)) where
+    own : f.end ≡ length (take f.end s)
+    own = sym (length-take-le f.end s (framing s f.address f.command f.end (sym p.answer)).reaches)
 
-    module _ (ok : Bool) (i : ok ≡ is_intact (take n s)) where
-      intact : ok ≡ true → Promise framed_number (Whole a k n) (read_of s)
+    module _ (ok : Bool) (i : ok ≡ is_intact (take f.end s)) where
+      intact : ok ≡ true → Promise number_by (Ok f) (read_of s)
       unfolding read_of
-      intact t = promised (rw (sym f.answer ∙ e, sym i ∙ t))
+      intact t = promised (rw (sym p.answer, sym i ∙ t))
 
-      spoilt : ok ≡ false → Promise framed_number (Refused Sum) (read_of s)
+      spoilt : ok ≡ false → Promise number_by (Err Sum) (read_of s)
       unfolding read_of
-      spoilt t = promised (rw (sym f.answer ∙ e, sym i ∙ t))
+      spoilt t = promised (rw (sym p.answer, sym i ∙ t))
 
 pub slice_bounds-is_intact-end : goal.slice_bounds-is_intact-end
-slice_bounds-is_intact-end c = search own
+slice_bounds-is_intact-end c = own _ _ c.in_ok-frame.ensures
 
-pub returns-then-is_intact : goal.returns-then-is_intact
-returns-then-is_intact c = search intact
+pub returns-then-not-is_intact : goal.returns-then-not-is_intact
+returns-then-not-is_intact c = search (spoilt, c.in_ok-frame.ensures)
 
-pub returns-else-is_intact : goal.returns-else-is_intact
-returns-else-is_intact c = search spoilt
+pub returns : goal.returns
+returns c = search (intact, c.in_ok-frame.ensures)
 
-pub returns-in-Refused : goal.returns-in-Refused
-returns-in-Refused c = search refused
+pub returns-in_err-frame : goal.returns-in_err-frame
+returns-in_err-frame c = let p = err_from_is_err_and c.from_residual.result c.from_residual.ensures.1 in rw (p.1, p.2) (promised (refused _ _ c.in_err-frame.ensures))

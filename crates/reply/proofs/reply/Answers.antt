@@ -1,11 +1,11 @@
 -- The mask tells how long the packet is; then it is begun, and grows by all its items.
-use Rattle.std.proofs.Common.{◌≡◌, ℕ, ◌+◌, ◌^◌, ◌<◌, ◌≤◌, Bool, true, false, List, length, sym, ap, ◌∙◌, arith, leb-false, leb-true}
+use Rattle.std.proofs.Common.{◌≡◌, ℕ, ◌+◌, ◌^◌, ◌<◌, ◌≤◌, Bool, true, false, List, length, sym, ap, ◌∙◌, arith, leb-false, leb-true, Ok, Err}
+use Rattle.wire.specs.Numbers.{number_by}
 use borrow.Author.Tests.{not-true, not-false}
 use Rattle.wire.specs.Promise.{Lending}
 use Rattle.wire.specs.declared.kind.Kind.{Kind}
 use Rattle.wire.specs.declared.refusal.Refusal.TheVariants.{Room}
-use Rattle.buffer.specs.Buffer.{built_number, written}
-use Rattle.buffer.specs.declared.Built.TheVariants.{Bytes, Refused}
+use Rattle.buffer.specs.Buffer.{written}
 use Rattle.buffer.proofs.Writing.{no_room}
 use Rattle.status.proofs.Replies.{status_length}
 use Rattle.node.specs.declared.state.Node.{Node}
@@ -56,13 +56,13 @@ module _ (h : Message) (n : Node) (held m : ℕ) (out : List ℕ) (t : Bool) (ta
   masked : m ≡ mask_for h n
   masked = tm ∙ ap (mask_of h) ta
 
-  refuses : t ≡ false → Lending built_number (Refused Room) out (written (reply_of h n) out)
+  refuses : t ≡ false → Lending number_by (Err Room) out (written (reply_of h n) out)
   refuses e =
       let k : length out < size_of n.kind m = leb-false (size_of n.kind m) (length out) (sym tr ∙ e) in
       no_room (reply_of h n) out (rw (reply_length_lem h n, ← masked) k)
 
   sent : (x : Shown) (b at r : ℕ) (o left : List ℕ) → t ≡ true → b ≡ status_byte h → x ≡ shown_of (take_of h n) → record { answer = at; left = o } ≡ reply_begin b out
-      → Grown (reply_items m x) at o r left → Lending built_number (Bytes (r + 1)) left (written (reply_of h n) out)
+      → Grown (reply_items m x) at o r left → Lending number_by (Ok (r + 1)) left (written (reply_of h n) out)
   unfolding reply_of
   sent x b at r o left e tb ex s g =
       let whole = grown_whole b out o at s (reply_items m x) left r g (rw tb (byte h)) (roomy n.kind m (length out) t tr e x (shown_kind h n x ex)) in

@@ -77,9 +77,9 @@ fn ranged(c: Command) -> Option<Command>
     ensures { result ≡ ranged c }
 {
     if c.fits() {
-        return Reading::Some(c);
+        return Some(c);
     }
-    Reading::None
+    None
 }
 
 // Set Address, of its two data bytes: any second byte gives a group.
@@ -87,9 +87,9 @@ fn placing(address: u8, group: u8) -> Option<Command>
     ensures { result ≡ placing_of address group }
 {
     if 0x80 <= address {
-        return Reading::None;
+        return None;
     }
-    Reading::Some(Command::SetAddress(Place {
+    Some(Command::SetAddress(Place {
         address: Individual(address),
         group: Group(group % 0x80 + 0x80),
         leader: group < 0x80,
@@ -126,7 +126,7 @@ fn loading(count: u8, bytes: &[u8]) -> Option<Command>
     ensures { result ≡ loading_of count bytes.now }
 {
     if count != load_count(byte(bytes, 0)) {
-        return Reading::None;
+        return None;
     }
     ranged(Command::LoadTrajectory(motion_of(bytes)))
 }
@@ -136,7 +136,7 @@ fn loading_two(bytes: &[u8]) -> Option<Command>
     ensures { result ≡ loading_of 2 bytes.now }
 {
     if byte(bytes, 0) % 16 != 8 {
-        return Reading::None;
+        return None;
     }
     loading(2, bytes)
 }
@@ -162,10 +162,10 @@ fn gaining(count: u8, bytes: &[u8]) -> Option<Command>
     ensures { result ≡ gaining_of count bytes.now }
 {
     if count != 14 {
-        return Reading::None;
+        return None;
     }
     if byte(bytes, 9) != 0 {
-        return Reading::None;
+        return None;
     }
     ranged(Command::SetGain(gains_of(bytes)))
 }
@@ -176,7 +176,7 @@ fn stopping(count: u8, bytes: &[u8]) -> Option<Command>
 {
     let stop = byte(bytes, 0);
     if count != 1 + stop / 16 % 2 * 4 {
-        return Reading::None;
+        return None;
     }
     ranged(Command::StopMotor(Stop {
         position: long_if(command::is_stop_here(stop), bytes, 1),
@@ -192,7 +192,7 @@ fn wide_rows(head: u8, bytes: &[u8]) -> Option<Command>
         0x4 => loading(head / 16, bytes),
         0x6 => gaining(head / 16, bytes),
         0x7 => stopping(head / 16, bytes),
-        _ => Reading::None,
+        _ => None,
     }
 }
 
@@ -208,8 +208,8 @@ fn for_gate(c: Command) -> Readings
     ensures { result ≡ record { gate = Some c; drive = None } }
 {
     Readings {
-        gate: Option<Command>::Some(c),
-        drive: Option<Command>::None,
+        gate: Some(c),
+        drive: None,
     }
 }
 
@@ -218,7 +218,7 @@ fn for_drive(r: Option<Command>) -> Readings
     ensures { result ≡ record { gate = None; drive = r } }
 {
     Readings {
-        gate: Option<Command>::None,
+        gate: None,
         drive: r,
     }
 }
@@ -229,21 +229,21 @@ fn listed(head: u8, one: u8, two: u8, three: u8, four: u8, bytes: &[u8]) -> Read
 {
     match head {
         0x21 => alike(placing(one, two)),
-        0x12 => alike(Reading::Some(Command::DefineStatus(one))),
-        0x13 => alike(Reading::Some(Command::ReadStatus(one))),
-        0x1A => alike(Reading::Some(Command::SetBaudRate(one))),
-        0x0E => alike(Reading::Some(Command::Nop)),
-        0x0F => alike(Reading::Some(Command::HardReset)),
+        0x12 => alike(Some(Command::DefineStatus(one))),
+        0x13 => alike(Some(Command::ReadStatus(one))),
+        0x1A => alike(Some(Command::SetBaudRate(one))),
+        0x0E => alike(Some(Command::Nop)),
+        0x0F => alike(Some(Command::HardReset)),
         0x24 => Readings {
-            gate: Option<Command>::Some(Command::SetPwm(Pwm {
+            gate: Some(Command::SetPwm(Pwm {
                 first: one,
                 second: two,
             })),
             drive: loading_two(bytes),
         },
         0x05 => Readings {
-            gate: Option<Command>::Some(Command::SynchOutput),
-            drive: Option<Command>::Some(Command::StartMotion),
+            gate: Some(Command::SynchOutput),
+            drive: Some(Command::StartMotion),
         },
         0x26 => for_gate(Command::SetOutputs(word(one, two))),
         0x47 => for_gate(Command::SetSynchOutput(Held {
@@ -255,7 +255,7 @@ fn listed(head: u8, one: u8, two: u8, three: u8, four: u8, bytes: &[u8]) -> Read
         })),
         0x18 => for_gate(Command::SetTimerMode(one)),
         0x0C => for_gate(Command::SynchInput),
-        0x00 => for_drive(Reading::Some(Command::ResetPosition)),
+        0x00 => for_drive(Some(Command::ResetPosition)),
         _ => for_drive(wide_rows(head, bytes)),
     }
 }
@@ -266,10 +266,10 @@ impl Readings {
         ensures { result ≡ readings_of command bytes.now }
     {
         if 15 < command {
-            return alike(Reading::None);
+            return alike(None);
         }
         if 15 < bytes.len() {
-            return alike(Reading::None);
+            return alike(None);
         }
         let head = command + (bytes.len() as u8) * 16;
         listed(

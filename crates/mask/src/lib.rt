@@ -8,7 +8,7 @@ ghost use Rattle.wire.specs.Numbers.{number_by};
 ghost use Rattle.wire.specs.Promise.{Promise};
 ghost use Rattle.mask.specs.Mask.{asked_count, size_of, mask_read};
 
-use wire::Kind;
+use wire::{Kind, Refusal};
 
 // The bytes of an item: none where it isn't asked for.
 fn asked_count(wanted: bool, count: usize) -> usize

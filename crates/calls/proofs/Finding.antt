@@ -3,7 +3,7 @@
 use Prim.Native.Nat.{ℕ}
 use Rattle.wire.specs.declared.refusal.Refusal.{Refusal}
 use Rattle.packet.specs.declared.Framed.{Framed}
-use Rattle.std.specs.Prelude.{Result, Err, Option, Some, None}
+use Rattle.std.specs.Prelude.{Result, Err, Option, Some, None, Ok, ℕ}
 use mathlib.Core.Bool.{Bool, true, false, cond, true≢false}
 use mathlib.Core.List.{List, ◌++◌}
 use mathlib.Core.Path.{◌≡◌, refl, sym, ap, subst, ◌∙◌}
@@ -30,8 +30,6 @@ use Rattle.codec.specs.Build.{typed_by, Typed, packet_for}
 use Rattle.codec.proofs.Commands.{built_few, reads_in_range}
 use Rattle.node.specs.Effect.{divisor_up}
 use Rattle.session.specs.declared.Session.{Session}
-use Rattle.session.specs.declared.End.{End}
-use Rattle.session.specs.declared.End.TheVariants as end
 use Rattle.sending.specs.Sending.{open_exchange}
 use Rattle.sending.proofs.Sent.{sending}
 use Rattle.walk.proofs.Sent.{next_went, ask_went}
@@ -61,7 +59,7 @@ spoken_command e = cc
 
 -- sent as these bytes, it is found
 sent_found : (s : Session) (k : Call) (p left : List ℕ) (after : Session) (n : ℕ) → take n left ≡ p
-    → sought_by s k p after left (end.Sent n) ≡ record { source = Some k; session = after }
+    → sought_by s k p after left (Ok (Some n)) ≡ record { source = Some k; session = after }
 sent_found s k p left after n e = rw (e, same_self p)
 
 -- ---- a call that is made is found by the reading of a kind that has its command
@@ -106,12 +104,12 @@ module _ {s : Session} {k : Call} {p : List ℕ} (g : Gives s k p) (w : CallWent
     found_late m e = found_by_lem (rw (m, e, tried))
 
 -- a call that isn't sent is not found
-by_end : (e : End) (s : Session) (k : Call) (p left : List ℕ) (after : Session) → ((n : ℕ) → e ≡ end.Sent n → ⊥) → sought_by s k p after left e ≡ missed_of s
-by_end (end.Sent n) s k p left after h = absurd (h n refl)
-by_end end.Done s k p left after h = refl
-by_end (end.Refused why) s k p left after h = refl
+by_end : (e : Result (Option ℕ) Refusal) (s : Session) (k : Call) (p left : List ℕ) (after : Session) → ((n : ℕ) → e ≡ Ok (Some n) → ⊥) → sought_by s k p after left e ≡ missed_of s
+by_end (Ok (Some n)) s k p left after h = absurd (h n refl)
+by_end (Ok None) s k p left after h = refl
+by_end (Err why) s k p left after h = refl
 
-unsent : (s : Session) (k : Call) (p : List ℕ) → ((n : ℕ) → (call_perform k s divisor_up (replicate 19 0)).answer.end ≡ end.Sent n → ⊥) → try_call s k p ≡ missed_of s
+unsent : (s : Session) (k : Call) (p : List ℕ) → ((n : ℕ) → (call_perform k s divisor_up (replicate 19 0)).answer.end ≡ Ok (Some n) → ⊥) → try_call s k p ≡ missed_of s
 unfolding try_call
 unsent s k p h = by_end _ s k p _ _ h
 
@@ -173,7 +171,7 @@ abbrev FoundAs : Session → List ℕ → Call → Sought → Type 0
 FoundAs s p j x = x.source ≡ Some j → Made s j p x.session
 
 module _ (s : Session) (k : Call) (p : List ℕ) (typed : TypedCall k) (unpaced : sets_rate k ≡ false) (j : Call) where
-  by_same : (b : Bool) (n : ℕ) → (call_perform k s divisor_up (replicate 19 0)).answer.end ≡ end.Sent n → is_same (take n (call_perform k s divisor_up (replicate 19 0)).left) p ≡ b
+  by_same : (b : Bool) (n : ℕ) → (call_perform k s divisor_up (replicate 19 0)).answer.end ≡ Ok (Some n) → is_same (take n (call_perform k s divisor_up (replicate 19 0)).left) p ≡ b
       → FoundAs s p j (cond b (record { source = Some k; session = (call_perform k s divisor_up (replicate 19 0)).answer.session }) (missed_of s))
   by_same true n e h f =
       let g : Gives s k p = record { typed = typed; unpaced = unpaced; out = replicate 19 0; count = n; sent = e; bytes = same_says _ p h } in
@@ -181,11 +179,11 @@ module _ (s : Session) (k : Call) (p : List ℕ) (typed : TypedCall k) (unpaced 
       subst (λ (m : Call). Made s m p (call_perform k s divisor_up (replicate 19 0)).answer.session) i (record { gives = g; session = refl })
   by_same false n e h f = absurd (found_not (sym f))
 
-  by_sent : (e : End) → (call_perform k s divisor_up (replicate 19 0)).answer.end ≡ e
+  by_sent : (e : Result (Option ℕ) Refusal) → (call_perform k s divisor_up (replicate 19 0)).answer.end ≡ e
       → FoundAs s p j (sought_by s k p (call_perform k s divisor_up (replicate 19 0)).answer.session (call_perform k s divisor_up (replicate 19 0)).left e)
-  by_sent (end.Sent n) e = by_same _ n e refl
-  by_sent end.Done e = λ f. absurd (found_not (sym f))
-  by_sent (end.Refused why) e = λ f. absurd (found_not (sym f))
+  by_sent (Ok (Some n)) e = by_same _ n e refl
+  by_sent (Ok None) e = λ f. absurd (found_not (sym f))
+  by_sent (Err why) e = λ f. absurd (found_not (sym f))
 
   tried_gives : FoundAs s p j (try_call s k p)
   unfolding try_call

@@ -1,7 +1,7 @@
 -- A law for each exit of the code.
 use Prim.Native.Nat.{ℕ, ◌<◌, ◌≤◌}
 use Rattle.packet.specs.declared.Framed.{Framed}
-use Rattle.std.specs.Prelude.{Result, Err, Option, Some, None}
+use Rattle.std.specs.Prelude.{Result, Err, Option, Some, None, Ok}
 use Rattle.wire.specs.Numbers.{number_by}
 use mathlib.Core.Bool.{Bool, true, false}
 use mathlib.Core.List.{List}
@@ -27,7 +27,6 @@ use Rattle.codec.specs.Reading.{codec_read}
 use Rattle.node.specs.Effect.{divisor_up}
 use Rattle.session.specs.declared.Session.{Session}
 use Rattle.session.specs.declared.Step.{Step}
-use Rattle.session.specs.declared.End.TheVariants as end
 use Rattle.session.specs.Session.{step_number}
 use Rattle.walk.specs.Walk.{next_of, ask_of}
 use Rattle.host.specs.Calls.{order_of, regroup_of, set_baud_rate_of}
@@ -111,20 +110,20 @@ module _ (to : Address) (c : Command) (r : Role) (by : r ≡ role_of c) where
 -- ---- try_call, seek, find_as, find
 
 module _ (s : Session) (c : Call) (p o : List ℕ) (r : Step) (by : Lending step_number r o (call_perform c s divisor_up (replicate 19 0))) where
-  pub tried_same : (n : ℕ) (d : List ℕ) (g : Bool) → r.end ≡ end.Sent n → d ≡ take n o → g ≡ is_same d p → g ≡ true
+  pub tried_same : (n : ℕ) (d : List ℕ) (g : Bool) → r.end ≡ Ok (Some n) → d ≡ take n o → g ≡ is_same d p → g ≡ true
       → record { source = Some c; session = r.session } ≡ try_call s c p
   unfolding try_call
   tried_same n d g e f h i = rw (← by.answer, ← by.leaves, e, ← f, ← h, i)
 
-  pub tried_other : (n : ℕ) (d : List ℕ) (g : Bool) (m : Sought) → r.end ≡ end.Sent n → d ≡ take n o → g ≡ is_same d p → g ≡ false → m ≡ missed_of s → m ≡ try_call s c p
+  pub tried_other : (n : ℕ) (d : List ℕ) (g : Bool) (m : Sought) → r.end ≡ Ok (Some n) → d ≡ take n o → g ≡ is_same d p → g ≡ false → m ≡ missed_of s → m ≡ try_call s c p
   unfolding try_call
   tried_other n d g m e f h i j = rw (← by.answer, ← by.leaves, e, ← f, ← h, i) j
 
-  pub tried_done : (m : Sought) → r.end ≡ end.Done → m ≡ missed_of s → m ≡ try_call s c p
+  pub tried_done : (m : Sought) → r.end ≡ Ok None → m ≡ missed_of s → m ≡ try_call s c p
   unfolding try_call
   tried_done m e j = rw (← by.answer, e) j
 
-  pub tried_refused : (m : Sought) (why : Refusal) → r.end ≡ end.Refused why → m ≡ missed_of s → m ≡ try_call s c p
+  pub tried_refused : (m : Sought) (why : Refusal) → r.end ≡ Err why → m ≡ missed_of s → m ≡ try_call s c p
   unfolding try_call
   tried_refused m why e j = rw (← by.answer, e) j
 

@@ -1,9 +1,10 @@
 -- What any of the calls comes to: sent, its exchange is opened, as far as a Hard Reset has one; else the session is as it was.
 use Prim.Native.Nat.{ℕ, ◌+◌}
+use Rattle.std.specs.Prelude.{Ok, Some, None}
 use mathlib.Core.Bool.{Bool, true, false, cond, true≢false, false≢true}
 use mathlib.Core.List.{List}
 use mathlib.Core.Path.{◌≡◌, refl, sym, ap, subst, ◌∙◌}
-use Rattle.wire.specs.Numbers.{done}
+use Rattle.wire.specs.Numbers.{done, number_by}
 use native.Mathlib.Omega.{arith}
 use lib.Dec.{eqb}
 use borrow.Author.Tests.{ne_eqb}
@@ -24,8 +25,7 @@ use Rattle.codec.proofs.Commands.{unplaced_typed}
 use Rattle.node.specs.Effect.{address_up}
 use Rattle.session.specs.declared.Session.{Session}
 use Rattle.session.specs.declared.Step.{Step}
-use Rattle.session.specs.declared.End.TheVariants.{Done, Sent}
-use Rattle.session.specs.Session.{node_at, given_place, off_chain, end_number, step_number}
+use Rattle.session.specs.Session.{node_at, given_place, off_chain, step_number}
 use Rattle.session.proofs.Sessions.{on_chain_lem}
 use Rattle.sending.specs.Sending.{open_exchange}
 use Rattle.sending.proofs.Passing.{Free}
@@ -152,8 +152,8 @@ call_went (SetBaudRate g v) s at out d =
     }
 
 -- no call has number 0 and sends nothing
-pub call_not_done : (k : Call) (s : Session) (at : ℕ) (out : List ℕ) → (call_perform k s at out).answer.end ≡ Done → ⊥
-call_not_done k s at out e = impossible (cc (e, ap (λ (o : Outcome Step (List ℕ)). o.answer.end) (call_went k s at out (ap end_number e)).result))
+pub call_not_done : (k : Call) (s : Session) (at : ℕ) (out : List ℕ) → (call_perform k s at out).answer.end ≡ Ok None → ⊥
+call_not_done k s at out e = impossible (cc (e, ap (λ (o : Outcome Step (List ℕ)). o.answer.end) (call_went k s at out (ap number_by e)).result))
 
 -- a call that doesn't send leaves the session as it was
 pub call_stays : (k : Call) (s : Session) (at : ℕ) (out : List ℕ) → (step_number (call_perform k s at out).answer ≡ done → ⊥) → (call_perform k s at out).answer.session ≡ s
@@ -168,7 +168,7 @@ opened_by : (b : Bool) (s : Session) (at : ℕ) (to : Address) (c : Command) →
 opened_by true s at to c e f = false≢true (sym (ap (λ (t : Session). t.started) (opened_reset s at to c e)) ∙ f.started)
 opened_by false s at to c e f = impossible (cc (ap (λ (t : Session). t.exchange) (opened_waits s at to c e), f.idle))
 
-pub sent_not_free : (k : Call) (s : Session) (at : ℕ) (out : List ℕ) (n : ℕ) → (call_perform k s at out).answer.end ≡ Sent n → Free (call_perform k s at out).answer.session → ⊥
+pub sent_not_free : (k : Call) (s : Session) (at : ℕ) (out : List ℕ) (n : ℕ) → (call_perform k s at out).answer.end ≡ Ok (Some n) → Free (call_perform k s at out).answer.session → ⊥
 sent_not_free k s at out n e f =
-    let w = call_went k s at out (ap end_number e) in
+    let w = call_went k s at out (ap number_by e) in
     opened_by (is_reset (role_of w.command)) s at w.to w.command refl (subst Free (ap (λ (o : Outcome Step (List ℕ)). o.answer.session) w.result) f)

@@ -1,7 +1,8 @@
 -- Two calls that give the same bytes in one session: some kind of node has both commands, and then they are one and the same;
 -- or each kind has one of them, and then no node may be reached, since 17 refuses neither. The sessions after them are alike.
 use Prim.Native.Nat.{ℕ}
-use Rattle.std.specs.Prelude.{Err, Some, None}
+use Rattle.wire.specs.declared.refusal.Refusal.{Refusal}
+use Rattle.std.specs.Prelude.{Err, Some, None, Result, Ok, Option, ℕ}
 use mathlib.Core.Bool.{Bool, true, false, true≢false, false≢true}
 use mathlib.Core.List.{List, [], append-nil}
 use mathlib.Core.Path.{◌≡◌, refl, sym, ap, subst, ◌∙◌}
@@ -24,11 +25,9 @@ use Rattle.codec.proofs.Commands.{built_reads}
 use Rattle.node.specs.Effect.{divisor_up}
 use Rattle.session.specs.declared.Session.{Session}
 use Rattle.session.specs.declared.Step.{Step}
-use Rattle.session.specs.declared.End.{End}
-use Rattle.session.specs.declared.End.TheVariants as end
-use Rattle.session.specs.Session.{off_chain, is_valid, is_closed, end_number}
+use Rattle.session.specs.Session.{off_chain, is_valid, is_closed}
 use Rattle.session.proofs.Sessions.{valid_from, open_is}
-use Rattle.wire.specs.Numbers.{done}
+use Rattle.wire.specs.Numbers.{done, number_by}
 use Rattle.sending.specs.Sending.{open_exchange}
 use Rattle.sending.proofs.Sent.{opened_waits}
 use Rattle.sending.proofs.Passing.{Free}
@@ -63,10 +62,10 @@ had c = by_gate (has Gate c) c refl
 
 -- ---- what a call that gives bytes sent
 
-pub sent_done : {e : End} (n : ℕ) → e ≡ end.Sent n → end_number e ≡ done
-sent_done n h = ap end_number h
+pub sent_done : {e : Result (Option ℕ) Refusal} (n : ℕ) → e ≡ Ok (Some n) → number_by e ≡ done
+sent_done n h = ap number_by h
 
-sent_count : {n m : ℕ} → end.Sent n ≡ end.Sent m → n ≡ m
+sent_count : {n m : ℕ} → Ok (Some n) ≡ Ok (Some m) → n ≡ m
 sent_count e = cc
 
 abbrev pub went_by : {s : Session} {k : Call} {p : List ℕ} (g : Gives s k p) → CallWent k s divisor_up g.out

@@ -1,10 +1,9 @@
 -- The host's calls that send, as one type: what each makes of a session and a lent buffer, and which bytes it gives.
-use Rattle.std.specs.Prelude.{ℕ, ◌<◌, Bool, true, false, List, ◌≡◌, take}
+use Rattle.std.specs.Prelude.{ℕ, ◌<◌, Bool, true, false, List, ◌≡◌, take, Ok, Some}
 use Rattle.wire.specs.Promise.{Outcome}
 use Rattle.node.specs.Effect.{divisor_up}
 use Rattle.session.specs.declared.Session.{Session}
 use Rattle.session.specs.declared.Step.{Step}
-use Rattle.session.specs.declared.End.TheVariants.{Sent}
 use Rattle.walk.specs.Walk.{next_of, ask_of}
 use Rattle.host.specs.Calls.{order_of, regroup_of, set_baud_rate_of}
 use Rattle.calls.specs.declared.Call.{Call}
@@ -41,7 +40,7 @@ pub record Gives (s : Session) (c : Call) (p : List ℕ) : Type 0 where
   pub unpaced : sets_rate c ≡ false
   pub out : List ℕ
   pub count : ℕ
-  pub sent : (call_perform c s divisor_up out).answer.end ≡ Sent count
+  pub sent : (call_perform c s divisor_up out).answer.end ≡ Ok (Some count)
   pub bytes : take count (call_perform c s divisor_up out).left ≡ p
 
 -- the session after it

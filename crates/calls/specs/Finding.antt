@@ -1,5 +1,6 @@
 -- The call that gives some bytes, as the code looks for it. Whoever wants to know what it means reads Calls: what is found is such a call, and where none is found there is none (proofs/Finding).
-use Rattle.std.specs.Prelude.{ℕ, cond, List, take, replicate, Option, Some, None}
+use Rattle.std.specs.Prelude.{ℕ, cond, List, take, replicate, Option, Some, None, Result, Ok, Err}
+use Rattle.wire.specs.declared.refusal.Refusal.{Refusal}
 use Rattle.wire.specs.Promise.{Outcome}
 use Rattle.text.specs.Same.{is_same}
 use Rattle.wire.specs.declared.address.Address.{Address}
@@ -12,8 +13,6 @@ use Rattle.command.specs.Role.{role_of, is_placing}
 use Rattle.node.specs.Effect.{divisor_up}
 use Rattle.session.specs.declared.Session.{Session}
 use Rattle.session.specs.declared.Step.{Step}
-use Rattle.session.specs.declared.End.{End}
-use Rattle.session.specs.declared.End.TheVariants as end
 use Rattle.calls.specs.declared.Call.{Call}
 use Rattle.calls.specs.declared.Call.TheVariants.{Next, Ask, Order, Regroup}
 use Rattle.calls.specs.declared.Spoken.{Spoken}
@@ -27,10 +26,10 @@ abbrev pub missed_of : Session → Sought
 missed_of s = record { source = None; session = s }
 
 -- found, if the call was sent as these bytes
-abbrev pub sought_by : Session → Call → List ℕ → Session → List ℕ → End → Sought
-sought_by s c p after left (end.Sent n) = cond (is_same (take n left) p) (record { source = Some c; session = after }) (missed_of s)
-sought_by s c p after left end.Done = missed_of s
-sought_by s c p after left (end.Refused why) = missed_of s
+abbrev pub sought_by : Session → Call → List ℕ → Session → List ℕ → Result (Option ℕ) Refusal → Sought
+sought_by s c p after left (Ok (Some n)) = cond (is_same (take n left) p) (record { source = Some c; session = after }) (missed_of s)
+sought_by s c p after left (Ok None) = missed_of s
+sought_by s c p after left (Err why) = missed_of s
 
 -- by what became of the call
 abbrev pub sought_of : Session → Call → List ℕ → Outcome Step (List ℕ) → Sought

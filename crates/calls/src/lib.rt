@@ -14,7 +14,7 @@ ghost use Rattle.calls.specs.Finding.{missed_of, try_call, early_call, late_call
 
 use command::{Command, Role};
 use node::Node;
-use session::{End, Session, Step};
+use session::{Session, Step};
 use wire::{Address, Group, Individual, Kind, Refusal};
 
 // A call that sends, with its arguments.
@@ -137,7 +137,7 @@ fn try_call(s: Session, call: Call, bytes: &[u8]) -> Sought
     let end = step.end;
     let session = step.session;
     match end {
-        End::Sent(n) => {
+        Ok(Some(n)) => {
             if text::is_same(text::first(&out, n), bytes) {
                 return Sought {
                     source: Some(call),
@@ -146,8 +146,8 @@ fn try_call(s: Session, call: Call, bytes: &[u8]) -> Sought
             }
             missed(s)
         }
-        End::Done => missed(s),
-        End::Refused(_) => missed(s),
+        Ok(None) => missed(s),
+        Err(_) => missed(s),
     }
 }
 

@@ -5,7 +5,7 @@
 
 use command::{Command, Motion, Place, Stop};
 use node::Node;
-use session::{End, Session};
+use session::Session;
 use std::io;
 use wire::{Address, Group, Individual, Refusal};
 
@@ -87,9 +87,9 @@ fn order(
     let step = host::order(session(2, walk), at, to, c, &mut lent);
     let end = step.end;
     let sent = match end {
-        End::Done => 0,
-        End::Sent(n) => n,
-        End::Refused(_) => 0,
+        Ok(None) => 0,
+        Ok(Some(n)) => n,
+        Err(_) => 0,
     };
     show(rt, what, a, b, end.number(), sent, &lent)
 }

@@ -1,5 +1,6 @@
 -- The others hold likewise.
 use Prim.Native.Nat.{ℕ}
+use Rattle.std.specs.Prelude.{Ok, Err, Some, None}
 use mathlib.Core.Bool.{true, false}
 use mathlib.Core.List.{List}
 use mathlib.Core.Path.{◌≡◌, refl}
@@ -17,7 +18,6 @@ use Rattle.entry.specs.declared.Entry.{Entry}
 use Rattle.ledger.specs.Ledger.{ledger_least, each_from, settle_of, any_from, is_led, is_lacked, is_unlisted, is_off_list}
 use Rattle.session.specs.declared.Exchange.TheVariants.{Waiting}
 use Rattle.session.specs.declared.Session.{Session}
-use Rattle.session.specs.declared.End.TheVariants.{Done, Sent, Refused}
 use Rattle.session.specs.Session.{is_valid, is_closed, is_ask_due, node_at, given_place}
 use Rattle.sending.specs.Sending.{is_waiting, test_of, open_exchange, transmit_of}
 use Rattle.walk.specs.Walk.{next_check, ask_check, next_of, ask_of}
@@ -44,54 +44,54 @@ module _ (rest : List Entry) where
   abbrev waiting : ℕ → Command → TwoNodes → Session
   waiting k c r = pair r.walk (Waiting divisor_up (node_at k) c) r.first r.second rest
 
-  sent_held : step_of (order (node_at 2) (SetSynchOutput some_held)) (shown fresh rest) ≡ record { end = Sent 8; session = waiting 2 (SetSynchOutput some_held) fresh }
+  sent_held : step_of (order (node_at 2) (SetSynchOutput some_held)) (shown fresh rest) ≡ record { end = Ok (Some 8); session = waiting 2 (SetSynchOutput some_held) fresh }
   unfolding total written build_for codec_build is_valid is_closed is_waiting is_listed is_unlisted is_off_list test_of order_check is_lacked any_from ledger_least open_exchange transmit_of order_of
   sent_held = refl
 
-  lost_held : finish_of (waiting 2 (SetSynchOutput some_held) fresh) answer.Silent ≡ record { end = Done; session = shown unheld rest }
+  lost_held : finish_of (waiting 2 (SetSynchOutput some_held) fresh) answer.Silent ≡ record { end = Ok None; session = shown unheld rest }
   unfolding is_valid is_closed ledger_least each_from settle_of noted_of conclude_of finish_of
   lost_held = refl
 
-  sent_copy : step_of (order (node_at 2) SynchOutput) (shown unheld rest) ≡ record { end = Sent 4; session = waiting 2 SynchOutput unheld }
+  sent_copy : step_of (order (node_at 2) SynchOutput) (shown unheld rest) ≡ record { end = Ok (Some 4); session = waiting 2 SynchOutput unheld }
   unfolding total written build_for codec_build is_valid is_closed is_waiting is_listed is_unlisted is_off_list test_of order_check is_lacked any_from ledger_least open_exchange transmit_of order_of
   sent_copy = refl
 
-  copied : finish_of (waiting 2 SynchOutput unheld) answer.Clear ≡ record { end = Done; session = shown uncopied rest }
+  copied : finish_of (waiting 2 SynchOutput unheld) answer.Clear ≡ record { end = Ok None; session = shown uncopied rest }
   unfolding is_valid is_closed ledger_least each_from settle_of is_giving is_asking noted_of conclude_of finish_of
   copied = refl
 
   sent_join : step_of (regroup (record { 0 = 2 }) (record { 0 = 0x80 }) false) (shown (ready leads80 (addressed 2)) rest)
-      ≡ record { end = Sent 6; session = waiting 2 joins (ready leads80 (addressed 2)) }
+      ≡ record { end = Ok (Some 6); session = waiting 2 joins (ready leads80 (addressed 2)) }
   unfolding total written build_for codec_build is_valid is_closed is_waiting has_rival ledger_least any_from is_led is_listed is_unlisted is_off_list test_of regroup_check open_exchange transmit_of regroup_of
   sent_join = refl
 
-  joined : finish_of (waiting 2 joins (ready leads80 (addressed 2))) answer.Clear ≡ record { end = Done; session = shown (ready leads80 joined80) rest }
+  joined : finish_of (waiting 2 joins (ready leads80 (addressed 2))) answer.Clear ≡ record { end = Ok None; session = shown (ready leads80 joined80) rest }
   unfolding is_valid is_closed ledger_least each_from settle_of is_giving is_asking noted_of conclude_of finish_of
   joined = refl
 
   led : step_of (regroup (record { 0 = 2 }) (record { 0 = 0x80 }) true) (shown (ready leads80 (addressed 2)) rest)
-      ≡ record { end = Refused Led; session = shown (ready leads80 (addressed 2)) rest }
+      ≡ record { end = Err Led; session = shown (ready leads80 (addressed 2)) rest }
   unfolding is_valid is_closed is_waiting has_rival ledger_least any_from is_led is_listed is_unlisted is_off_list test_of regroup_check regroup_of
   led = refl
 
   -- the walk's first Set Address
-  sent_first : step_of next (shown up rest) ≡ record { end = Sent 6; session = waiting 1 (SetAddress (given_place 1)) up }
+  sent_first : step_of next (shown up rest) ≡ record { end = Ok (Some 6); session = waiting 1 (SetAddress (given_place 1)) up }
   unfolding total written build_for codec_build is_valid is_closed is_waiting is_ask_due any_from ledger_least is_listed is_unlisted is_off_list test_of next_check open_exchange transmit_of next_of
   sent_first = refl
 
-  lost_first : finish_of (waiting 1 (SetAddress (given_place 1)) up) answer.Silent ≡ record { end = Done; session = shown unplaced rest }
+  lost_first : finish_of (waiting 1 (SetAddress (given_place 1)) up) answer.Silent ≡ record { end = Ok None; session = shown unplaced rest }
   unfolding is_valid is_closed ledger_least each_from settle_of noted_of conclude_of finish_of
   lost_first = refl
 
-  not_next : step_of next (shown unplaced rest) ≡ record { end = Refused NotDue; session = shown unplaced rest }
+  not_next : step_of next (shown unplaced rest) ≡ record { end = Err NotDue; session = shown unplaced rest }
   unfolding is_valid is_closed is_waiting is_ask_due any_from ledger_least is_listed is_unlisted is_off_list test_of next_check next_of
   not_next = refl
 
-  asked : step_of ask (shown unplaced rest) ≡ record { end = Sent 4; session = waiting 1 Nop unplaced }
+  asked : step_of ask (shown unplaced rest) ≡ record { end = Ok (Some 4); session = waiting 1 Nop unplaced }
   unfolding total written build_for codec_build is_valid is_closed is_waiting is_ask_due any_from ledger_least is_listed is_unlisted is_off_list test_of ask_check open_exchange transmit_of ask_of
   asked = refl
 
-  confirmed : finish_of (waiting 1 Nop unplaced) answer.Clear ≡ record { end = Done; session = shown confirmed1 rest }
+  confirmed : finish_of (waiting 1 Nop unplaced) answer.Clear ≡ record { end = Ok None; session = shown confirmed1 rest }
   unfolding is_valid is_closed is_ask_due ledger_least each_from settle_of is_giving is_asking noted_of conclude_of finish_of
   confirmed = refl
 

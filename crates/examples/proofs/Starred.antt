@@ -1,5 +1,6 @@
 -- The table holds, by computation: packets and numbers at once, a course event by event.
 use mathlib.Core.Bool.{Bool, true, false}
+use Rattle.std.specs.Prelude.{Ok, Some, None}
 use mathlib.Core.List.{List}
 use mathlib.Core.Path.{◌≡◌, refl}
 use Rattle.buffer.specs.Sum.{total, ends_in_sum}
@@ -16,7 +17,6 @@ use Rattle.entry.specs.declared.Entry.{Entry}
 use Rattle.ledger.specs.Ledger.{ledger_least, each_from, settle_of, any_from, is_lacked, is_unlisted, is_off_list}
 use Rattle.session.specs.declared.Exchange.TheVariants.{Idle, Waiting}
 use Rattle.session.specs.declared.Session.{Session}
-use Rattle.session.specs.declared.End.TheVariants.{Done, Sent}
 use Rattle.session.specs.Session.{is_valid, is_closed, node_at, given_place}
 use Rattle.sending.specs.Sending.{is_waiting, test_of, open_exchange, transmit_of}
 use Rattle.host.specs.Calls.{order_check, order_of}
@@ -30,19 +30,19 @@ module _ (rest : List Entry) where
   abbrev waiting : Bool → Session
   waiting b = pair 2 (Waiting divisor_up (node_at 2) (SetOutputs 5)) (addressed 1) (entry_with (given_place 2) 0 (known_but b true true)) rest
 
-  sent : (b : Bool) → step_of outputs5 (pair 2 Idle (addressed 1) (entry_with (given_place 2) 0 (known_but b true true)) rest) ≡ record { end = Sent 6; session = waiting b }
+  sent : (b : Bool) → step_of outputs5 (pair 2 Idle (addressed 1) (entry_with (given_place 2) 0 (known_but b true true)) rest) ≡ record { end = Ok (Some 6); session = waiting b }
   unfolding total written build_for codec_build is_valid is_closed is_waiting is_listed is_unlisted is_off_list test_of order_check is_lacked any_from ledger_least open_exchange transmit_of order_of
   sent b = refl
 
-  lost : finish_of (waiting true) answer.Silent ≡ record { end = Done; session = shown doubtful rest }
+  lost : finish_of (waiting true) answer.Silent ≡ record { end = Ok None; session = shown doubtful rest }
   unfolding is_valid is_closed ledger_least each_from settle_of noted_of conclude_of finish_of
   lost = refl
 
-  confirmed : finish_of (waiting false) answer.Clear ≡ record { end = Done; session = shown known5 rest }
+  confirmed : finish_of (waiting false) answer.Clear ≡ record { end = Ok None; session = shown known5 rest }
   unfolding is_valid is_closed ledger_least each_from settle_of is_giving is_asking noted_of conclude_of finish_of
   confirmed = refl
 
-  kept : finish_of (waiting true) answer.Marked ≡ record { end = Done; session = shown fresh rest }
+  kept : finish_of (waiting true) answer.Marked ≡ record { end = Ok None; session = shown fresh rest }
   unfolding is_valid is_closed noted_of conclude_of finish_of
   kept = refl
 

@@ -55,7 +55,7 @@ pub record OrderPasses (s : Session) (at : ℕ) (to : Address) (c : Command) : T
   pub node : off_chain s.n to ≡ false
   pub suits : is_lacked to c s.n s.entries ≡ false
 
-pub order_says : (s : Session) (at : ℕ) (to : Address) (c : Command) → order_check s at to c ≡ (Ok tt) → OrderPasses s at to c
+pub order_says : (s : Session) (at : ℕ) (to : Address) (c : Command) → order_check s at to c ≡ Ok tt → OrderPasses s at to c
 unfolding order_check
 order_says s at to c h =
     let t = check_says s (order_tests s at to c) h in
@@ -81,7 +81,7 @@ pub record RegroupPasses (s : Session) (at : ℕ) (i : Individual) (g : Group) (
   pub node : OnChain s.n i
   pub free : has_rival s i g leader ≡ false
 
-pub regroup_says : (s : Session) (at : ℕ) (i : Individual) (g : Group) (leader : Bool) → regroup_check s at i g leader ≡ (Ok tt) → RegroupPasses s at i g leader
+pub regroup_says : (s : Session) (at : ℕ) (i : Individual) (g : Group) (leader : Bool) → regroup_check s at i g leader ≡ Ok tt → RegroupPasses s at i g leader
 unfolding regroup_check
 regroup_says s at i g leader h =
     let t = check_says s (regroup_tests s at i g leader) h in
@@ -103,7 +103,7 @@ pub record BaudRatePasses (s : Session) (at : ℕ) (g : Group) (d : ℕ) : Type 
   pub settable : is_off_list d s.n s.entries ≡ false
   pub unanswerable : is_answerable g s.n s.entries ≡ false
 
-pub baud_rate_says : (s : Session) (at : ℕ) (g : Group) (d : ℕ) → baud_rate_check s at g d ≡ (Ok tt) → BaudRatePasses s at g d
+pub baud_rate_says : (s : Session) (at : ℕ) (g : Group) (d : ℕ) → baud_rate_check s at g d ≡ Ok tt → BaudRatePasses s at g d
 unfolding baud_rate_check
 baud_rate_says s at g d h =
     let t = check_says s (baud_rate_tests s at g d) h in

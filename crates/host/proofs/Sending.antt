@@ -32,7 +32,7 @@ module _ (k : Result ⊤ Refusal) (s : Session) (at : ℕ) (out : List ℕ) (why
   unfolding set_baud_rate_of
   baud_rate_refused g d p = rw (← p) (refused_by k s out _ why r by e)
 
-module _ (k : Result ⊤ Refusal) (s : Session) (at : ℕ) (out o : List ℕ) (r : Step) (by : k ≡ (Ok tt)) where
+module _ (k : Result ⊤ Refusal) (s : Session) (at : ℕ) (out o : List ℕ) (r : Step) (by : k ≡ Ok tt) where
   pub order_sends : (to : Address) (c : Command) → k ≡ order_check s at to c → Lending step_number r o (transmit_of s at to to c out) → Lending step_number r o (order_of s at to c out)
   unfolding order_of
   order_sends to c p l = rw (← p, by) l

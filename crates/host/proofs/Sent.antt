@@ -25,14 +25,14 @@ pub to_fits : (n : ℕ) (to : Address) → n ≤ 31 → is_bad_group to ≡ fals
 to_fits n (address.Individual i) f p q = node_fits n i.0 f (on_chain_lem n i q).high
 to_fits n (address.Group g) f p q = not-false (group_in_range g.0) p
 
-pub order_sent : (s : Session) (at : ℕ) (to : Address) (c : Command) (out : List ℕ) → order_check s at to c ≡ (Ok tt) → Sends s at to to c out (order_of s at to c out)
+pub order_sent : (s : Session) (at : ℕ) (to : Address) (c : Command) (out : List ℕ) → order_check s at to c ≡ Ok tt → Sends s at to to c out (order_of s at to c out)
 unfolding order_of
 order_sent s at to c out h =
     let t = order_says s at to c h in
     by_passed (order_check s at to c) s at to to c out _ h
     (transmitted_sends s at to to c out (to_fits s.n to t.session.valid.few t.group t.node) t.fits)
 
-pub regroup_sent : (s : Session) (at : ℕ) (i : Individual) (g : Group) (leader : Bool) (out : List ℕ) → regroup_check s at i g leader ≡ (Ok tt)
+pub regroup_sent : (s : Session) (at : ℕ) (i : Individual) (g : Group) (leader : Bool) (out : List ℕ) → regroup_check s at i g leader ≡ Ok tt
     → Sends s at (address.Individual i) (address.Individual i) (SetAddress (record { address = i; group = g; leader = leader })) out (regroup_of s at i g leader out)
 unfolding regroup_of
 regroup_sent s at i g leader out h =
@@ -40,7 +40,7 @@ regroup_sent s at i g leader out h =
     let f = node_fits s.n i.0 t.session.valid.few t.node.high in
     by_passed (regroup_check s at i g leader) s at _ _ _ out _ h (transmitted_sends s at _ _ _ out f (rw (f, t.group)))
 
-pub baud_rate_sent : (s : Session) (at : ℕ) (g : Group) (d : ℕ) (out : List ℕ) → baud_rate_check s at g d ≡ (Ok tt)
+pub baud_rate_sent : (s : Session) (at : ℕ) (g : Group) (d : ℕ) (out : List ℕ) → baud_rate_check s at g d ≡ Ok tt
     → Sends s at (address.Group g) (address.Group g) (SetBaudRate d) out (set_baud_rate_of s at g d out)
 unfolding set_baud_rate_of
 baud_rate_sent s at g d out h =

@@ -16,7 +16,7 @@ use Rattle.host.specs.Calls.{order_check, regroup_check, baud_rate_check, order_
 use Rattle.sending.proofs.Validity.{transmitted_valid, check_valid}
 use Rattle.host.proofs.Passing.{order_says, regroup_says}
 
-regroup_node : (s : Session) (at : ℕ) (i : Individual) (g : Group) (leader : Bool) → regroup_check s at i g leader ≡ (Ok tt) → off_chain s.n (address.Individual i) ≡ false
+regroup_node : (s : Session) (at : ℕ) (i : Individual) (g : Group) (leader : Bool) → regroup_check s at i g leader ≡ Ok tt → off_chain s.n (address.Individual i) ≡ false
 regroup_node s at i g leader k =
     let t = (regroup_says s at i g leader k).node in
     rw (le-ltb i.0 1 t.low, le-ltb s.n i.0 t.high)

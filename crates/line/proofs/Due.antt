@@ -1,5 +1,7 @@
 -- What may be sent while a session is open: the address that is called, whose record it is, and the command.
 use Prim.Native.Nat.{ℕ, ◌+◌, ◌<◌}
+use Rattle.std.specs.Prelude.{Ok, Some}
+use Rattle.wire.specs.Numbers.{number_by}
 use mathlib.Core.Bool.{Bool, true, false}
 use mathlib.Core.List.{List, ◌++◌}
 use mathlib.Core.Path.{◌≡◌, refl, sym, ap, ◌∙◌}
@@ -24,9 +26,8 @@ use Rattle.node.proofs.Laws.{place_writes}
 use Rattle.entry.specs.Entry.{knows}
 use Rattle.ledger.specs.Ledger.{is_led, is_lacked, is_answerable}
 use Rattle.session.specs.declared.Session.{Session}
-use Rattle.session.specs.declared.End.TheVariants.{Sent}
 use Rattle.session.specs.declared.Step.{Step}
-use Rattle.session.specs.Session.{off_chain, entry_of, node_at, end_number, given_place}
+use Rattle.session.specs.Session.{off_chain, entry_of, node_at, given_place}
 use Rattle.sending.specs.Sending.{open_exchange}
 use Rattle.session.proofs.Sessions.{OnChain}
 use Rattle.sending.proofs.Passing.{Free}
@@ -71,10 +72,10 @@ pub record Goes (s : Session) (v : ℕ) (called to : Address) (c : Command) (p :
 seam : (p out : List ℕ) (n : ℕ) → length p ≡ n → take n (p ++ drop (length p) out) ≡ p
 seam p out n e = rw (← e) (take-append_seam p (drop (length p) out))
 
-goes : (s : Session) (v : ℕ) (called to : Address) (c : Command) (out : List ℕ) (o : Outcome Step (List ℕ)) (n : ℕ) → o ≡ sending s v called to c out → o.answer.end ≡ Sent n
+goes : (s : Session) (v : ℕ) (called to : Address) (c : Command) (out : List ℕ) (o : Outcome Step (List ℕ)) (n : ℕ) → o ≡ sending s v called to c out → o.answer.end ≡ Ok (Some n)
     → in_range called ≡ true → fits_of c ≡ true → Goes s v called to c (take n o.left) o.answer.session
 goes s v called to c out o n e f range fits =
-    let m : Sent (length (packet_for called c)) ≡ Sent n = sym (ap (λ (x : Outcome Step (List ℕ)). x.answer.end) e) ∙ f in
+    let m : Ok (Some (length (packet_for called c))) ≡ Ok (Some n) = sym (ap (λ (x : Outcome Step (List ℕ)). x.answer.end) e) ∙ f in
     record { range = range; fits = fits; packet = rw e (seam (packet_for called c) out n (cc m)); after = ap (λ (x : Outcome Step (List ℕ)). x.answer.session) e }
 
 -- a call that sends, and isn't a Hard Reset
@@ -87,10 +88,10 @@ pub record CallSends (s : Session) (v : ℕ) (k : Call) (p : List ℕ) (t : Sess
   pub typed : Typed command
   pub goes : Goes s v called to command p t
 
-pub call_sends : (k : Call) → TypedCall k → resets k ≡ false → (s : Session) (v : ℕ) (out : List ℕ) (n : ℕ) → (call_perform k s v out).answer.end ≡ Sent n
+pub call_sends : (k : Call) → TypedCall k → resets k ≡ false → (s : Session) (v : ℕ) (out : List ℕ) (n : ℕ) → (call_perform k s v out).answer.end ≡ Ok (Some n)
     → CallSends s v k (take n (call_perform k s v out).left) (call_perform k s v out).answer.session
 call_sends Next t o s v out n e =
-    let w = next_went s v out (ap end_number e) in
+    let w = next_went s v out (ap number_by e) in
     let k = next_says s v w.passed in
     let l = k.walking in
     let f = node_fits s.n (s.walk + 1) k.session.valid.few (omega arith) in
@@ -105,7 +106,7 @@ call_sends Next t o s v out n e =
       goes = g;
     }
 call_sends Ask t o s v out n e =
-    let w = ask_went s v out (ap end_number e) in
+    let w = ask_went s v out (ap number_by e) in
     let k = ask_says s v w.passed in
     let l = k.walking in
     let g = goes s v _ _ _ out _ n w.result e (node_fits s.n (s.walk + 1) k.session.valid.few (omega arith)) refl in
@@ -119,7 +120,7 @@ call_sends Ask t o s v out n e =
       goes = g;
     }
 call_sends (Order to c) t o s v out n e =
-    let w = order_went s v out to c (ap end_number e) in
+    let w = order_went s v out to c (ap number_by e) in
     let k = order_says s v to c w.passed in
     record {
       called = to;
@@ -131,7 +132,7 @@ call_sends (Order to c) t o s v out n e =
       goes = goes s v to to c out _ n w.result e (to_fits s.n to k.session.valid.few k.group k.node) k.fits;
     }
 call_sends (Regroup i g leader) t o s v out n e =
-    let w = regroup_went s v out i g leader (ap end_number e) in
+    let w = regroup_went s v out i g leader (ap number_by e) in
     let k = regroup_says s v i g leader w.passed in
     let f = node_fits s.n i.0 k.session.valid.few k.node.high in
     record {
@@ -144,7 +145,7 @@ call_sends (Regroup i g leader) t o s v out n e =
       goes = goes s v _ _ _ out _ n w.result e f (rw (f, k.group) refl);
     }
 call_sends (call.SetBaudRate g d) t o s v out n e =
-    let w = baud_rate_went s v out g d (ap end_number e) in
+    let w = baud_rate_went s v out g d (ap number_by e) in
     let k = baud_rate_says s v g d w.passed in
     record {
       called = address.Group g;

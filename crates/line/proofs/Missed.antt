@@ -1,5 +1,7 @@
 -- A Set Address that never arrived: "ask" alone is sent, nobody replies as the new node would, and all stays as it was.
 use Prim.Native.Nat.{ℕ, ◌+◌, ◌-◌, ◌<◌}
+use Rattle.std.specs.Prelude.{Ok, Some}
+use Rattle.wire.specs.Numbers.{number_by}
 use mathlib.Core.Bool.{Bool, false, true≢false}
 use mathlib.Core.List.{List}
 use mathlib.Core.Logic.{inl, inr}
@@ -19,8 +21,7 @@ use Rattle.node.proofs.Laws.{nop_writes}
 use Rattle.entry.specs.Entry.{knows}
 use Rattle.session.specs.declared.Exchange.TheVariants.{Idle}
 use Rattle.session.specs.declared.Session.{Session}
-use Rattle.session.specs.declared.End.TheVariants.{Sent}
-use Rattle.session.specs.Session.{node_at, entry_of, end_number}
+use Rattle.session.specs.Session.{node_at, entry_of}
 use Rattle.sending.specs.Sending.{open_exchange}
 use Rattle.sending.proofs.Sent.{opened_waits}
 use Rattle.walk.proofs.Passing.{next_says}
@@ -93,12 +94,12 @@ asked s t v ns ms p inv idle u d f r x = go d refl f x
 
 -- no other call sends
 alone : (s : Session) → s.walk < s.n → knows (entry_of s (s.walk + 1)) place ≡ false → (c : Call) (v : ℕ) (out : List ℕ) (n : ℕ)
-    → (call_perform c s v out).answer.end ≡ Sent n → c ≡ Ask
-alone s l d Next v out n e = absurd (true≢false (sym (next_says s v (next_went s v out (ap end_number e)).passed).placed ∙ d))
+    → (call_perform c s v out).answer.end ≡ Ok (Some n) → c ≡ Ask
+alone s l d Next v out n e = absurd (true≢false (sym (next_says s v (next_went s v out (ap number_by e)).passed).placed ∙ d))
 alone s l d Ask v out n e = refl
-alone s l d (Order to c) v out n e = absurd (let k = (order_says s v to c (order_went s v out to c (ap end_number e)).passed).ended in omega arith)
-alone s l d (Regroup i g leader) v out n e = absurd (let k = (regroup_says s v i g leader (regroup_went s v out i g leader (ap end_number e)).passed).ended in omega arith)
-alone s l d (call.SetBaudRate g x) v out n e = absurd (let k = (baud_rate_says s v g x (baud_rate_went s v out g x (ap end_number e)).passed).ended in omega arith)
+alone s l d (Order to c) v out n e = absurd (let k = (order_says s v to c (order_went s v out to c (ap number_by e)).passed).ended in omega arith)
+alone s l d (Regroup i g leader) v out n e = absurd (let k = (regroup_says s v i g leader (regroup_went s v out i g leader (ap number_by e)).passed).ended in omega arith)
+alone s l d (call.SetBaudRate g x) v out n e = absurd (let k = (baud_rate_says s v g x (baud_rate_went s v out g x (ap number_by e)).passed).ended in omega arith)
 
 index : (k : ℕ) → k + 1 - 1 ≡ k
 index k = omega arith

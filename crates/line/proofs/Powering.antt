@@ -1,5 +1,6 @@
 -- Power-up: the invariant, and a record that says what the empty history says.
 use Prim.Native.Nat.{ℕ, zero, suc, ◌≤◌, ◌<◌}
+use Rattle.std.specs.Prelude.{Ok, Err, None}
 use mathlib.Core.Bool.{Bool, true, false, cond, ◌||◌, true≢false, false≢true}
 use mathlib.Core.List.{List, [], ◌∷◌, map}
 use mathlib.Core.Logic.{inl}
@@ -20,7 +21,6 @@ use Rattle.ledger.specs.Ledger.{blank_entry, ledger_power_up}
 use Rattle.ledger.proofs.Ledgers.{length_up, up_at}
 use Rattle.session.specs.declared.Exchange.TheVariants.{Idle}
 use Rattle.session.specs.declared.Session.{Session}
-use Rattle.session.specs.declared.End.TheVariants.{Done, Refused}
 use Rattle.session.specs.declared.Step.{Step}
 use Rattle.start.specs.Start.{start_power_up}
 use Rattle.line.specs.World.{Device, powered_up, Told}
@@ -32,7 +32,7 @@ abbrev pub fresh_at : ℕ → List Kind → Session
 fresh_at n ks = record { started = true; n = n; walk = 0; exchange = Idle; entries = ledger_power_up n ks }
 
 abbrev powering : Bool → Session → ℕ → List Kind → Step
-powering bad s n ks = cond bad (record { end = Refused Range; session = s }) (record { end = Done; session = fresh_at n ks })
+powering bad s n ks = cond bad (record { end = Err Range; session = s }) (record { end = Ok None; session = fresh_at n ks })
 
 pub record Powered (s : Session) (n : ℕ) (ks : List Kind) : Type 0 where
   pub some : 1 ≤ n
@@ -40,11 +40,11 @@ pub record Powered (s : Session) (n : ℕ) (ks : List Kind) : Type 0 where
   pub session : (start_power_up s n ks).session ≡ fresh_at n ks
 
 -- a power-up that is accepted
-pub accepted_power : (s : Session) (n : ℕ) (ks : List Kind) → (start_power_up s n ks).end ≡ Done → Powered s n ks
+pub accepted_power : (s : Session) (n : ℕ) (ks : List Kind) → (start_power_up s n ks).end ≡ Ok None → Powered s n ks
 unfolding start_power_up
 accepted_power s n ks e = go (ltb n 1 || ltb 31 n) refl e
   where
-    go : (b : Bool) → (ltb n 1 || ltb 31 n) ≡ b → (powering b s n ks).end ≡ Done → Powered s n ks
+    go : (b : Bool) → (ltb n 1 || ltb 31 n) ≡ b → (powering b s n ks).end ≡ Ok None → Powered s n ks
     go true f e = absurd (true≢false (cc e))
     go false f e =
         let p = neither (ltb n 1) (ltb 31 n) f in

@@ -1,11 +1,10 @@
 -- Document 01, "The host session": "Where a Set Address never arrived, only a new power-up helps".
-use Rattle.std.specs.Prelude.{ℕ, ◌+◌, ◌<◌, true, false, List, ◌≡◌, take}
+use Rattle.std.specs.Prelude.{ℕ, ◌+◌, ◌<◌, true, false, List, ◌≡◌, take, Ok, Some}
 use Rattle.std.proofs.Math.Option.{Option}
 use Rattle.node.specs.declared.state.Node.{Node}
 use Rattle.node.specs.Setting.{place}
 use Rattle.entry.specs.Entry.{knows}
 use Rattle.session.specs.declared.Exchange.TheVariants.{Idle}
-use Rattle.session.specs.declared.End.TheVariants.{Sent}
 use Rattle.session.specs.Session.{entry_of}
 use Rattle.calls.specs.declared.Call.{Call}
 use Rattle.calls.specs.declared.Call.TheVariants.{Ask}
@@ -27,8 +26,8 @@ pub record Left (n m : Node) : Type 0 where
 
 -- no call but "ask" sends; and whatever becomes of an "ask" and of the reply to it, the session is afterwards as it was, the node's settings too, and it is still not addressed
 pub record Stuck (w : World) : Type 0 where
-  pub alone : (c : Call) (at : ℕ) (out : List ℕ) (n : ℕ) → (call_perform c w.host at out).answer.end ≡ Sent n → c ≡ Ask
-  pub same : (at : ℕ) (out : List ℕ) (n : ℕ) → (call_perform Ask w.host at out).answer.end ≡ Sent n → (q : Arrival) (r : Option (List ℕ))
+  pub alone : (c : Call) (at : ℕ) (out : List ℕ) (n : ℕ) → (call_perform c w.host at out).answer.end ≡ Ok (Some n) → c ≡ Ask
+  pub same : (at : ℕ) (out : List ℕ) (n : ℕ) → (call_perform Ask w.host at out).answer.end ≡ Ok (Some n) → (q : Arrival) (r : Option (List ℕ))
       → Arrives at (take n (call_perform Ask w.host at out).left) q → Returns (said_after q w.nodes) r
       → ((reported_of (call_perform Ask w.host at out).answer.session r).session ≡ w.host) × Left (node_of w.nodes (w.host.walk + 1)) (node_of (nodes_after q w.nodes) (w.host.walk + 1))
 

@@ -1,5 +1,5 @@
 -- Demand 3's course of events, with document 02, requests 4, 6 and 7: whatever can come about under its premises.
-use Rattle.std.specs.Prelude.{ℕ, ◌<◌, Bool, true, false, cond, List, [], ◌∷◌, map, ◌≡◌, length, get_or, set, take}
+use Rattle.std.specs.Prelude.{ℕ, ◌<◌, Bool, true, false, cond, List, [], ◌∷◌, map, ◌≡◌, length, get_or, set, take, Result, Ok, Err, Option, Some, None}
 use Rattle.std.proofs.Math.Option.{Option}
 use Rattle.wire.specs.declared.kind.Kind.{Kind}
 use Rattle.wire.specs.declared.kind.Kind.TheVariants.{Gate}
@@ -9,8 +9,6 @@ use Rattle.node.specs.declared.state.Node.{Node}
 use Rattle.node.specs.Node.{power_up}
 use Rattle.survey.specs.Chain.{blank_node}
 use Rattle.session.specs.declared.Session.{Session}
-use Rattle.session.specs.declared.End.{End}
-use Rattle.session.specs.declared.End.TheVariants.{Done, Sent, Refused}
 use Rattle.start.specs.Start.{fresh_of, start_power_up}
 use Rattle.calls.specs.declared.Call.{Call}
 use Rattle.calls.specs.Calls.{call_perform, TypedCall}
@@ -52,11 +50,11 @@ abbrev pub powered : List Device → Session → World
 powered ds s = record { host = s; nodes = map powered_up ds; line = quiet; past = []; up = true }
 
 -- a call that sends puts the first n bytes of its buffer on the line; any other leaves the line as it is
-abbrev pub call_ended : End → Call → ℕ → Session → List ℕ → World → World
-call_ended (Sent n) c at s left w =
+abbrev pub call_ended : Result (Option ℕ) Refusal → Call → ℕ → Session → List ℕ → World → World
+call_ended (Ok (Some n)) c at s left w =
     record { host = s; nodes = w.nodes; line = going (what_of c (take n left)) at (take n left); past = w.past; up = cond (resets c) false w.up }
-call_ended Done c at s left w = hosting s w
-call_ended (Refused why) c at s left w = hosting s w
+call_ended (Ok None) c at s left w = hosting s w
+call_ended (Err why) c at s left w = hosting s w
 
 -- a call was made, at this divisor and with this buffer lent
 abbrev pub call_made : Call → ℕ → List ℕ → World → World
@@ -99,10 +97,10 @@ pub data Comes : World → Type 0 where
   -- before any power-up there may be any nodes
   start : (ns : List Node) → Comes (started ns)
   -- "when the host is told of a power-up of n nodes, the chain has n nodes and all power up then", at any time
-  power : {w : World} → Comes w → (ds : List Device) (ks : List Kind) → Told ks ds → (start_power_up w.host (length ds) ks).end ≡ Done
+  power : {w : World} → Comes w → (ds : List Device) (ks : List Kind) → Told ks ds → (start_power_up w.host (length ds) ks).end ≡ Ok None
       → Comes (powered ds (start_power_up w.host (length ds) ks).session)
   -- a power-up that is refused
-  unpowered : {w : World} → Comes w → (n : ℕ) (ks : List Kind) (why : Refusal) → (start_power_up w.host n ks).end ≡ Refused why
+  unpowered : {w : World} → Comes w → (n : ℕ) (ks : List Kind) (why : Refusal) → (start_power_up w.host n ks).end ≡ Err why
       → Comes (hosting (start_power_up w.host n ks).session w)
   -- a call, accepted or refused, at any divisor, with any buffer, at any time
   call : {w : World} → Comes w → (c : Call) → TypedCall c → (at : ℕ) (out : List ℕ) → Comes (call_made c at out w)
@@ -115,7 +113,7 @@ pub data Comes : World → Type 0 where
   hurry : {w : World} → Comes w → (what : Sending) (at : ℕ) (p : List ℕ) → w.line ≡ going what at p → (r : Option (List ℕ)) → Nothing r → Comes (hurried what at p r w)
   delay : {w : World} → Comes w → (what : Sending) (at : ℕ) (p : List ℕ) → w.line ≡ lingering what at p → (q : Arrival) → Arrives at p q → Comes (delayed q w)
   -- a report that is refused: "a reply nobody waits for"
-  stray : {w : World} → Comes w → (r : Option (List ℕ)) (why : Refusal) → (reported_of w.host r).end ≡ Refused why → Comes (hosting (reported_of w.host r).session w)
+  stray : {w : World} → Comes w → (r : Option (List ℕ)) (why : Refusal) → (reported_of w.host r).end ≡ Err why → Comes (hosting (reported_of w.host r).session w)
   -- the bench sets the values of a node, at any time
   bench : {w : World} → Comes w → (i : ℕ) (b : Bench) (p : ℕ)
       → Comes (record { host = w.host; nodes = set w.nodes i (benched b p (get_or w.nodes i blank_node)); line = w.line; past = w.past; up = w.up })

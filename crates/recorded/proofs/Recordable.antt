@@ -1,5 +1,8 @@
 -- What a recorder captures of a course can be laid with gaps as they are asked for, since no packet is empty.
 use Prim.Native.Nat.{ℕ, ◌≤◌}
+use Rattle.wire.specs.declared.refusal.Refusal.{Refusal}
+use Rattle.std.specs.Prelude.{Result, Ok, Err, Option, Some, None, ℕ}
+use Rattle.wire.specs.Numbers.{number_by}
 use native.Mathlib.Omega.{arith}
 use mathlib.Core.List.{List, [], ◌∷◌, ◌++◌}
 use mathlib.Core.Option.{Option, none, some}
@@ -10,9 +13,6 @@ use Rattle.wire.specs.Promise.{Outcome}
 use Rattle.codec.specs.Build.{packet_for}
 use Rattle.session.specs.declared.Session.{Session}
 use Rattle.session.specs.declared.Step.{Step}
-use Rattle.session.specs.declared.End.{End}
-use Rattle.session.specs.declared.End.TheVariants.{Done, Sent, Refused}
-use Rattle.session.specs.Session.{end_number}
 use Rattle.calls.specs.Calls.{call_perform}
 use Rattle.calls.specs.declared.Call.{Call}
 use Rattle.calls.proofs.Standing.{call_went}
@@ -28,21 +28,21 @@ both_full [] ys f g = g
 both_full (x ∷ xs) ys f g = (f.0, both_full xs ys f.1 g)
 
 -- a packet that was sent is the command's own
-sent_count : {n m : ℕ} → Sent n ≡ Sent m → n ≡ m
+sent_count : {n m : ℕ} → Ok (Some n) ≡ Ok (Some m) → n ≡ m
 sent_count e = cc
 
-packet_full : (k : Call) (s : Session) (at : ℕ) (out : List ℕ) (n : ℕ) → (call_perform k s at out).answer.end ≡ Sent n → 1 ≤ length (take n (call_perform k s at out).left)
+packet_full : (k : Call) (s : Session) (at : ℕ) (out : List ℕ) (n : ℕ) → (call_perform k s at out).answer.end ≡ Ok (Some n) → 1 ≤ length (take n (call_perform k s at out).left)
 packet_full k s at out n e =
-    let w = call_went k s at out (ap end_number e) in
+    let w = call_went k s at out (ap number_by e) in
     let p = packet_for w.called w.command in
     let m : length p ≡ n = sent_count (sym (ap (λ (o : Outcome Step (List ℕ)). o.answer.end) w.result) ∙ e) in
     let q : take n (call_perform k s at out).left ≡ p = ap (λ (o : Outcome Step (List ℕ)). take n o.left) w.result ∙ take_at p (drop (length p) out) n m in
     rw q (omega arith)
 
-call_full : (k : Call) (s : Session) (at : ℕ) (out : List ℕ) (e : End) → (call_perform k s at out).answer.end ≡ e → NoneEmpty (call_trace e (call_perform k s at out).left)
-call_full k s at out (Sent n) e = (packet_full k s at out n e, tt)
-call_full k s at out Done e = tt
-call_full k s at out (Refused why) e = tt
+call_full : (k : Call) (s : Session) (at : ℕ) (out : List ℕ) (e : Result (Option ℕ) Refusal) → (call_perform k s at out).answer.end ≡ e → NoneEmpty (call_trace e (call_perform k s at out).left)
+call_full k s at out (Ok (Some n)) e = (packet_full k s at out n e, tt)
+call_full k s at out (Ok None) e = tt
+call_full k s at out (Err why) e = tt
 
 reply_full : (r : Option (List ℕ)) → NoneEmpty (reply_trace r)
 reply_full none = tt

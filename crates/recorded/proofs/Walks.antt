@@ -1,5 +1,8 @@
 -- A recording made by the host over demand 3's line walks to the host's own record.
 use Prim.Native.Nat.{ℕ, ◌≤◌}
+use Rattle.wire.specs.declared.refusal.Refusal.{Refusal}
+use Rattle.std.specs.Prelude.{Result, Ok, Err, Option, Some, None, ℕ}
+use Rattle.wire.specs.Numbers.{number_by}
 use native.Mathlib.Omega.{arith}
 use mathlib.Core.Bool.{false}
 use mathlib.Core.List.{List, [], ◌∷◌, ◌++◌}
@@ -14,9 +17,6 @@ use Rattle.status.specs.declared.Answer.TheVariants.{Silent}
 use Rattle.session.specs.declared.Exchange.TheVariants.{Idle}
 use Rattle.session.specs.declared.Session.{Session}
 use Rattle.session.specs.declared.Step.{Step}
-use Rattle.session.specs.declared.End.{End}
-use Rattle.session.specs.declared.End.TheVariants as ends
-use Rattle.session.specs.Session.{end_number}
 use Rattle.sending.proofs.Passing.{Free}
 use Rattle.start.specs.Start.{fresh_of, start_power_up}
 use Rattle.start.proofs.Starting.{powered_none, powered_good}
@@ -105,7 +105,7 @@ module _ {n : ℕ} {ks : List Kind} {xs : List Traced} (w : World) (f : Follows 
       left : List ℕ
       left = (call_perform k w.host at out).left
 
-      gives : (m : ℕ) → (call_perform k w.host at out).answer.end ≡ ends.Sent m → at ≡ divisor_up → sets_rate k ≡ false → Made w.host k (take m left) t
+      gives : (m : ℕ) → (call_perform k w.host at out).answer.end ≡ Ok (Some m) → at ≡ divisor_up → sets_rate k ≡ false → Made w.host k (take m left) t
       gives m e a z =
           let p : Outcome Step (List ℕ) = call_perform k w.host divisor_up out in
           let q : call_perform k w.host at out ≡ p = ap (λ (v : ℕ). call_perform k w.host v out) a in
@@ -121,24 +121,24 @@ module _ {n : ℕ} {ks : List Kind} {xs : List Traced} (w : World) (f : Follows 
             session = ap (λ (o : Outcome Step (List ℕ)). o.answer.session) q;
           }
 
-      go : (e : End) → (call_perform k w.host at out).answer.end ≡ e → sent_at_up e k at
+      go : (e : Result (Option ℕ) Refusal) → (call_perform k w.host at out).answer.end ≡ e → sent_at_up e k at
           → Follows n ks (xs ++ call_trace e left) (call_ended e k at t left w).host (call_ended e k at t left w).line
-      go (ends.Sent m) e u = record {
+      go (Ok (Some m)) e u = record {
         session = session_after (gives m e u.0 u.1).gives;
         leads = leads_on f.leads
             (call_leads f.session w.host k (take m left) (gives m e u.0 u.1).gives
-            (free_stands f.session w.host w.line f.stands (call_went k w.host at out (ap end_number e)).free));
+            (free_stands f.session w.host w.line f.stands (call_went k w.host at out (ap number_by e)).free));
         stands = (sym (gives m e u.0 u.1).session, sent_not_free k w.host at out m e);
       }
-      go ends.Done e u = absurd (call_not_done k w.host at out e)
-      go (ends.Refused why) e u = rw (refused_call k w.host at out why e) (record { session = f.session; leads = leads_on f.leads leads_nowhere; stands = f.stands })
+      go (Ok None) e u = absurd (call_not_done k w.host at out e)
+      go (Err why) e u = rw (refused_call k w.host at out why e) (record { session = f.session; leads = leads_on f.leads leads_nowhere; stands = f.stands })
 
 -- "the recording begins at power-up", and before any there is none
 never_powered : quiet_of (power_of 0 []) ≡ fresh_of
 unfolding power_of
 never_powered = ap (λ (t : Step). quiet_of t.session) (powered_none fresh_of []) ∙ idle_quiet fresh_of refl
 
-powered_follows : (h : Session) (n : ℕ) (ks : List Kind) → (start_power_up h n ks).end ≡ ends.Done → quiet_of (power_of n ks) ≡ (start_power_up h n ks).session
+powered_follows : (h : Session) (n : ℕ) (ks : List Kind) → (start_power_up h n ks).end ≡ Ok None → quiet_of (power_of n ks) ≡ (start_power_up h n ks).session
 unfolding power_of
 powered_follows h n ks e =
     let p = accepted_power h n ks e in

@@ -1,9 +1,8 @@
 -- What a recorder captures of demand 3's course of events since the last power-up: "the recording begins at power-up".
-use Rattle.std.specs.Prelude.{ℕ, false, List, [], ◌∷◌, ◌++◌, ◌≡◌, length, take}
+use Rattle.std.specs.Prelude.{ℕ, false, List, [], ◌∷◌, ◌++◌, ◌≡◌, length, take, Result, Ok, Err, Option, Some, None}
+use Rattle.wire.specs.declared.refusal.Refusal.{Refusal}
 use Rattle.std.proofs.Math.Option.{Option, none, some}
 use Rattle.wire.specs.declared.kind.Kind.{Kind}
-use Rattle.session.specs.declared.End.{End}
-use Rattle.session.specs.declared.End.TheVariants.{Done, Sent, Refused}
 use Rattle.node.specs.Effect.{divisor_up}
 use Rattle.calls.specs.declared.Call.{Call}
 use Rattle.calls.specs.Calls.{call_perform, sets_rate}
@@ -11,10 +10,10 @@ use Rattle.capture.specs.Traces.{Traced, commanded, replied}
 use Rattle.line.specs.World.{World, Comes, start, power, unpowered, call, deliver, report, hurry, delay, stray, bench}
 
 -- on the command line, what a call puts there
-abbrev pub call_trace : End → List ℕ → List Traced
-call_trace (Sent n) left = commanded (take n left) ∷ []
-call_trace Done left = []
-call_trace (Refused why) left = []
+abbrev pub call_trace : Result (Option ℕ) Refusal → List ℕ → List Traced
+call_trace (Ok (Some n)) left = commanded (take n left) ∷ []
+call_trace (Ok None) left = []
+call_trace (Err why) left = []
 
 -- on the reply line, what comes back, if any byte does
 abbrev pub reply_trace : Option (List ℕ) → List Traced
@@ -62,10 +61,10 @@ told_kinds (stray c r why e) = told_kinds c
 told_kinds (bench c i b p) = told_kinds c
 
 -- document 02, request 7: a recording's walk takes every command as sent at power-up's divisor, and a Set Baud Rate ends it. What a call sent went so, and was none
-abbrev pub sent_at_up : End → Call → ℕ → Type 0
-sent_at_up (Sent n) k at = (at ≡ divisor_up) × (sets_rate k ≡ false)
-sent_at_up Done k at = Unit {0}
-sent_at_up (Refused why) k at = Unit {0}
+abbrev pub sent_at_up : Result (Option ℕ) Refusal → Call → ℕ → Type 0
+sent_at_up (Ok (Some n)) k at = (at ≡ divisor_up) × (sets_rate k ≡ false)
+sent_at_up (Ok None) k at = Unit {0}
+sent_at_up (Err why) k at = Unit {0}
 
 -- and so did all since the last power-up
 abbrev pub AtUp : {w : World} → Comes w → Type 0

@@ -1,6 +1,6 @@
 -- A law for each exit of the functions without a loop.
 use Prim.Native.Nat.{ℕ}
-use Rattle.std.specs.Prelude.{Some, None}
+use Rattle.std.specs.Prelude.{Some, None, Result, Ok, Err, Option, ℕ}
 use mathlib.Core.Bool.{true, false}
 use mathlib.Core.List.{List}
 use mathlib.Core.Path.{◌≡◌, sym, ap, ◌∙◌}
@@ -11,8 +11,6 @@ use Rattle.wire.specs.declared.kind.Kind.{Kind}
 use Rattle.wire.specs.declared.refusal.Refusal.{Refusal}
 use Rattle.session.specs.declared.Session.{Session}
 use Rattle.session.specs.declared.Step.{Step}
-use Rattle.session.specs.declared.End.{End}
-use Rattle.session.specs.declared.End.TheVariants as end
 use Rattle.session.specs.Session.{step_number}
 use Rattle.start.specs.Start.{fresh_of, start_power_up}
 use Rattle.reports.specs.Report.{silence_of, report_of}
@@ -40,7 +38,7 @@ use Rattle.recording.specs.Stages.{move_to, take_command, take_reply, take_end, 
 
 -- ---- the checks
 
-pub count_refused : (e : End) (why : Refusal) → e ≡ end.Refused why → Refused why ≡ count_check e
+pub count_refused : (e : Result (Option ℕ) Refusal) (why : Refusal) → e ≡ Err why → Refused why ≡ count_check e
 count_refused e why h = rw h
 
 pub powered : (n : ℕ) (ks : List Kind) (f : Session) (r : Step) → f ≡ fresh_of → Promise step_number r (start_power_up f n ks) → r.session ≡ power_of n ks
@@ -72,15 +70,15 @@ module _ (s : Session) (p : List ℕ) (next : Cursor) (q : Session) (x : Sought)
   took_none f g = rw (← e, ← h, f) g
 
 module _ (s : Session) (p : List ℕ) (next : Cursor) (r : Step) (m : Moved) (h : Promise step_number r (report_of s p)) where
-  pub took_done : r.end ≡ end.Done → m ≡ move_to event.Answered next false r.session → m ≡ take_reply s p next
+  pub took_done : r.end ≡ Ok None → m ≡ move_to event.Answered next false r.session → m ≡ take_reply s p next
   unfolding take_reply
   took_done f g = rw (← h.answer, f) g
 
-  pub took_sent : (n : ℕ) → r.end ≡ end.Sent n → m ≡ move_to event.Answered next false r.session → m ≡ take_reply s p next
+  pub took_sent : (n : ℕ) → r.end ≡ Ok (Some n) → m ≡ move_to event.Answered next false r.session → m ≡ take_reply s p next
   unfolding take_reply
   took_sent n f g = rw (← h.answer, f) g
 
-  pub took_refused : (why : Refusal) → r.end ≡ end.Refused why → m ≡ move_to event.Unawaited next false r.session → m ≡ take_reply s p next
+  pub took_refused : (why : Refusal) → r.end ≡ Err why → m ≡ move_to event.Unawaited next false r.session → m ≡ take_reply s p next
   unfolding take_reply
   took_refused why f g = rw (← h.answer, f) g
 

@@ -1,7 +1,8 @@
 -- What a step says, in document 02's words: a command is a call that the host could have made, or there is none; a reply that no command waits for has no effect;
 -- whatever a walk ends with, no exchange is open.
 use Prim.Native.Nat.{ℕ}
-use Rattle.std.specs.Prelude.{Option, Some, None}
+use Rattle.wire.specs.declared.refusal.Refusal.{Refusal}
+use Rattle.std.specs.Prelude.{Option, Some, None, Result, Ok, Err, ℕ}
 use mathlib.Core.Bool.{Bool, true, false, cond}
 use mathlib.Core.List.{List, [], ◌∷◌}
 use mathlib.Core.Path.{◌≡◌, refl, sym, ap, subst, ◌∙◌}
@@ -15,10 +16,8 @@ use Rattle.codec.specs.Reading.{ReadsAs}
 use Rattle.session.specs.declared.Exchange.{Exchange}
 use Rattle.session.specs.declared.Exchange.TheVariants.{Idle, Waiting}
 use Rattle.session.specs.declared.Session.{Session}
-use Rattle.session.specs.declared.End.{End}
-use Rattle.session.specs.declared.End.TheVariants as end
-use Rattle.session.specs.Session.{is_closed, refuse_of, end_number}
-use Rattle.wire.specs.Numbers.{done}
+use Rattle.session.specs.Session.{is_closed, refuse_of}
+use Rattle.wire.specs.Numbers.{done, number_by}
 use Rattle.wire.proofs.Choice.{same}
 use Rattle.status.specs.declared.Answer.TheVariants.{Silent}
 use Rattle.sending.specs.Sending.{is_waiting, does_wait}
@@ -76,10 +75,10 @@ module _ (s : Session) (p : List ℕ) (next : Cursor) where
       go (Some k) e = absurd (rate_unsendable (quiet_of s) p a v n r k (found_gives (quiet_of s) p k e).gives)
       go None e = refl
 
-  unawaited_by : (x : End) (t : Session) → (reply_by x next t).event ≡ event.Unawaited → (end_number x ≡ done → ⊥) × ((reply_by x next t).stage.session ≡ t)
-  unawaited_by end.Done t e = impossible cc
-  unawaited_by (end.Sent n) t e = impossible cc
-  unawaited_by (end.Refused why) t e = (not_done why, refl)
+  unawaited_by : (x : Result (Option ℕ) Refusal) (t : Session) → (reply_by x next t).event ≡ event.Unawaited → (number_by x ≡ done → ⊥) × ((reply_by x next t).stage.session ≡ t)
+  unawaited_by (Ok None) t e = impossible cc
+  unawaited_by (Ok (Some n)) t e = impossible cc
+  unawaited_by (Err why) t e = (not_done why, refl)
 
   -- "a reply that no command waits for is shown without effect"
   pub unawaited_stays : (take_reply s p next).event ≡ event.Unawaited → (take_reply s p next).stage.session ≡ s

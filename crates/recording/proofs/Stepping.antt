@@ -1,6 +1,7 @@
 -- A walk step by step: each step but the last leaves fewer bytes, and all of them come to what the whole walk gives. For callers that go by `advance`, and for the loop of `follow`.
 use Prim.Native.Nat.{ℕ, ◌<◌}
-use Rattle.std.specs.Prelude.{Option, Some, None}
+use Rattle.wire.specs.declared.refusal.Refusal.{Refusal}
+use Rattle.std.specs.Prelude.{Option, Some, None, Result, Ok, Err, ℕ}
 use mathlib.Core.Bool.{Bool, true, false, cond, true≢false}
 use mathlib.Core.List.{List}
 use mathlib.Core.Path.{◌≡◌, refl, sym, ap, subst, ◌∙◌}
@@ -8,8 +9,6 @@ use lib.ListN.{length}
 use Rattle.wire.specs.Promise.{Promise}
 use Rattle.wire.specs.declared.kind.Kind.{Kind}
 use Rattle.session.specs.declared.Session.{Session}
-use Rattle.session.specs.declared.End.{End}
-use Rattle.session.specs.declared.End.TheVariants as end
 use Rattle.reports.specs.Report.{report_of}
 use Rattle.calls.specs.declared.Call.{Call}
 use Rattle.calls.specs.Finding.{by_source, find_of}
@@ -42,10 +41,10 @@ module _ (cts rts : List ℕ) (at : Cursor) where
   command_down (Some c) next q t d o = d
   command_down None next q t d o = absurd (true≢false o)
 
-  reply_down : (x : End) (next : Cursor) (t : Session) → bytes_left cts rts next < bytes_left cts rts at → Down (reply_by x next t)
-  reply_down end.Done next t d o = d
-  reply_down (end.Sent n) next t d o = d
-  reply_down (end.Refused why) next t d o = d
+  reply_down : (x : Result (Option ℕ) Refusal) (next : Cursor) (t : Session) → bytes_left cts rts next < bytes_left cts rts at → Down (reply_by x next t)
+  reply_down (Ok None) next t d o = d
+  reply_down (Ok (Some n)) next t d o = d
+  reply_down (Err why) next t d o = d
 
   step_down : (cs rs : List ℕ) (s : Session) (x : Stepped) → x ≡ capture_step cts rts at → Down (advance_by cs cts rs rts at s x)
   unfolding take_command take_reply take_end
@@ -91,11 +90,11 @@ module _ (cs cts rs rts : List ℕ) (s : Session) (at : Cursor) (h : length cts 
   by_source_lem (Some c) next q t e = record { on = refl; same = e }
   by_source_lem None next q t e = record { over = refl; same = e }
 
-  by_reply : (x : End) (next : Cursor) (t : Session) → follow_of s (left_at cs cts rs rts at) ≡ follow_of t (left_at cs cts rs rts next)
+  by_reply : (x : Result (Option ℕ) Refusal) (next : Cursor) (t : Session) → follow_of s (left_at cs cts rs rts at) ≡ follow_of t (left_at cs cts rs rts next)
       → DoneBy cs cts rs rts s at (reply_by x next t)
-  by_reply end.Done next t e = record { on = refl; same = e }
-  by_reply (end.Sent n) next t e = record { on = refl; same = e }
-  by_reply (end.Refused why) next t e = record { on = refl; same = e }
+  by_reply (Ok None) next t e = record { on = refl; same = e }
+  by_reply (Ok (Some n)) next t e = record { on = refl; same = e }
+  by_reply (Err why) next t e = record { on = refl; same = e }
 
   by_step : (x : Stepped) → x ≡ capture_step cts rts at → DoneBy cs cts rs rts s at (advance_by cs cts rs rts at s x)
   unfolding take_command take_reply take_end

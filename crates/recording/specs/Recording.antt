@@ -1,10 +1,9 @@
 -- Document 02, 3: "A whole walk gives the host's record at its end".
-use Rattle.std.specs.Prelude.{ℕ, List, [], ◌∷◌}
+use Rattle.std.specs.Prelude.{ℕ, List, [], ◌∷◌, Result, Ok, Err, Option, Some, None}
+use Rattle.wire.specs.declared.refusal.Refusal.{Refusal}
 use Rattle.wire.specs.Numbers.{done, number_of}
 use Rattle.wire.specs.declared.kind.Kind.{Kind}
 use Rattle.session.specs.declared.Session.{Session}
-use Rattle.session.specs.declared.End.{End}
-use Rattle.session.specs.declared.End.TheVariants as end
 use Rattle.start.specs.Start.{fresh_of, start_power_up}
 use Rattle.reports.specs.Report.{silence_of, report_of}
 use Rattle.calls.specs.Finding.{by_source, find_of}
@@ -17,10 +16,10 @@ use Rattle.recording.specs.declared.Ending.TheVariants.{Ended, Foreign, Refused}
 use Rattle.recording.specs.declared.Replayed.{Replayed}
 
 -- "6 for the node count", as power-up gives it
-abbrev pub count_check : End → Checked
-count_check end.Done = checked.Good
-count_check (end.Sent n) = checked.Good
-count_check (end.Refused why) = checked.Refused why
+abbrev pub count_check : Result (Option ℕ) Refusal → Checked
+count_check (Ok None) = checked.Good
+count_check (Ok (Some n)) = checked.Good
+count_check (Err why) = checked.Refused why
 
 -- "then 15 .., then 16"
 abbrev pub then_check : Checked → Checked → Checked

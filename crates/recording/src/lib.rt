@@ -12,7 +12,7 @@ ghost use Rattle.recording.specs.Stages.{move_to, take_command, take_reply, take
 
 use calls::Call;
 use capture::{Checked, Cursor, Stepped};
-use session::{End, Session};
+use session::Session;
 use wire::{Kind, MOST_NODES, Refusal};
 
 // How far a walk has come: its cursor in the captures, whether it has ended, and the host's session there.
@@ -85,13 +85,13 @@ pub struct Replayed {
 // ---- the checks before it
 
 // What the check is, by how power-up ended: 6 for the node count.
-fn count_check(end: End) -> Checked
+fn count_check(end: Result<Option<usize>, Refusal>) -> Checked
     ensures { result ≡ count_check end }
 {
     match end {
-        End::Done => Checked::Good,
-        End::Sent(_) => Checked::Good,
-        End::Refused(why) => Checked::Refused(why),
+        Ok(None) => Checked::Good,
+        Ok(Some(_)) => Checked::Good,
+        Err(why) => Checked::Refused(why),
     }
 }
 
@@ -160,9 +160,9 @@ fn take_reply(s: Session, bytes: &[u8], next: Cursor) -> Moved
     let step = reports::report(s, bytes);
     let end = step.end;
     match end {
-        End::Done => move_to(Event::Answered, next, false, step.session),
-        End::Sent(_) => move_to(Event::Answered, next, false, step.session),
-        End::Refused(_) => move_to(Event::Unawaited, next, false, step.session),
+        Ok(None) => move_to(Event::Answered, next, false, step.session),
+        Ok(Some(_)) => move_to(Event::Answered, next, false, step.session),
+        Err(_) => move_to(Event::Unawaited, next, false, step.session),
     }
 }
 

@@ -6,7 +6,7 @@ use crate::record::put_changes;
 use crate::words::{kind_of_call, kind_of_foreign, put_judged, put_spoken};
 use crate::writing::{put, put_bytes, put_decimal};
 use recording::{Event, Moved, Stage};
-use session::{End, Session};
+use session::Session;
 use std::io;
 use wire::{Kind, MOST_NODES};
 
@@ -25,9 +25,9 @@ fn is_waiting(s: Session) -> bool {
     let step = reports::silence(s);
     let end = step.end;
     match end {
-        End::Done => true,
-        End::Sent(_) => false,
-        End::Refused(_) => false,
+        Ok(None) => true,
+        Ok(Some(_)) => false,
+        Err(_) => false,
     }
 }
 

@@ -1,5 +1,6 @@
 -- Reports; a law for each exit of the code.
 use Prim.Native.Nat.{ℕ, ◌+◌, ◌<◌, ◌≤◌}
+use Rattle.std.specs.Prelude.{Ok, None}
 use mathlib.Core.Bool.{Bool, true, false, ◌&&◌, false≢true}
 use mathlib.Core.List.{List}
 use mathlib.Core.Path.{◌≡◌, sym, ap, ◌∙◌}
@@ -24,7 +25,6 @@ use Rattle.ledger.specs.Ledger.{settle_of}
 use Rattle.session.specs.declared.Exchange.{Exchange}
 use Rattle.session.specs.declared.Exchange.TheVariants.{Idle, Waiting}
 use Rattle.session.specs.declared.Session.{Session}
-use Rattle.session.specs.declared.End.TheVariants.{Done}
 use Rattle.session.specs.declared.Step.{Step}
 use Rattle.session.specs.Session.{step_number, refuse_of, is_closed, is_ask_due, given_place}
 use Rattle.reports.specs.Report.{is_on_walk, is_giving, is_asking, idle_at, noted_of, is_telling, told_of, conclude_of, finish_by, finish_of, report_of}
@@ -115,10 +115,10 @@ module _ (s : Session) (a : Answer) (v : Bool) (by : v ≡ is_closed s) where
   idle_reports r p q h = promised (rw (← by, p) (h ∙ sym (ap (λ (x : Exchange). finish_by x s a) q)))
 
   pub waiting_reports : (t : Session) (at : ℕ) (to : Address) (c : Command) → v ≡ false → s.exchange ≡ Waiting at to c → t ≡ conclude_of s at to c a
-      → Promise step_number (record { end = Done; session = t }) (finish_of s a)
+      → Promise step_number (record { end = Ok None; session = t }) (finish_of s a)
   unfolding finish_of
   waiting_reports t at to c p q h =
-      promised (rw (← by, p) (ap (λ (x : Session). record { end = Done; session = x }) h ∙ sym (ap (λ (x : Exchange). finish_by x s a) q)))
+      promised (rw (← by, p) (ap (λ (x : Session). record { end = Ok None; session = x }) h ∙ sym (ap (λ (x : Exchange). finish_by x s a) q)))
 
 pub report_by_answer : (s : Session) (bytes : List ℕ) (a : Answer) (r : Step) → a ≡ judge_of bytes → Promise step_number r (finish_of s a) → Promise step_number r (report_of s bytes)
 unfolding report_of

@@ -1,5 +1,6 @@
 -- What a report makes of the record, node by node, and of the walk.
 use Prim.Native.Nat.{ℕ, suc, ◌+◌, ◌<◌, ◌≤◌}
+use Rattle.std.specs.Prelude.{Ok, None}
 use mathlib.Core.Bool.{Bool, true, false, cond}
 use mathlib.Core.List.{List}
 use mathlib.Core.Path.{◌≡◌, refl, sym, ap, ◌∙◌}
@@ -18,7 +19,6 @@ use Rattle.ledger.proofs.Ledgers.{settled_at, settled_past}
 use Rattle.session.specs.declared.Exchange.{Exchange}
 use Rattle.session.specs.declared.Exchange.TheVariants.{Idle, Waiting}
 use Rattle.session.specs.declared.Session.{Session}
-use Rattle.session.specs.declared.End.TheVariants.{Done}
 use Rattle.session.specs.Session.{refuse_of, is_closed, given_place}
 use Rattle.reports.specs.Report.{is_giving, is_asking, idle_at, noted_of, is_telling, told_of, conclude_of, finish_by, finish_of, report_of}
 
@@ -158,7 +158,7 @@ module _ (s : Session) (at : ℕ) (to : Address) (c : Command) where
 
 -- reporting on an open exchange, and on none
 pub finished_waiting : (s : Session) (a : Answer) (at : ℕ) (to : Address) (c : Command) → is_closed s ≡ false → s.exchange ≡ Waiting at to c
-    → finish_of s a ≡ record { end = Done; session = conclude_of s at to c a }
+    → finish_of s a ≡ record { end = Ok None; session = conclude_of s at to c a }
 unfolding finish_of
 finished_waiting s a at to c p q = rw p (ap (λ (x : Exchange). finish_by x s a) q)
 

@@ -1,5 +1,5 @@
 -- Document 01, "The host session", with document 02, request 7: an exchange is "closed by reporting silence or the bytes received".
-use Rattle.std.specs.Prelude.{ℕ, ◌+◌, Bool, false, cond, ◌&&◌, List, ltb, eqb}
+use Rattle.std.specs.Prelude.{ℕ, ◌+◌, Bool, false, cond, ◌&&◌, List, ltb, eqb, Ok, None}
 use Rattle.wire.specs.declared.address.Address.{Address}
 use Rattle.wire.specs.declared.address.Address.TheVariants as address
 use Rattle.wire.specs.declared.refusal.Refusal.TheVariants as refusal
@@ -14,7 +14,6 @@ use Rattle.ledger.specs.Ledger.{settle_of}
 use Rattle.session.specs.declared.Exchange.{Exchange}
 use Rattle.session.specs.declared.Exchange.TheVariants.{Idle, Waiting}
 use Rattle.session.specs.declared.Session.{Session}
-use Rattle.session.specs.declared.End.TheVariants.{Done}
 use Rattle.session.specs.declared.Step.{Step}
 use Rattle.session.specs.Session.{refuse_of, is_closed, given_place, is_ask_due}
 
@@ -66,7 +65,7 @@ conclude_of s at to c a = cond (is_telling to c) (told_by a (noted_of s to c a) 
 -- by what waits; 8: "nothing to report on"
 abbrev pub finish_by : Exchange → Session → Answer → Step
 finish_by Idle s a = refuse_of s refusal.Idle
-finish_by (Waiting at to c) s a = record { end = Done; session = conclude_of s at to c a }
+finish_by (Waiting at to c) s a = record { end = Ok None; session = conclude_of s at to c a }
 
 -- a closed session has no exchange
 unfoldable pub finish_of : Session → Answer → Step

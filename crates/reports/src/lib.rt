@@ -11,7 +11,7 @@ ghost use Rattle.reports.specs.Report.{is_on_walk, is_giving, is_asking, idle_at
 
 use command::Command;
 use entry::Entry;
-use session::{End, Exchange, Session, Step, given_place, is_ask_due, is_closed, refuse};
+use session::{Exchange, Session, Step, given_place, is_ask_due, is_closed, refuse};
 use status::Answer;
 use wire::{Address, MOST_NODES, Refusal};
 
@@ -138,7 +138,7 @@ fn finish(s: Session, answer: Answer) -> Step
     match x {
         Exchange::Idle => refuse(s, Refusal::Idle),
         Exchange::Waiting { at, to, command } => Step {
-            end: End::Done,
+            end: Ok(None),
             session: conclude(s, at, to, command, answer),
         },
     }

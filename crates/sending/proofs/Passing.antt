@@ -23,7 +23,7 @@ stays_refused : (ts : List (Bool × Refusal)) (why : Refusal) → refusing (Err 
 stays_refused [] why = refl
 stays_refused (t ∷ ts) why = stays_refused ts why
 
-pub all_failed_lem : (ts : List (Bool × Refusal)) → refusing (Ok tt) ts ≡ (Ok tt) → AllFailed ts
+pub all_failed_lem : (ts : List (Bool × Refusal)) → refusing (Ok tt) ts ≡ Ok tt → AllFailed ts
 all_failed_lem [] h = tt
 all_failed_lem ((true, why) ∷ ts) h = impossible (cc (stays_refused ts why, h))
 all_failed_lem ((false, why) ∷ ts) h = (refl, all_failed_lem ts h)
@@ -53,7 +53,7 @@ pub record Passes (s : Session) (t : Tests) : Type 0 where
   pub unled : t.led ≡ false
   pub unanswerable : t.answerable ≡ false
 
-pub check_says : (s : Session) (t : Tests) → test_of s t ≡ (Ok tt) → Passes s t
+pub check_says : (s : Session) (t : Tests) → test_of s t ≡ Ok tt → Passes s t
 unfolding test_of
 check_says s t h =
     let f = all_failed_lem (sequence s t) h in

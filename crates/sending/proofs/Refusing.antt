@@ -9,10 +9,10 @@ use Rattle.session.specs.declared.Session.{Session}
 use Rattle.session.specs.Session.{is_closed}
 use Rattle.sending.specs.Sending.{refuse_if, does_wait, is_waiting}
 
-pub refused_now : (k : Result ⊤ Refusal) (test : Bool) (why : Refusal) → k ≡ (Ok tt) → test ≡ true → Promise number_by (Err why) (refuse_if k test why)
+pub refused_now : (k : Result ⊤ Refusal) (test : Bool) (why : Refusal) → k ≡ Ok tt → test ≡ true → Promise number_by (Err why) (refuse_if k test why)
 refused_now k test why p q = promised (rw (p, q))
 
-pub not_refused : (k : Result ⊤ Refusal) (test : Bool) (why : Refusal) → k ≡ (Ok tt) → test ≡ false → Promise number_by (Ok tt) (refuse_if k test why)
+pub not_refused : (k : Result ⊤ Refusal) (test : Bool) (why : Refusal) → k ≡ Ok tt → test ≡ false → Promise number_by (Ok tt) (refuse_if k test why)
 not_refused k test why p q = promised (rw (p, q))
 
 pub refused_before : (k : Result ⊤ Refusal) (test : Bool) (why first : Refusal) → k ≡ Err first → Promise number_by (Err first) (refuse_if k test why)

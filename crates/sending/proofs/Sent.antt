@@ -1,7 +1,7 @@
 -- What is sent: a packet at the start of the buffer, or 5 leaves all as it stood.
 use Prim.Native.Nat.{ℕ, ◌<◌, ◌≤◌}
 use Rattle.wire.specs.declared.refusal.Refusal.{Refusal}
-use Rattle.std.specs.Prelude.{Result, Ok, Err, ⊤}
+use Rattle.std.specs.Prelude.{Result, Ok, Err, ⊤, Some}
 use mathlib.Core.Bool.{Bool, true, false}
 use mathlib.Core.List.{List, ◌++◌}
 use mathlib.Core.Path.{◌≡◌, refl, sym, ap, ◌∙◌}
@@ -24,7 +24,6 @@ use Rattle.codec.proofs.Commands.{built_written}
 use Rattle.ledger.specs.Ledger.{forget_of}
 use Rattle.session.specs.declared.Exchange.TheVariants.{Idle, Waiting}
 use Rattle.session.specs.declared.Session.{Session}
-use Rattle.session.specs.declared.End.TheVariants.{Sent}
 use Rattle.session.specs.declared.Step.{Step}
 use Rattle.session.specs.Session.{refuse_of, step_number}
 use Rattle.sending.specs.Sending.{open_exchange, step_by, transmit_of, by_check}
@@ -32,7 +31,7 @@ use Rattle.sending.specs.Sending.{open_exchange, step_by, transmit_of, by_check}
 -- the packet at the start of the buffer, and the exchange opened
 abbrev pub sending : Session → ℕ → Address → Address → Command → List ℕ → Outcome Step (List ℕ)
 sending s at called to c out = record {
-  answer = record { end = Sent (length (packet_for called c)); session = open_exchange s at to c };
+  answer = record { end = Ok (Some (length (packet_for called c))); session = open_exchange s at to c };
   left = packet_for called c ++ drop (length (packet_for called c)) out;
 }
 
@@ -60,7 +59,7 @@ unfolding transmit_of
 transmitted_sends s at called to c out p q = rw (built_written called c out p q) (by_written s at called to c out)
 
 -- where the check before it is clear
-pub by_passed : (k : Result ⊤ Refusal) (s : Session) (at : ℕ) (called to : Address) (c : Command) (out : List ℕ) (o : Outcome Step (List ℕ)) → k ≡ (Ok tt)
+pub by_passed : (k : Result ⊤ Refusal) (s : Session) (at : ℕ) (called to : Address) (c : Command) (out : List ℕ) (o : Outcome Step (List ℕ)) → k ≡ Ok tt
     → Sends s at called to c out o → Sends s at called to c out (by_check k s out o)
 by_passed k s at called to c out o p h = rw p h
 
@@ -70,7 +69,7 @@ node_fits n k p q = lt-ltb k 0x80 (omega arith)
 
 -- a call with number 0: its check was clear, and its packet went out
 pub record Went (k : Result ⊤ Refusal) (s : Session) (at : ℕ) (called to : Address) (c : Command) (out : List ℕ) (o : Outcome Step (List ℕ)) : Type 0 where
-  pub passed : k ≡ (Ok tt)
+  pub passed : k ≡ Ok tt
   pub result : o ≡ sending s at called to c out
 
 by_room : (b : Bool) (s : Session) (at : ℕ) (called to : Address) (c : Command) (out : List ℕ) (o : Outcome Step (List ℕ)) → ltb (length out) (length (packet_for called c)) ≡ b
@@ -81,7 +80,7 @@ by_room false s at called to c out o e h d = h.room (ltb-false _ _ e)
 
 -- by the check before it
 pub went : (k : Result ⊤ Refusal) (s : Session) (at : ℕ) (called to : Address) (c : Command) (out : List ℕ) (o : Outcome Step (List ℕ))
-    → (k ≡ (Ok tt) → Sends s at called to c out (by_check k s out o)) → step_number (by_check k s out o).answer ≡ done → Went k s at called to c out (by_check k s out o)
+    → (k ≡ Ok tt → Sends s at called to c out (by_check k s out o)) → step_number (by_check k s out o).answer ≡ done → Went k s at called to c out (by_check k s out o)
 went (Ok tt) s at called to c out o h d =
     record { passed = refl; result = by_room (ltb (length out) (length (packet_for called c))) s at called to c out o refl (h refl) d }
 went (Err why) s at called to c out o h d = absurd (not_done why d)

@@ -1,6 +1,6 @@
 -- Sending; a law for each exit of the code.
 use Prim.Native.Nat.{ℕ}
-use Rattle.std.specs.Prelude.{Result, Ok, Err, ℕ, ⊤}
+use Rattle.std.specs.Prelude.{Result, Ok, Err, ℕ, ⊤, Some}
 use Rattle.wire.specs.Numbers.{number_by}
 use mathlib.Core.Bool.{Bool, true, false}
 use mathlib.Core.List.{List}
@@ -16,7 +16,6 @@ use Rattle.entry.specs.declared.Entry.{Entry}
 use Rattle.ledger.specs.Ledger.{forget_of}
 use Rattle.session.specs.declared.Exchange.TheVariants.{Idle, Waiting}
 use Rattle.session.specs.declared.Session.{Session}
-use Rattle.session.specs.declared.End.TheVariants.{Sent}
 use Rattle.session.specs.declared.Step.{Step}
 use Rattle.session.specs.Session.{step_number, refuse_of}
 use Rattle.sending.specs.Sending.{open_exchange, transmit_of, by_check}
@@ -33,7 +32,7 @@ module _ (s : Session) (at : ℕ) (to : Address) (c : Command) (role : Role) (of
 
 module _ (s : Session) (at : ℕ) (called to : Address) (c : Command) (out o : List ℕ) (b : Result ℕ Refusal) (by : Lending number_by b o (codec_build called c out)) where
   pub built_sent : (n : ℕ) (t : Session) → b ≡ Ok n → t ≡ open_exchange s at to c
-      → Lending step_number (record { end = Sent n; session = t }) o (transmit_of s at called to c out)
+      → Lending step_number (record { end = Ok (Some n); session = t }) o (transmit_of s at called to c out)
   unfolding transmit_of
   built_sent n t p q = lent (rw (← by.answer, ← by.leaves, p, q))
 

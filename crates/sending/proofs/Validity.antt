@@ -44,7 +44,7 @@ unfolding transmit_of
 transmitted_valid s at called to c out h p = by_built s (open_exchange s at to c) (codec_build called c out).answer h (opened_valid s at to c h p)
 
 -- by the check before it
-pub check_valid : (k : Result ⊤ Refusal) (s : Session) (out : List ℕ) (o : Outcome Step (List ℕ)) → Valid s → (k ≡ (Ok tt) → Valid o.answer.session)
+pub check_valid : (k : Result ⊤ Refusal) (s : Session) (out : List ℕ) (o : Outcome Step (List ℕ)) → Valid s → (k ≡ Ok tt → Valid o.answer.session)
     → Valid (by_check k s out o).answer.session
 check_valid (Ok tt) s out o h p = p refl
 check_valid (Err why) s out o h p = h

@@ -1,5 +1,5 @@
 -- Document 01, "The host session" and "Numbers returned", with document 02, requests 6 and 7: what every call that sends tests first, and what sending does.
-use Rattle.std.specs.Prelude.{ℕ, Bool, true, false, cond, List, [], ◌∷◌, Result, Ok, Err, ⊤}
+use Rattle.std.specs.Prelude.{ℕ, Bool, true, false, cond, List, [], ◌∷◌, Result, Ok, Err, ⊤, Some}
 use Rattle.wire.specs.Promise.{Outcome}
 use Rattle.wire.specs.Numbers.{done, number_of, number_by}
 use Rattle.wire.specs.declared.address.Address.{Address}
@@ -12,7 +12,6 @@ use Rattle.ledger.specs.Ledger.{forget_of}
 use Rattle.session.specs.declared.Exchange.{Exchange}
 use Rattle.session.specs.declared.Exchange.TheVariants.{Idle, Waiting}
 use Rattle.session.specs.declared.Session.{Session}
-use Rattle.session.specs.declared.End.TheVariants.{Sent}
 use Rattle.session.specs.declared.Step.{Step}
 use Rattle.session.specs.Session.{refuse_of, is_closed}
 use Rattle.sending.specs.declared.Tests.{Tests}
@@ -21,7 +20,7 @@ use Rattle.sending.specs.declared.Tests.{Tests}
 abbrev pub refuse_if : Result ⊤ Refusal → Bool → Refusal → Result ⊤ Refusal
 refuse_if (Err first) test why = Err first
 refuse_if (Ok tt) true why = Err why
-refuse_if (Ok tt) false why = (Ok tt)
+refuse_if (Ok tt) false why = Ok tt
 
 -- 7: "an exchange is open"; a closed session has none
 abbrev pub does_wait : Exchange → Bool
@@ -63,7 +62,7 @@ open_exchange s at to c =
 
 -- sent as so many bytes, or refused as building says
 abbrev pub step_by : Session → Session → Result ℕ Refusal → Step
-step_by s t (Ok n) = record { end = Sent n; session = t }
+step_by s t (Ok n) = record { end = Ok (Some n); session = t }
 step_by s t (Err why) = refuse_of s why
 
 -- the packet is built, or refused as the builder refuses it, and the exchange opened

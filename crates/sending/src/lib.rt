@@ -10,7 +10,7 @@ ghost use Rattle.session.specs.Session.{step_number};
 ghost use Rattle.sending.specs.Sending.{refuse_if, does_wait, is_waiting, test_of, open_exchange, transmit_of};
 
 use command::Command;
-use session::{End, Exchange, Session, Step, is_closed, refuse};
+use session::{Exchange, Session, Step, is_closed, refuse};
 use wire::{Address, Refusal};
 
 impl Check {
@@ -125,7 +125,7 @@ pub fn transmit(
 {
     match codec::build(called, c, out) {
         Ok(n) => Step {
-            end: End::Sent(n),
+            end: Ok(Some(n)),
             session: open_exchange(s, at, to, c),
         },
         Err(why) => refuse(s, why),

@@ -1,20 +1,12 @@
 -- A second result that meets a contract is equal to the first, for each public function.
 use mathlib.Core.Path.{sym, ◌∙◌}
 use Rattle.wire.proofs.OneResult.{OneResult}
-use Rattle.session.proofs.End.number.Reads as end-number
-use Rattle.session.proofs.Shown.number.Reads as shown-number
 use Rattle.session.proofs.look.Reads as look
 use Rattle.session.proofs.is_closed.Reads as is-closed
 use Rattle.session.proofs.is_ask_due.Reads as is-ask-due
 use Rattle.session.proofs.given_place.Reads as given-place
 use Rattle.session.proofs.off_chain.Reads as off-chain
 use Rattle.session.proofs.refuse.Reads as refuse
-
-pub end_number_unique : OneResult end-number.Post
-end_number_unique κs a r r' s s' p q = p ∙ sym q
-
-pub shown_number_unique : OneResult shown-number.Post
-shown_number_unique κs a r r' s s' p q = p ∙ sym q
 
 pub look_unique : OneResult look.Post
 look_unique κs a r r' s s' p q = p.answer ∙ sym q.answer

@@ -1,5 +1,5 @@
 -- Document 01, "The host session": the session, which ones count as closed, and what is read off one.
-use Rattle.std.specs.Prelude.{ℕ, ◌+◌, ◌-◌, Bool, true, false, cond, not, ◌&&◌, ◌||◌, ltb, leb, ◌≡◌, length, get_or, Result, Ok, Err}
+use Rattle.std.specs.Prelude.{ℕ, ◌+◌, ◌-◌, Bool, true, false, cond, not, ◌&&◌, ◌||◌, ltb, leb, ◌≡◌, length, get_or, Result, Ok, Err, Option, Some, None}
 use Rattle.wire.specs.Numbers.{done, number_of, most_nodes, number_by}
 use Rattle.wire.specs.declared.address.Individual.{Individual}
 use Rattle.wire.specs.declared.address.Address.{Address}
@@ -15,8 +15,6 @@ use Rattle.ledger.specs.Ledger.{blank_entry}
 use Rattle.session.specs.declared.Exchange.{Exchange}
 use Rattle.session.specs.declared.Exchange.TheVariants.{Idle, Waiting}
 use Rattle.session.specs.declared.Session.{Session}
-use Rattle.session.specs.declared.End.{End}
-use Rattle.session.specs.declared.End.TheVariants.{Done, Sent, Refused}
 use Rattle.session.specs.declared.Step.{Step}
 
 -- "node not 1 to n"
@@ -38,18 +36,12 @@ pub record Valid (s : Session) : Type 0 where
   pub valid : is_valid s ≡ true
   pub whole : length s.entries ≡ most_nodes
 
--- the number of a call's end
-abbrev pub end_number : End → ℕ
-end_number Done = done
-end_number (Sent n) = done
-end_number (Refused why) = number_of why
-
 abbrev pub step_number : Step → ℕ
-step_number r = end_number r.end
+step_number r = number_by r.end
 
 -- a refused call gives back the session as it was handed in
 abbrev pub refuse_of : Session → Refusal → Step
-refuse_of s why = record { end = Refused why; session = s }
+refuse_of s why = record { end = Err why; session = s }
 
 -- the entry of node k
 abbrev pub entry_of : Session → ℕ → Entry

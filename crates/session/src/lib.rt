@@ -6,7 +6,7 @@
 ghost use Rattle.std.specs.Prelude.{◌≡◌};
 ghost use Rattle.wire.specs.Numbers.{number_by};
 ghost use Rattle.wire.specs.Promise.{Promise};
-ghost use Rattle.session.specs.Session.{end_number, step_number, refuse_of, off_chain, is_stray, is_valid, is_closed, given_place, is_ask_due, look_of};
+ghost use Rattle.session.specs.Session.{step_number, refuse_of, off_chain, is_stray, is_valid, is_closed, given_place, is_ask_due, look_of};
 
 use command::{Command, Place};
 use entry::Entry;
@@ -33,31 +33,10 @@ pub struct Session {
     pub entries: [Entry; MOST_NODES],
 }
 
-// How a call ends: done, sent as so many bytes, or refused.
-#[derive(Clone, Copy)]
-pub enum End {
-    Done,
-    Sent(usize),
-    Refused(Refusal),
-}
-
-impl End {
-    // The paper's number.
-    pub fn number(self) -> u8
-        ensures { result ≡ end_number self }
-    {
-        match self {
-            End::Done => wire::DONE,
-            End::Sent(_) => wire::DONE,
-            End::Refused(why) => why.number(),
-        }
-    }
-}
-
 // The session after a call; of a refused one, the session as it was handed in.
 #[derive(Clone, Copy)]
 pub struct Step {
-    pub end: End,
+    pub end: Result<Option<usize>, Refusal>,
     pub session: Session,
 }
 
@@ -66,7 +45,7 @@ pub fn refuse(s: Session, why: Refusal) -> Step
     ensures { Promise step_number result (refuse_of s why) }
 {
     Step {
-        end: End::Refused(why),
+        end: Err(why),
         session: s,
     }
 }

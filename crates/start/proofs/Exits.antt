@@ -1,5 +1,6 @@
 -- How a session starts: a law for each exit of the code.
 use Prim.Native.Nat.{ℕ, ◌<◌, ◌≤◌}
+use Rattle.std.specs.Prelude.{Ok, None}
 use mathlib.Core.Bool.{true, false}
 use mathlib.Core.List.{List}
 use mathlib.Core.Path.{◌≡◌, ◌∙◌}
@@ -12,7 +13,6 @@ use Rattle.ledger.specs.Ledger.{ledger_power_up}
 use Rattle.ledger.proofs.Ledgers.{none_up}
 use Rattle.session.specs.declared.Exchange.TheVariants.{Idle}
 use Rattle.session.specs.declared.Session.{Session}
-use Rattle.session.specs.declared.End.TheVariants.{Done}
 use Rattle.session.specs.declared.Step.{Step}
 use Rattle.session.specs.Session.{step_number, refuse_of}
 use Rattle.start.specs.Start.{fresh_of, start_power_up}
@@ -30,6 +30,6 @@ module _ (s : Session) where
   power_high n ks r p q h = promised (rw (le-ltb n 1 p, lt-ltb 31 n q) h)
 
   pub power_good : (n : ℕ) (ks : List Kind) (es : List Entry) → 1 ≤ n → n ≤ 31 → es ≡ ledger_power_up n ks
-      → Promise step_number (record { end = Done; session = record { started = true; n = n; walk = 0; exchange = Idle; entries = es } }) (start_power_up s n ks)
+      → Promise step_number (record { end = Ok None; session = record { started = true; n = n; walk = 0; exchange = Idle; entries = es } }) (start_power_up s n ks)
   unfolding start_power_up
   power_good n ks es p q h = promised (rw (le-ltb n 1 p, le-ltb 31 n q, h))

@@ -1,5 +1,6 @@
 -- How a session starts: a valid one, and by a bad n the one that was handed in.
 use Prim.Native.Nat.{ℕ, ◌<◌, ◌≤◌}
+use Rattle.std.specs.Prelude.{Ok, None}
 use mathlib.Core.Bool.{◌||◌, true}
 use mathlib.Core.List.{List}
 use mathlib.Core.Path.{◌≡◌, refl}
@@ -11,7 +12,6 @@ use Rattle.wire.specs.declared.refusal.Refusal.TheVariants as refusal
 use Rattle.wire.specs.declared.kind.Kind.{Kind}
 use Rattle.ledger.specs.Ledger.{ledger_power_up}
 use Rattle.ledger.proofs.Ledgers.{length_gates, length_up}
-use Rattle.session.specs.declared.End.TheVariants.{Done}
 use Rattle.session.specs.declared.Exchange.TheVariants.{Idle}
 use Rattle.session.specs.declared.Session.{Session}
 use Rattle.session.specs.Session.{Valid, refuse_of}
@@ -33,7 +33,7 @@ power_up_stays s n ks = by_test (ltb n 1 || ltb 31 n) s refusal.Range _ (λ z. a
 
 -- power-up with a good n, and with a bad one
 pub powered_good : (s : Session) (n : ℕ) (ks : List Kind) → 1 ≤ n → n ≤ 31
-    → start_power_up s n ks ≡ record { end = Done; session = record { started = true; n = n; walk = 0; exchange = Idle; entries = ledger_power_up n ks } }
+    → start_power_up s n ks ≡ record { end = Ok None; session = record { started = true; n = n; walk = 0; exchange = Idle; entries = ledger_power_up n ks } }
 unfolding start_power_up
 powered_good s n ks p q = rw (le-ltb n 1 p, le-ltb 31 n q)
 

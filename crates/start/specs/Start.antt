@@ -1,12 +1,11 @@
 -- Document 01, "The host session", with document 02, request 6: how a session starts.
-use Rattle.std.specs.Prelude.{ℕ, true, false, cond, ◌||◌, List, ltb}
+use Rattle.std.specs.Prelude.{ℕ, true, false, cond, ◌||◌, List, ltb, Ok, None}
 use Rattle.wire.specs.Numbers.{most_nodes}
 use Rattle.wire.specs.declared.refusal.Refusal.TheVariants.{Range}
 use Rattle.wire.specs.declared.kind.Kind.{Kind}
 use Rattle.ledger.specs.Ledger.{all_gates, ledger_power_up}
 use Rattle.session.specs.declared.Exchange.TheVariants.{Idle}
 use Rattle.session.specs.declared.Session.{Session}
-use Rattle.session.specs.declared.End.TheVariants.{Done}
 use Rattle.session.specs.declared.Step.{Step}
 use Rattle.session.specs.Session.{refuse_of}
 
@@ -20,4 +19,4 @@ unfoldable pub start_power_up : Session → ℕ → List Kind → Step
 start_power_up s n ks =
     cond (ltb n 1 || ltb most_nodes n)
     (refuse_of s Range)
-    (record { end = Done; session = record { started = true; n = n; walk = 0; exchange = Idle; entries = ledger_power_up n ks } })
+    (record { end = Ok None; session = record { started = true; n = n; walk = 0; exchange = Idle; entries = ledger_power_up n ks } })

@@ -8,7 +8,7 @@ ghost use Rattle.wire.specs.Promise.{Promise};
 ghost use Rattle.session.specs.Session.{step_number};
 ghost use Rattle.start.specs.Start.{fresh_of, start_power_up};
 
-use session::{End, Exchange, Session, Step, refuse};
+use session::{Exchange, Session, Step, refuse};
 use wire::{Kind, MOST_NODES, Refusal};
 
 // A session that is closed and has no nodes.
@@ -37,7 +37,7 @@ pub fn power_up(s: Session, n: u8, kinds: [Kind; MOST_NODES]) -> Step
     }
     let entries = ledger::power_up(n, kinds);
     Step {
-        end: End::Done,
+        end: Ok(None),
         session: Session {
             started: true,
             n,

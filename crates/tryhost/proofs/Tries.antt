@@ -1,5 +1,6 @@
 -- The calls that lend nothing, and what a line makes; a law for each exit of the code.
 use Prim.Native.Nat.{ℕ, ◌<◌, ◌≤◌}
+use Rattle.std.specs.Prelude.{Ok, None}
 use mathlib.Core.Bool.{Bool, true, false}
 use mathlib.Core.List.{List, []}
 use mathlib.Core.Path.{◌≡◌}
@@ -14,7 +15,6 @@ use Rattle.fields.specs.Kind.{read_kinds}
 use Rattle.fields.specs.Answer.{fields_nothing, answer_put, malformed_of}
 use Rattle.session.specs.declared.Session.{Session}
 use Rattle.session.specs.declared.Step.{Step}
-use Rattle.session.specs.declared.End.TheVariants.{Done}
 use Rattle.session.specs.Session.{step_number}
 use Rattle.start.specs.Start.{start_power_up}
 use Rattle.reports.specs.Report.{report_of, silence_of}
@@ -23,7 +23,7 @@ use Rattle.tryhost.specs.declared.Tried.{Tried}
 use Rattle.tryhost.specs.Form.{is_call, is_sending}
 use Rattle.tryhost.specs.Trying.{with_session, tried_by, lend_of, tryhost_power_up, handed_in, call_of, show_of, answer_to, attempt_of}
 
-pub hands_in : (args : List ℕ) (s : Session) → s ≡ read_state args → Promise step_number (record { end = Done; session = s }) (handed_in args)
+pub hands_in : (args : List ℕ) (s : Session) → s ≡ read_state args → Promise step_number (record { end = Ok None; session = s }) (handed_in args)
 hands_in args s e = promised (rw e)
 
 pub powers_up : (s : Session) (args b : List ℕ) (n : ℕ) (ks : List Kind) (r : Step) → b ≡ drop 1 args → ks ≡ read_kinds b → n ≡ fields_byte args 0

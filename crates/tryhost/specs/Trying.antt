@@ -1,5 +1,5 @@
 -- What a line of the host's calls makes: its answer, and the session that is kept for the next line.
-use Rattle.std.specs.Prelude.{ℕ, cond, List, [], ltb, eqb, length, take, drop}
+use Rattle.std.specs.Prelude.{ℕ, cond, List, [], ltb, eqb, length, take, drop, Ok, None}
 use Rattle.wire.specs.Promise.{Outcome}
 use Rattle.wire.specs.Numbers.{done}
 use Rattle.fields.specs.declared.answer.Answer.{Answer}
@@ -9,7 +9,6 @@ use Rattle.fields.specs.Answer.{fields_nothing, answer_put, malformed_of, number
 use Rattle.fields.specs.Lending.{most_room, filled_of, room_of}
 use Rattle.session.specs.declared.Session.{Session}
 use Rattle.session.specs.declared.Step.{Step}
-use Rattle.session.specs.declared.End.TheVariants.{Done}
 use Rattle.session.specs.Session.{step_number}
 use Rattle.start.specs.Start.{start_power_up}
 use Rattle.walk.specs.Walk.{next_of, ask_of}
@@ -59,7 +58,7 @@ tryhost_power_up s args = start_power_up s (fields_byte args 0) (read_kinds (dro
 
 -- "38 STATE": hand in a session made by hand
 abbrev pub handed_in : List ℕ → Step
-handed_in args = record { end = Done; session = read_state args }
+handed_in args = record { end = Ok None; session = read_state args }
 
 -- 30 power-up, 35 report, 36 silence, 38 hand in: these lend nothing
 unfoldable pub call_of : Session → ℕ → List ℕ → Step

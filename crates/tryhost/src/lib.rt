@@ -14,7 +14,7 @@ use fields::{
     Answer, MOST_ROOM, are_kinds, byte, filled, is_lending, malformed, nothing, numbered,
     read_kinds, room,
 };
-use session::{End, Session, Step};
+use session::{Session, Step};
 use state::{is_order, is_state, put_state, read_command, read_state, read_target};
 use text::rest;
 use wire::{Group, Individual};
@@ -172,7 +172,7 @@ fn handed_in(args: &[u8]) -> Step
 {
     let session = read_state(args);
     Step {
-        end: End::Done,
+        end: Ok(None),
         session,
     }
 }

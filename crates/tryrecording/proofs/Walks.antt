@@ -1,7 +1,8 @@
 -- The steps of a walk: what each adds, and that they end; a law for each exit of the code.
 use Prim.Native.Nat.{ℕ, ◌*◌, ◌/◌, ◌≤◌, ◌<◌}
+use Rattle.wire.specs.declared.refusal.Refusal.{Refusal}
 use Rattle.calls.specs.declared.Call.{Call}
-use Rattle.std.specs.Prelude.{Option, Some, None}
+use Rattle.std.specs.Prelude.{Option, Some, None, Result, Ok, Err, ℕ}
 use mathlib.Core.Bool.{Bool, true, false, cond}
 use mathlib.Core.List.{List, [], ◌∷◌, ◌++◌}
 use mathlib.Core.Path.{◌≡◌, refl, subst}
@@ -9,8 +10,6 @@ use native.Mathlib.Omega.{arith}
 use native.Mathlib.Nat.{add-sub_cancel_left}
 use lib.ListN.{length, length-append}
 use Rattle.session.specs.declared.Session.{Session}
-use Rattle.session.specs.declared.End.{End}
-use Rattle.session.specs.declared.End.TheVariants as end
 use Rattle.reports.specs.Report.{report_of}
 use Rattle.calls.specs.Finding.{by_source, find_of}
 use Rattle.capture.specs.Packets.{Packet}
@@ -76,13 +75,13 @@ module _ (cs cts rs rts : List ℕ) where
   command_shown at p b s (Some c) = rw (add-sub_cancel_left at.command (length p.bytes))
   command_shown at p b s None = rw (add-sub_cancel_left at.command (length p.bytes))
 
-  reply_shown : (at : Cursor) (p : Packet) (s : Session) (e : End)
+  reply_shown : (at : Cursor) (p : Packet) (s : Session) (e : Result (Option ℕ) Refusal)
       → step_bytes 1 at.reply (length p.bytes) ++ joined_steps (steps_of s (past_reply at p) (left_at cs cts rs rts (past_reply at p)))
       ≡ shown at (reply_by e (past_reply at p) s)
   unfolding steps_from
-  reply_shown at p s end.Done = rw (add-sub_cancel_left at.reply (length p.bytes))
-  reply_shown at p s (end.Sent n) = rw (add-sub_cancel_left at.reply (length p.bytes))
-  reply_shown at p s (end.Refused why) = rw (add-sub_cancel_left at.reply (length p.bytes))
+  reply_shown at p s (Ok None) = rw (add-sub_cancel_left at.reply (length p.bytes))
+  reply_shown at p s (Ok (Some n)) = rw (add-sub_cancel_left at.reply (length p.bytes))
+  reply_shown at p s (Err why) = rw (add-sub_cancel_left at.reply (length p.bytes))
 
   module _ (h : length cts ≡ length cs) (k : length rts ≡ length rs) where
     by_step : (at : Cursor) (s : Session) (x : Stepped) → capture_step cts rts at ≡ x → joined_steps (steps_of s at (left_at cs cts rs rts at)) ≡ shown at (advance_by cs cts rs rts at s x)

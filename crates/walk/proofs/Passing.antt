@@ -24,7 +24,7 @@ pub record NextPasses (s : Session) (at : ℕ) : Type 0 where
   pub walking : s.walk < s.n
   pub placed : knows (entry_of s (s.walk + 1)) place ≡ true
 
-pub next_says : (s : Session) (at : ℕ) → next_check s at ≡ (Ok tt) → NextPasses s at
+pub next_says : (s : Session) (at : ℕ) → next_check s at ≡ Ok tt → NextPasses s at
 unfolding next_check
 next_says s at h =
     let t = check_says s (walk_tests s at (leb s.n s.walk || is_ask_due s)) h in
@@ -45,7 +45,7 @@ pub record AskPasses (s : Session) (at : ℕ) : Type 0 where
   pub walking : s.walk < s.n
   pub doubtful : knows (entry_of s (s.walk + 1)) place ≡ false
 
-pub ask_says : (s : Session) (at : ℕ) → ask_check s at ≡ (Ok tt) → AskPasses s at
+pub ask_says : (s : Session) (at : ℕ) → ask_check s at ≡ Ok tt → AskPasses s at
 unfolding ask_check
 ask_says s at h =
     let t = check_says s (walk_tests s at (leb s.n s.walk || not (is_ask_due s))) h in
@@ -61,8 +61,8 @@ ask_says s at h =
     }
 
 -- as the code's checks give it
-pub next_walks : (k : Result ⊤ Refusal) (s : Session) (at : ℕ) → k ≡ next_check s at → k ≡ (Ok tt) → s.walk < s.n
+pub next_walks : (k : Result ⊤ Refusal) (s : Session) (at : ℕ) → k ≡ next_check s at → k ≡ Ok tt → s.walk < s.n
 next_walks k s at p q = (next_says s at (sym p ∙ q)).walking
 
-pub ask_walks : (k : Result ⊤ Refusal) (s : Session) (at : ℕ) → k ≡ ask_check s at → k ≡ (Ok tt) → s.walk < s.n
+pub ask_walks : (k : Result ⊤ Refusal) (s : Session) (at : ℕ) → k ≡ ask_check s at → k ≡ Ok tt → s.walk < s.n
 ask_walks k s at p q = (ask_says s at (sym p ∙ q)).walking

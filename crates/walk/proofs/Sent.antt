@@ -13,7 +13,7 @@ use Rattle.walk.specs.Walk.{next_check, ask_check, next_of, ask_of}
 use Rattle.sending.proofs.Sent.{Sends, transmitted_sends, by_passed, node_fits, Went, went}
 use Rattle.walk.proofs.Passing.{next_says, ask_says}
 
-pub next_sent : (s : Session) (at : ℕ) (out : List ℕ) → next_check s at ≡ (Ok tt)
+pub next_sent : (s : Session) (at : ℕ) (out : List ℕ) → next_check s at ≡ Ok tt
     → Sends s at (node_at address_up) (node_at (s.walk + 1)) (SetAddress (given_place (s.walk + 1))) out (next_of s at out)
 unfolding next_of
 next_sent s at out h =
@@ -22,7 +22,7 @@ next_sent s at out h =
     let f = t.session.valid.few in
     by_passed (next_check s at) s at _ _ _ out _ h (transmitted_sends s at _ _ _ out refl (rw (node_fits s.n (s.walk + 1) f (omega arith))))
 
-pub ask_sent : (s : Session) (at : ℕ) (out : List ℕ) → ask_check s at ≡ (Ok tt) → Sends s at (node_at (s.walk + 1)) (node_at (s.walk + 1)) Nop out (ask_of s at out)
+pub ask_sent : (s : Session) (at : ℕ) (out : List ℕ) → ask_check s at ≡ Ok tt → Sends s at (node_at (s.walk + 1)) (node_at (s.walk + 1)) Nop out (ask_of s at out)
 unfolding ask_of
 ask_sent s at out h =
     let t = ask_says s at h in

@@ -42,7 +42,7 @@ module _ (k : Result ⊤ Refusal) (s : Session) (at : ℕ) (out : List ℕ) (why
   unfolding ask_of
   ask_refused p = rw (← p) (refused_by k s out _ why r by e)
 
-module _ (k : Result ⊤ Refusal) (s : Session) (at : ℕ) (out o : List ℕ) (r : Step) (by : k ≡ (Ok tt)) where
+module _ (k : Result ⊤ Refusal) (s : Session) (at : ℕ) (out o : List ℕ) (r : Step) (by : k ≡ Ok tt) where
   pub next_sends : (x : Place) → k ≡ next_check s at → x ≡ given_place (s.walk + 1)
       → Lending step_number r o (transmit_of s at (node_at address_up) (node_at (s.walk + 1)) (SetAddress x) out) → Lending step_number r o (next_of s at out)
   unfolding next_of

@@ -1,22 +1,19 @@
--- Checks; a law for each exit of the code.
+-- Refusals by tests, and whether an exchange is open.
 use mathlib.Core.Bool.{Bool, true, false}
-use Rattle.std.specs.Prelude.{Result, Ok, Err, ⊤}
+use Rattle.std.specs.Prelude.{Err}
 use Rattle.wire.specs.Numbers.{number_by}
-use mathlib.Core.Path.{◌≡◌}
+use mathlib.Core.Path.{◌≡◌, refl}
+use mathlib.Core.List.{List, [], ◌∷◌}
 use Rattle.wire.specs.Promise.{Promise, promised}
 use Rattle.wire.specs.declared.refusal.Refusal.{Refusal}
 use Rattle.session.specs.declared.Session.{Session}
 use Rattle.session.specs.Session.{is_closed}
-use Rattle.sending.specs.Sending.{refuse_if, does_wait, is_waiting}
+use Rattle.sending.specs.Sending.{refusing, does_wait, is_waiting}
 
-pub refused_now : (k : Result ⊤ Refusal) (test : Bool) (why : Refusal) → k ≡ Ok tt → test ≡ true → Promise number_by (Err why) (refuse_if k test why)
-refused_now k test why p q = promised (rw (p, q))
-
-pub not_refused : (k : Result ⊤ Refusal) (test : Bool) (why : Refusal) → k ≡ Ok tt → test ≡ false → Promise number_by (Ok tt) (refuse_if k test why)
-not_refused k test why p q = promised (rw (p, q))
-
-pub refused_before : (k : Result ⊤ Refusal) (test : Bool) (why first : Refusal) → k ≡ Err first → Promise number_by (Err first) (refuse_if k test why)
-refused_before k test why first p = promised (rw p)
+-- a refusal stays, whatever is tested behind it
+pub stays_refused : (l : List (Bool × Refusal)) (why : Refusal) → refusing (Err why) l ≡ Err why
+stays_refused [] why = refl
+stays_refused (t ∷ l) why = stays_refused l why
 
 module _ (s : Session) where
   pub closed_waits_not : (v : Bool) → v ≡ is_closed s → v ≡ true → false ≡ is_waiting s

@@ -13,23 +13,6 @@ use command::Command;
 use session::{Exchange, Session, Step, is_closed, refuse};
 use wire::{Address, Refusal};
 
-impl Check {
-    // Refused already, or refused now if the test holds.
-    fn refuse_if(self, test: bool, why: Refusal) -> Result<(), Refusal>
-        ensures { Promise number_by result (refuse_if self test why) }
-    {
-        match self {
-            Err(first) => Err(first),
-            Ok(()) => {
-                if test {
-                    return Err(why);
-                }
-                Ok(())
-            }
-        }
-    }
-}
-
 fn does_wait(x: Exchange) -> bool
     ensures { result ≡ does_wait x }
 {
@@ -77,16 +60,23 @@ pub struct Tests {
 pub fn test(s: Session, t: Tests) -> Result<(), Refusal>
     ensures { Promise number_by result (test_of s t) }
 {
+    let sequence = [
+        (is_closed(s), Refusal::Closed),
+        (is_waiting(s), Refusal::Busy),
+        (t.unranged, Refusal::Range),
+        (t.unlisted, Refusal::Divisor),
+        (t.stray, Refusal::NoNode),
+        (t.lacked, Refusal::Lacked),
+        (t.undue, Refusal::NotDue),
+        (t.led, Refusal::Led),
+        (t.answerable, Refusal::Answerable),
+    ];
+    for (fails, why) in sequence {
+        if fails {
+            return Err(why);
+        }
+    }
     Ok(())
-        .refuse_if(is_closed(s), Refusal::Closed)
-        .refuse_if(is_waiting(s), Refusal::Busy)
-        .refuse_if(t.unranged, Refusal::Range)
-        .refuse_if(t.unlisted, Refusal::Divisor)
-        .refuse_if(t.stray, Refusal::NoNode)
-        .refuse_if(t.lacked, Refusal::Lacked)
-        .refuse_if(t.undue, Refusal::NotDue)
-        .refuse_if(t.led, Refusal::Led)
-        .refuse_if(t.answerable, Refusal::Answerable)
 }
 
 // The session with a command on the line: Hard Reset closes it and opens no exchange, any other command waits.

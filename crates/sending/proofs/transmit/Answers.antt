@@ -2,8 +2,8 @@
 use Rattle.sending.proofs.Transmitting.{built_sent, built_not}
 use Rattle.sending.proofs.transmit.Goals as goal
 
-pub returns-in-Bytes : goal.returns-in-Bytes
-returns-in-Bytes c = search built_sent
+pub returns-in-Ok : goal.returns-in-Ok
+returns-in-Ok c = search built_sent
 
-pub returns-in-Refused : goal.returns-in-Refused
-returns-in-Refused c = search built_not
+pub returns-in-Err : goal.returns-in-Err
+returns-in-Err c = search built_not

@@ -2,8 +2,8 @@
 use Rattle.host.proofs.Sending.{order_refused, order_sends}
 use Rattle.host.proofs.order.Goals as goal
 
-pub returns-in-Refuse : goal.returns-in-Refuse
-returns-in-Refuse c = search order_refused
+pub returns-in-Err : goal.returns-in-Err
+returns-in-Err c = search order_refused
 
-pub returns-in-Passed : goal.returns-in-Passed
-returns-in-Passed c = search order_sends
+pub returns-in-Ok : goal.returns-in-Ok
+returns-in-Ok c = search order_sends

@@ -2,8 +2,8 @@
 use Rattle.host.proofs.Sending.{regroup_refused, regroup_sends}
 use Rattle.host.proofs.regroup.Goals as goal
 
-pub returns-in-Refuse : goal.returns-in-Refuse
-returns-in-Refuse c = search regroup_refused
+pub returns-in-Err : goal.returns-in-Err
+returns-in-Err c = search regroup_refused
 
-pub returns-in-Passed : goal.returns-in-Passed
-returns-in-Passed c = search regroup_sends
+pub returns-in-Ok : goal.returns-in-Ok
+returns-in-Ok c = search regroup_sends

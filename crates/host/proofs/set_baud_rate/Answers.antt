@@ -2,8 +2,8 @@
 use Rattle.host.proofs.Sending.{baud_rate_refused, baud_rate_sends}
 use Rattle.host.proofs.set_baud_rate.Goals as goal
 
-pub returns-in-Refuse : goal.returns-in-Refuse
-returns-in-Refuse c = search baud_rate_refused
+pub returns-in-Err : goal.returns-in-Err
+returns-in-Err c = search baud_rate_refused
 
-pub returns-in-Passed : goal.returns-in-Passed
-returns-in-Passed c = search baud_rate_sends
+pub returns-in-Ok : goal.returns-in-Ok
+returns-in-Ok c = search baud_rate_sends

@@ -5,10 +5,10 @@ use Rattle.walk.proofs.Passing.{next_walks}
 use Rattle.walk.proofs.next.Goals as goal
 
 pub overflow_add-k : goal.overflow_add-k
-overflow_add-k c = omega (arith, next_walks _ _ _ c.next_check.ensures.answer c.in-Passed.is)
+overflow_add-k c = omega (arith, next_walks _ _ _ c.next_check.ensures.answer c.in-Ok.is)
 
-pub returns-in-Refuse : goal.returns-in-Refuse
-returns-in-Refuse c = search next_refused
+pub returns-in-Err : goal.returns-in-Err
+returns-in-Err c = search next_refused
 
-pub returns-in-Passed : goal.returns-in-Passed
-returns-in-Passed c = search next_sends
+pub returns-in-Ok : goal.returns-in-Ok
+returns-in-Ok c = search next_sends

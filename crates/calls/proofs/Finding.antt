@@ -39,10 +39,10 @@ use Rattle.host.proofs.Passing.{order_says, regroup_says}
 use Rattle.calls.specs.declared.Call.{Call}
 use Rattle.calls.specs.declared.Call.TheVariants.{Next, Ask, Order, Regroup, SetBaudRate}
 use Rattle.calls.specs.declared.Spoken.{Spoken}
-use Rattle.calls.specs.declared.Spoken.TheVariants as spoken
+use Rattle.wire.proofs.Answered.{ok_is, some_is}
 use Rattle.calls.specs.declared.Sought.{Sought}
 use Rattle.calls.specs.Calls.{call_perform, TypedCall, sets_rate, Gives, session_after, Unsendable}
-use Rattle.calls.specs.Understanding.{understand_of, spoken_as, spoken_to}
+use Rattle.calls.specs.Understanding.{says, understand_of, spoken_as, spoken_to}
 use Rattle.calls.specs.Finding.{missed_of, sought_by, sought_of, try_call, early_call, late_by, late_call, by_source, seek_of, find_by, find_as, find_of}
 use Rattle.calls.specs.Alike.{Alike}
 use Rattle.calls.proofs.Standing.{CallWent, call_went}
@@ -50,12 +50,6 @@ use Rattle.calls.proofs.Twice.{had, sent_done, went_by, packet_is, after_is, rea
 
 found_not : {k : Call} → Some k ≡ None → ⊥
 found_not e = impossible cc
-
-found_call : {k j : Call} → Some k ≡ Some j → k ≡ j
-found_call e = cc
-
-spoken_command : {a to : Address} {d c : Command} → spoken.Command a d ≡ spoken.Command to c → d ≡ c
-spoken_command e = cc
 
 -- sent as these bytes, it is found
 sent_found : (s : Session) (k : Call) (p left : List ℕ) (after : Session) (n : ℕ) → take n left ≡ p
@@ -84,7 +78,7 @@ module _ {s : Session} {k : Call} {p : List ℕ} (g : Gives s k p) (w : CallWent
 
   module _ (kind : Kind) (h : has kind w.command ≡ true) where
     -- its packet is understood
-    understood : understand_of kind p ≡ spoken.Command w.called w.command
+    understood : understand_of kind p ≡ says w.called w.command
     unfolding understand_of
     understood =
         let r = reads_back g w kind h in
@@ -175,7 +169,7 @@ module _ (s : Session) (k : Call) (p : List ℕ) (typed : TypedCall k) (unpaced 
       → FoundAs s p j (cond b (record { source = Some k; session = (call_perform k s divisor_up (replicate 19 0)).answer.session }) (missed_of s))
   by_same true n e h f =
       let g : Gives s k p = record { typed = typed; unpaced = unpaced; out = replicate 19 0; count = n; sent = e; bytes = same_says _ p h } in
-      let i : k ≡ j = found_call f in
+      let i : k ≡ j = some_is f in
       subst (λ (m : Call). Made s m p (call_perform k s divisor_up (replicate 19 0)).answer.session) i (record { gives = g; session = refl })
   by_same false n e h f = absurd (found_not (sym f))
 
@@ -221,18 +215,18 @@ late_unpaced to c Resets = refl
 
 module _ (kind : Kind) (p : List ℕ) (to : Address) (c : Command) where
   by_reading : (r : Option Command) (a : Address) (k n : ℕ) → read_of p ≡ whole a k n → codec_read kind k (data_part p) ≡ r
-      → spoken_to a r ≡ spoken.Command to c → Typed c
+      → ◌≡◌ {A = Result (Option Spoken) Refusal} (Ok (spoken_to a r)) (says to c) → Typed c
   by_reading (Some d) a k n e f h =
-      let i : d ≡ c = spoken_command h in
+      let i : d ≡ c = ap (λ (x : Spoken). x.command) (some_is (ok_is h)) in
       subst Typed i (reads_in_range kind p a d n (record { command = k; whole = e; known = f })).2
   by_reading None a k n e f h = impossible cc
 
-  by_framed : (f : Result Framed Refusal) → read_of p ≡ f → spoken_as kind p f ≡ spoken.Command to c → Typed c
-  by_framed (whole a k n) e h =
-      by_reading (codec_read kind k (data_part p)) a k n e refl (chose_second (ltb n (length p)) h (λ i. impossible cc)).1
+  by_framed : (f : Result Framed Refusal) → read_of p ≡ f → spoken_as kind p f ≡ says to c → Typed c
+  by_framed (Ok f) e h =
+      by_reading (codec_read kind f.command (data_part p)) f.address f.command f.end e refl (chose_second (ltb f.end (length p)) h (λ i. impossible cc)).1
   by_framed (Err why) e h = impossible cc
 
-  spoken_typed : understand_of kind p ≡ spoken.Command to c → Typed c
+  spoken_typed : understand_of kind p ≡ says to c → Typed c
   unfolding understand_of
   spoken_typed h = by_framed (read_of p) refl h
 
@@ -241,13 +235,15 @@ by_first : (x : Option Call) (s : Session) (p : List ℕ) (j : Call) (y z : Soug
 by_first (Some k) s p j y z f g = f
 by_first None s p j y z f g = g
 
-by_spoken : (kind : Kind) (x : Spoken) (s : Session) (p : List ℕ) (j : Call) → understand_of kind p ≡ x → FoundAs s p j (find_by s p x)
+by_spoken : (kind : Kind) (x : Result (Option Spoken) Refusal) (s : Session) (p : List ℕ) (j : Call) → understand_of kind p ≡ x → FoundAs s p j (find_by s p x)
 unfolding seek_of
-by_spoken kind (spoken.Command to c) s p j e =
+by_spoken kind (Ok (Some x)) s p j e =
+    let to = x.to in
+    let c = x.command in
     by_first (try_call s (early_call c) p).source s p j _ _ (tried_gives s (early_call c) p (early_typed (is_placing (role_of c))) (early_unpaced (is_placing (role_of c))) j)
     (tried_gives s (late_call to c) p (late_typed to c (role_of c) (spoken_typed kind p to c e)) (late_unpaced to c (role_of c)) j)
-by_spoken kind spoken.Other s p j e = λ f. absurd (found_not (sym f))
-by_spoken kind (spoken.Refused why) s p j e = λ f. absurd (found_not (sym f))
+by_spoken kind (Ok None) s p j e = λ f. absurd (found_not (sym f))
+by_spoken kind (Err why) s p j e = λ f. absurd (found_not (sym f))
 
 made_as : (kind : Kind) (s : Session) (p : List ℕ) (k : Call) → FoundAs s p k (find_as kind s p)
 unfolding find_as

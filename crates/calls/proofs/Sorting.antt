@@ -17,7 +17,7 @@ use Rattle.wire.specs.declared.kind.Kind.{Kind}
 use Rattle.wire.specs.declared.kind.Kind.TheVariants.{Gate, Drive}
 use Rattle.wire.specs.declared.refusal.Refusal.{Refusal}
 use Rattle.wire.specs.declared.refusal.Refusal.TheVariants.{Long}
-use Rattle.packet.specs.Packet.{read_of, data_part, whole}
+use Rattle.packet.specs.Packet.{read_of, data_part}
 use Rattle.command.specs.declared.Command.{Command}
 use Rattle.command.specs.declared.Place.{Place}
 use Rattle.command.specs.declared.Role.{Role}
@@ -33,10 +33,9 @@ use Rattle.host.specs.Calls.{order_of, regroup_of, set_baud_rate_of}
 use Rattle.calls.specs.declared.Call.{Call}
 use Rattle.calls.specs.declared.Call.TheVariants.{Next, Ask, Order, Regroup, SetBaudRate}
 use Rattle.calls.specs.declared.Spoken.{Spoken}
-use Rattle.calls.specs.declared.Spoken.TheVariants as spoken
 use Rattle.calls.specs.declared.Sought.{Sought}
 use Rattle.calls.specs.Calls.{call_perform}
-use Rattle.calls.specs.Understanding.{spoken_number, spoken_to, understand_of}
+use Rattle.calls.specs.Understanding.{spoken_to, understand_of}
 use Rattle.calls.specs.Finding.{missed_of, try_call, early_call, late_call, seek_of, find_as, find_of}
 
 -- ---- perform: as the one call
@@ -60,25 +59,20 @@ module _ (k : Call) (s : Session) (at : ℕ) (out o : List ℕ) (r : Step) where
 
 -- ---- understand
 
-pub says_known : (to : Address) (r : Option Command) (c : Command) → r ≡ Some c → spoken.Command to c ≡ spoken_to to r
-says_known to r c e = rw e
+module _ (kind : Kind) (p : List ℕ) where
+  module _ (f : Framed) (by : Promise number_by (Ok f) (read_of p)) where
+    pub understood_long : f.end < length p → Promise number_by (Err Long) (understand_of kind p)
+    unfolding understand_of
+    understood_long h = promised (rw (← by.answer, lt-ltb _ _ h))
 
-pub says_other : (to : Address) (r : Option Command) → r ≡ None → spoken.Other ≡ spoken_to to r
-says_other to r e = rw e
+    pub understood : (d : List ℕ) (r : Option Command) (x : Option Spoken) → length p ≤ f.end → d ≡ data_part p
+        → r ≡ codec_read kind f.command d → x ≡ spoken_to f.address r → Promise number_by (Ok x) (understand_of kind p)
+    unfolding understand_of
+    understood d r x h i j l = promised (rw (← by.answer, le-ltb _ _ h, ← i, ← j, l))
 
-module _ (kind : Kind) (p : List ℕ) (f : Result Framed Refusal) (by : Promise number_by f (read_of p)) where
-  pub understood_long : (to : Address) (k end : ℕ) → f ≡ whole to k end → end < length p → Promise spoken_number (spoken.Refused Long) (understand_of kind p)
+  pub understood_not : (why : Refusal) → Promise number_by (Err why) (read_of p) → Err why ≡ understand_of kind p
   unfolding understand_of
-  understood_long to k end e h = promised (rw (← by.answer, e, lt-ltb _ _ h))
-
-  pub understood : (to : Address) (k end : ℕ) (d : List ℕ) (r : Option Command) (x : Spoken) → f ≡ whole to k end → length p ≤ end → d ≡ data_part p
-      → r ≡ codec_read kind k d → x ≡ spoken_to to r → Promise spoken_number x (understand_of kind p)
-  unfolding understand_of
-  understood to k end d r x e h i j l = promised (rw (← by.answer, e, le-ltb _ _ h, ← i, ← j) l)
-
-  pub understood_not : (why : Refusal) → f ≡ Err why → Promise spoken_number (spoken.Refused why) (understand_of kind p)
-  unfolding understand_of
-  understood_not why e = promised (rw (← by.answer, e))
+  understood_not why by = rw (← by.answer)
 
 -- ---- late_call
 
@@ -109,19 +103,19 @@ module _ (to : Address) (c : Command) (r : Role) (by : r ≡ role_of c) where
 
 -- ---- try_call, seek, find_as, find
 
-module _ (s : Session) (c : Call) (p o : List ℕ) (r : Step) (by : Lending step_number r o (call_perform c s divisor_up (replicate 19 0))) where
-  pub tried_same : (n : ℕ) (d : List ℕ) (g : Bool) → r.end ≡ Ok (Some n) → d ≡ take n o → g ≡ is_same d p → g ≡ true
+module _ (s : Session) (c : Call) (p left : List ℕ) (r : Step) (by : Lending step_number r left (call_perform c s divisor_up (replicate 19 0))) where
+  pub tried_same : (o : Option ℕ) (n : ℕ) (d : List ℕ) (g : Bool) → r.end ≡ Ok o → o ≡ Some n → d ≡ take n left → g ≡ is_same d p → g ≡ true
       → record { source = Some c; session = r.session } ≡ try_call s c p
   unfolding try_call
-  tried_same n d g e f h i = rw (← by.answer, ← by.leaves, e, ← f, ← h, i)
+  tried_same o n d g e k f h i = rw (← by.answer, ← by.leaves, e, k, ← f, ← h, i)
 
-  pub tried_other : (n : ℕ) (d : List ℕ) (g : Bool) (m : Sought) → r.end ≡ Ok (Some n) → d ≡ take n o → g ≡ is_same d p → g ≡ false → m ≡ missed_of s → m ≡ try_call s c p
+  pub tried_other : (o : Option ℕ) (n : ℕ) (d : List ℕ) (g : Bool) (m : Sought) → r.end ≡ Ok o → o ≡ Some n → d ≡ take n left → g ≡ is_same d p → g ≡ false → m ≡ missed_of s → m ≡ try_call s c p
   unfolding try_call
-  tried_other n d g m e f h i j = rw (← by.answer, ← by.leaves, e, ← f, ← h, i) j
+  tried_other o n d g m e k f h i j = rw (← by.answer, ← by.leaves, e, k, ← f, ← h, i) j
 
-  pub tried_done : (m : Sought) → r.end ≡ Ok None → m ≡ missed_of s → m ≡ try_call s c p
+  pub tried_done : (o : Option ℕ) (m : Sought) → r.end ≡ Ok o → o ≡ None → m ≡ missed_of s → m ≡ try_call s c p
   unfolding try_call
-  tried_done m e j = rw (← by.answer, e) j
+  tried_done o m e k j = rw (← by.answer, e, k) j
 
   pub tried_refused : (m : Sought) (why : Refusal) → r.end ≡ Err why → m ≡ missed_of s → m ≡ try_call s c p
   unfolding try_call
@@ -136,17 +130,17 @@ module _ (s : Session) (early late : Call) (p : List ℕ) (x : Sought) (by : x �
   unfolding seek_of
   sought_late y e f = rw (← by, e) f
 
-module _ (kind : Kind) (s : Session) (p : List ℕ) (x : Spoken) (by : Promise spoken_number x (understand_of kind p)) where
-  pub found_command : (to : Address) (c : Command) (early late : Call) (y : Sought) → x ≡ spoken.Command to c
-      → early ≡ early_call c → late ≡ late_call to c → y ≡ seek_of s early late p → y ≡ find_as kind s p
+module _ (kind : Kind) (s : Session) (p : List ℕ) (x : Result (Option Spoken) Refusal) (by : Promise number_by x (understand_of kind p)) where
+  pub found_command : (o : Option Spoken) (k : Spoken) (early late : Call) (y : Sought) → x ≡ Ok o → o ≡ Some k
+      → early ≡ early_call k.command → late ≡ late_call k.to k.command → y ≡ seek_of s early late p → y ≡ find_as kind s p
   unfolding find_as
-  found_command to c early late y e f g h = rw (← by.answer, e, ← f, ← g) h
+  found_command o k early late y e i f g h = rw (← by.answer, e, i, ← f, ← g) h
 
-  pub found_other : (m : Sought) → x ≡ spoken.Other → m ≡ missed_of s → m ≡ find_as kind s p
+  pub found_other : (o : Option Spoken) (m : Sought) → x ≡ Ok o → o ≡ None → m ≡ missed_of s → m ≡ find_as kind s p
   unfolding find_as
-  found_other m e j = rw (← by.answer, e) j
+  found_other o m e k j = rw (← by.answer, e, k) j
 
-  pub found_refused : (m : Sought) (why : Refusal) → x ≡ spoken.Refused why → m ≡ missed_of s → m ≡ find_as kind s p
+  pub found_refused : (m : Sought) (why : Refusal) → x ≡ Err why → m ≡ missed_of s → m ≡ find_as kind s p
   unfolding find_as
   found_refused m why e j = rw (← by.answer, e) j
 

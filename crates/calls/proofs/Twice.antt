@@ -13,6 +13,8 @@ use Rattle.wire.specs.declared.address.Address.{Address}
 use Rattle.wire.specs.declared.kind.Kind.{Kind}
 use Rattle.wire.specs.declared.kind.Kind.TheVariants.{Gate, Drive}
 use Rattle.packet.specs.Packet.{data_part, whole}
+use Rattle.packet.proofs.Packets.{whole_parts}
+use Rattle.wire.proofs.Answered.{ok_is, some_is}
 use Rattle.command.specs.declared.Command.{Command}
 use Rattle.command.specs.declared.Owner.{Owner}
 use Rattle.command.specs.declared.Owner.TheVariants as owner
@@ -65,8 +67,8 @@ had c = by_gate (has Gate c) c refl
 pub sent_done : {e : Result (Option ℕ) Refusal} (n : ℕ) → e ≡ Ok (Some n) → number_by e ≡ done
 sent_done n h = ap number_by h
 
-sent_count : {n m : ℕ} → Ok (Some n) ≡ Ok (Some m) → n ≡ m
-sent_count e = cc
+sent_count : {n m : ℕ} → ◌≡◌ {A = Result (Option ℕ) Refusal} (Ok (Some n)) (Ok (Some m)) → n ≡ m
+sent_count e = some_is (ok_is e)
 
 abbrev pub went_by : {s : Session} {k : Call} {p : List ℕ} (g : Gives s k p) → CallWent k s divisor_up g.out
 went_by {s} {k} g = call_went k s divisor_up g.out (sent_done g.count g.sent)
@@ -92,19 +94,13 @@ module _ {s : Session} {k : Call} {p : List ℕ} (g : Gives s k p) (w : CallWent
 
 -- ---- what two of them have in common
 
-whole_parts : {a b : Address} {k j n m : ℕ} → whole a k n ≡ whole b j m → (a ≡ b) × (k ≡ j)
-whole_parts e = (cc, cc)
-
-known_command : {c d : Command} → Some c ≡ Some d → c ≡ d
-known_command e = cc
-
 -- bytes say one address, whoever reads them, and one command to a kind of node
 one_address : {x y : Kind} {p : List ℕ} {a b : Address} {c d : Command} {n m : ℕ} → ReadsAs x p a c n → ReadsAs y p b d m → a ≡ b
 one_address r q = (whole_parts (sym r.whole ∙ q.whole)).0
 
 pub one_command : {x : Kind} {p : List ℕ} {a b : Address} {c d : Command} {n m : ℕ} → ReadsAs x p a c n → ReadsAs x p b d m → c ≡ d
 one_command {x} {p} r q =
-    known_command (sym r.known ∙ ap (λ (k : ℕ). codec_read x k (data_part p)) (whole_parts (sym r.whole ∙ q.whole)).1 ∙ q.known)
+    some_is (sym r.known ∙ ap (λ (k : ℕ). codec_read x k (data_part p)) (whole_parts (sym r.whole ∙ q.whole)).1.0 ∙ q.known)
 
 -- a command that a kind of node lacks is no Hard Reset
 waits_by : (b : Bool) (kind : Kind) (c : Command) → has kind c ≡ false → is_reset (role_of c) ≡ b → b ≡ false

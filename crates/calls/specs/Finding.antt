@@ -16,7 +16,6 @@ use Rattle.session.specs.declared.Step.{Step}
 use Rattle.calls.specs.declared.Call.{Call}
 use Rattle.calls.specs.declared.Call.TheVariants.{Next, Ask, Order, Regroup}
 use Rattle.calls.specs.declared.Spoken.{Spoken}
-use Rattle.calls.specs.declared.Spoken.TheVariants as spoken
 use Rattle.calls.specs.declared.Sought.{Sought}
 use Rattle.calls.specs.Calls.{call_perform}
 use Rattle.calls.specs.Understanding.{understand_of}
@@ -68,10 +67,10 @@ unfoldable pub seek_of : Session → Call → Call → List ℕ → Sought
 seek_of s early late p = by_source (try_call s early p).source (try_call s early p) (try_call s late p)
 
 -- by what the bytes say: the walk's call for it, else the ready session's
-abbrev pub find_by : Session → List ℕ → Spoken → Sought
-find_by s p (spoken.Command to c) = seek_of s (early_call c) (late_call to c) p
-find_by s p spoken.Other = missed_of s
-find_by s p (spoken.Refused why) = missed_of s
+abbrev pub find_by : Session → List ℕ → Result (Option Spoken) Refusal → Sought
+find_by s p (Ok (Some x)) = seek_of s (early_call x.command) (late_call x.to x.command) p
+find_by s p (Ok None) = missed_of s
+find_by s p (Err why) = missed_of s
 
 -- as a kind of node reads them
 unfoldable pub find_as : Kind → Session → List ℕ → Sought

@@ -7,9 +7,10 @@
 
 ghost use Rattle.std.specs.Prelude.{◌≡◌};
 ghost use Rattle.wire.specs.Promise.{Promise, Lending};
+ghost use Rattle.wire.specs.Numbers.{number_by};
 ghost use Rattle.session.specs.Session.{step_number};
 ghost use Rattle.calls.specs.Calls.{call_perform};
-ghost use Rattle.calls.specs.Understanding.{spoken_number, spoken_to, understand_of};
+ghost use Rattle.calls.specs.Understanding.{spoken_to, understand_of};
 ghost use Rattle.calls.specs.Finding.{missed_of, try_call, early_call, late_call, seek_of, find_as, find_of};
 
 use command::{Command, Role};
@@ -58,25 +59,11 @@ impl Call {
     }
 }
 
-// What some bytes of the command line say to a kind of node, all of them: a command to an address; a packet of another command; or why they are no packet, 3 for bytes left over.
+// What a packet of the command line says: a command, and whom it is for.
 #[derive(Clone, Copy)]
-pub enum Spoken {
-    Command { to: Address, command: Command },
-    Other,
-    Refused(Refusal),
-}
-
-impl Spoken {
-    // The paper's number.
-    pub fn number(self) -> u8
-        ensures { result ≡ spoken_number self }
-    {
-        match self {
-            Spoken::Command { to: _, command: _ } => wire::DONE,
-            Spoken::Other => wire::DONE,
-            Spoken::Refused(why) => why.number(),
-        }
-    }
+pub struct Spoken {
+    pub to: Address,
+    pub command: Command,
 }
 
 // The call that gives some bytes and the session after it; where none does, the session as it was handed in.
@@ -86,36 +73,25 @@ pub struct Sought {
     pub session: Session,
 }
 
-// What the command of a packet to an address says.
-fn spoken_to(to: Address, reading: Option<Command>) -> Spoken
+// What the command of a packet to an address says, if it is one of ours.
+fn spoken_to(to: Address, reading: Option<Command>) -> Option<Spoken>
     ensures { result ≡ spoken_to to reading }
 {
-    match reading {
-        Some(command) => Spoken::Command { to, command },
-        None => Spoken::Other,
-    }
+    let command = reading?;
+    Some(Spoken { to, command })
 }
 
-// What the bytes between two gaps say to a kind of node: 1, 2, 1, 4 as reading has them, then 3.
-pub fn understand(kind: Kind, bytes: &[u8]) -> Spoken
-    ensures { Promise spoken_number result (understand_of kind bytes.now) }
+// What the bytes between two gaps say to a kind of node, all of them, or that it is another command; or why they are no packet: 1, 2, 1, 4 as reading has them,
+// then 3 for bytes left over.
+pub fn understand(kind: Kind, bytes: &[u8]) -> Result<Option<Spoken>, Refusal>
+    ensures { Promise number_by result (understand_of kind bytes.now) }
 {
-    match packet::read(bytes) {
-        whole {
-            address,
-            command,
-            end,
-        } => {
-            if end < bytes.len() {
-                return Spoken::Refused(Refusal::Long);
-            }
-            spoken_to(
-                address,
-                codec::read(kind, command, packet::data_part(bytes)),
-            )
-        }
-        Err(why) => Spoken::Refused(why),
+    let framed = packet::read(bytes)?;
+    if framed.end < bytes.len() {
+        return Err(Refusal::Long);
     }
+    let reading = codec::read(kind, framed.command, packet::data_part(bytes));
+    Ok(spoken_to(framed.address, reading))
 }
 
 // None gives these bytes.
@@ -134,19 +110,19 @@ fn try_call(s: Session, call: Call, bytes: &[u8]) -> Sought
 {
     let mut out = [0; 19];
     let step = call.perform(s, Node::DIVISOR, &mut out);
-    let end = step.end;
-    let session = step.session;
-    match end {
-        Ok(Some(n)) => {
-            if text::is_same(text::first(&out, n), bytes) {
-                return Sought {
-                    source: Some(call),
-                    session,
-                };
+    match step.end {
+        Ok(sent) => match sent {
+            Some(n) => {
+                if text::is_same(text::first(&out, n), bytes) {
+                    return Sought {
+                        source: Some(call),
+                        session: step.session,
+                    };
+                }
+                missed(s)
             }
-            missed(s)
-        }
-        Ok(None) => missed(s),
+            None => missed(s),
+        },
         Err(_) => missed(s),
     }
 }
@@ -191,8 +167,7 @@ fn seek(s: Session, early: Call, late: Call, bytes: &[u8]) -> Sought
     ensures { result ≡ seek_of s early late bytes.now }
 {
     let sought = try_call(s, early, bytes);
-    let source = sought.source;
-    match source {
+    match sought.source {
         Some(_) => sought,
         None => try_call(s, late, bytes),
     }
@@ -203,11 +178,14 @@ fn find_as(kind: Kind, s: Session, bytes: &[u8]) -> Sought
     ensures { result ≡ find_as kind s bytes.now }
 {
     match understand(kind, bytes) {
-        Spoken::Command { to, command } => {
-            seek(s, early_call(command), late_call(to, command), bytes)
-        }
-        Spoken::Other => missed(s),
-        Spoken::Refused(_) => missed(s),
+        Ok(Some(spoken)) => seek(
+            s,
+            early_call(spoken.command),
+            late_call(spoken.to, spoken.command),
+            bytes,
+        ),
+        Ok(None) => missed(s),
+        Err(_) => missed(s),
     }
 }
 
@@ -217,8 +195,7 @@ pub fn find(s: Session, bytes: &[u8]) -> Sought
     ensures { result ≡ find_of s bytes.now }
 {
     let sought = find_as(Kind::Gate, s, bytes);
-    let source = sought.source;
-    match source {
+    match sought.source {
         Some(_) => sought,
         None => find_as(Kind::Drive, s, bytes),
     }

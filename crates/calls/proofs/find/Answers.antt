@@ -2,8 +2,8 @@
 use Rattle.calls.proofs.Sorting.{found_gate, found_drive}
 use Rattle.calls.proofs.find.Goals as goal
 
-pub returns-in-Found : goal.returns-in-Found
-returns-in-Found c = search found_gate
+pub returns-in-Some : goal.returns-in-Some
+returns-in-Some c = search found_gate
 
-pub returns-in-Missing : goal.returns-in-Missing
-returns-in-Missing c = search found_drive
+pub returns-in-None : goal.returns-in-None
+returns-in-None c = search found_drive

@@ -2,8 +2,8 @@
 use Rattle.calls.proofs.Sorting.{sought_early, sought_late}
 use Rattle.calls.proofs.seek.Goals as goal
 
-pub returns-in-Found : goal.returns-in-Found
-returns-in-Found c = search sought_early
+pub returns-in-Some : goal.returns-in-Some
+returns-in-Some c = search sought_early
 
-pub returns-in-Missing : goal.returns-in-Missing
-returns-in-Missing c = search sought_late
+pub returns-in-None : goal.returns-in-None
+returns-in-None c = search sought_late

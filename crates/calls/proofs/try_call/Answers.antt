@@ -8,8 +8,8 @@ returns-then-is_same c = search tried_same
 pub returns-else-is_same : goal.returns-else-is_same
 returns-else-is_same c = search tried_other
 
-pub returns-in-Done : goal.returns-in-Done
-returns-in-Done c = search tried_done
+pub returns-in-None : goal.returns-in-None
+returns-in-None c = search tried_done
 
-pub returns-in-Refused : goal.returns-in-Refused
-returns-in-Refused c = search tried_refused
+pub returns-in-Err : goal.returns-in-Err
+returns-in-Err c = search tried_refused

@@ -5,8 +5,8 @@ use Rattle.hexadecimal.proofs.pairs.read_bytes.Goals as goal
 pub returns-then-line-lt1 : goal.returns-then-line-lt1
 returns-then-line-lt1 c = search read_empty
 
-pub returns-in-Malformed : goal.returns-in-Malformed
-returns-in-Malformed c = search read_bad
+pub returns-in-None : goal.returns-in-None
+returns-in-None c = search read_bad
 
-pub returns-in-Bytes : goal.returns-in-Bytes
-returns-in-Bytes c = search read_good
+pub returns-in-Some : goal.returns-in-Some
+returns-in-Some c = search read_good

@@ -1,5 +1,5 @@
 -- Packets back to back, gone through one by one: each isn't empty and lies within the list, so that the next begins further on, where it ends.
-use Rattle.std.proofs.Common.{◌≡◌, ℕ, ◌+◌, ◌-◌, ◌^◌, ◌<◌, ◌≤◌, List, length, drop, sym, ap, ◌∙◌, arith, length-drop, Result}
+use Rattle.std.proofs.Common.{◌≡◌, ℕ, ◌+◌, ◌-◌, ◌^◌, ◌<◌, ◌≤◌, List, length, drop, sym, ap, ◌∙◌, arith, length-drop, Result, Ok}
 use Rattle.wire.specs.declared.refusal.Refusal.{Refusal}
 use Rattle.packet.specs.declared.Framed.{Framed}
 use Rattle.wire.specs.Numbers.{number_by}
@@ -17,11 +17,11 @@ framed_ends : (s : List ℕ) (a : Address) (c n : ℕ) → frame_of s ≡ whole 
 framed_ends s a c n e = let f = framing s a c n e in record { some = omega (arith, f.end); reaches = f.reaches }
 
 -- as `frame` and `read` find it
-pub by_frame : (s : List ℕ) (f : Result Framed Refusal) (a : Address) (c n : ℕ) → Promise number_by f (frame_of s) → f ≡ whole a c n → EndsAt s n
-by_frame s f a c n p e = framed_ends s a c n (sym p.answer ∙ e)
+pub by_frame : (s : List ℕ) (r : Result Framed Refusal) (f : Framed) → Promise number_by r (frame_of s) → r ≡ Ok f → EndsAt s f.end
+by_frame s r f p e = framed_ends s f.address f.command f.end (sym p.answer ∙ e)
 
-pub by_read : (s : List ℕ) (f : Result Framed Refusal) (a : Address) (c n : ℕ) → Promise number_by f (read_of s) → f ≡ whole a c n → EndsAt s n
-by_read s f a c n p e = framed_ends s a c n (read_says s a c n (sym p.answer ∙ e)).0
+pub by_read : (s : List ℕ) (r : Result Framed Refusal) (f : Framed) → Promise number_by r (read_of s) → r ≡ Ok f → EndsAt s f.end
+by_read s r f p e = framed_ends s f.address f.command f.end (read_says s f.address f.command f.end (sym p.answer ∙ e)).0
 
 -- at a position of the list
 module _ (s d : List ℕ) (at n : ℕ) (ed : d ≡ drop at s) (h : EndsAt d n) where

@@ -23,7 +23,7 @@ use Rattle.hexadecimal.specs.Hex.{hex_line}
 use Rattle.sheet.specs.Line.{hex_word}
 use Rattle.packet.specs.Packet.{frame_of, read_of, whole}
 use Rattle.sheet.specs.Sheet.{Made, made, fault}
-use Rattle.packet.proofs.Packets.{framing, read_says}
+use Rattle.packet.proofs.Packets.{whole_parts, framing, read_says}
 use Rattle.sheet.specs.Packets.{Found, over, packet, misread, packets_of, bare_of, sheet_line, ahead, sheet_of, export_made, export_of}
 use Rattle.sheet.specs.Form.{ListForm}
 use Rattle.sheet.specs.Form as form
@@ -43,10 +43,10 @@ module _ (s d : List ℕ) (at : ℕ) (ed : d ≡ drop at s) (f : Result Framed R
       let k : 0 < length (drop at s) = omega (arith, length-drop at s) in
       rw (packets_not (drop at s) why k (rw ed at (sym r.answer ∙ e))) at inv
 
-  module _ (a : Address) (c e : ℕ) (ef : f ≡ whole a c e) where
-    pub count_on : (count : ℕ) (t : Result ℕ Refusal) → coming count s at ≡ t → coming (count + 1) s (at + e) ≡ t
+  module _ (g : Framed) (ef : f ≡ Ok g) where
+    pub count_on : (count : ℕ) (t : Result ℕ Refusal) → coming count s at ≡ t → coming (count + 1) s (at + g.end) ≡ t
     count_on count t inv =
-        let step = packets_then (drop at s) a c e (rw ed at (sym r.answer ∙ ef)) in
+        let step = packets_then (drop at s) g.address g.command g.end (rw ed at (sym r.answer ∙ ef)) in
         rw drop-drop at (rw step at inv)
 
 pub count_done : (s : List ℕ) (at count : ℕ) (t : Result ℕ Refusal) → length s ≤ at → coming count s at ≡ t → Ok count ≡ t
@@ -118,23 +118,23 @@ module _ (out a b p d : List ℕ) (at : ℕ) (r : Result ℕ Refusal) (some : 4 
   none : post_of (at + 4) (length a - (at + 4)) a ≡ []
   none = drop_of_length-le (drop (at + 4) a) {i = length a - (at + 4)} (omega (arith, length-drop (at + 4) a))
 
-  whole : put_mid (at + 4) (length a - (at + 4)) a b ≡ sets a (at + 4) (hex_line d)
-  whole =
+  put_whole : put_mid (at + 4) (length a - (at + 4)) a b ≡ sets a (at + 4) (hex_line d)
+  put_whole =
       ap (λ (l : List ℕ). take (at + 4) a ++ (b ++ l)) none
       ∙ ap (λ (l : List ℕ). take (at + 4) a ++ l) (append-nil b ∙ left ∙ ap (λ (l : List ℕ). hex_line d ++ l) (drop-drop (length (hex_line d)) (at + 4) a))
       ∙ sym (append_assoc (take (at + 4) a) (hex_line d) (drop (at + 4 + length (hex_line d)) a))
       ∙ sym (sets-eq (hex_line d) a (at + 4) fits)
 
   pub line_kept : length (put_mid (at + 4) (length a - (at + 4)) a b) ≡ length out
-  line_kept = ap (λ (l : List ℕ). length l) whole ∙ length-sets a (at + 4) (hex_line d) ∙ word.long
+  line_kept = ap (λ (l : List ℕ). length l) put_whole ∙ length-sets a (at + 4) (hex_line d) ∙ word.long
 
   pub line_put : Wrote (sheet_line p) at out (at + 4 + 3 * (length p - 1 - 1)) (put_mid (at + 4) (length a - (at + 4)) a b)
   line_put =
       rw bare
       (wrote_then word (record {
         behind = ap (λ (n : ℕ). at + 4 + n) (sym three);
-        bytes = λ _. whole;
-        long = ap (λ (l : List ℕ). length l) whole ∙ length-sets a (at + 4) (hex_line d);
+        bytes = λ _. put_whole;
+        long = ap (λ (l : List ℕ). length l) put_whole ∙ length-sets a (at + 4) (hex_line d);
       }))
 
 -- ---- the lines: those of the packets from `at` on are still to be written, from `to` on
@@ -160,7 +160,8 @@ taken s to out o h lay = by_packet (read_of s) refl
 
     by_packet : (f : Result Framed Refusal) → read_of s ≡ f → Taken s to out o
     by_packet (Err why) r = absurd (rw (packets_not s why h r) at lay).room
-    by_packet (whole a c e) r = by_rest a c e r (sheet_of (packets_of (drop e s))) refl (rw (packets_then s a c e r) at lay)
+    by_packet (Ok f) r =
+        by_rest f.address f.command f.end r (sheet_of (packets_of (drop f.end s))) refl (rw (packets_then s f.address f.command f.end r) at lay)
 
 module _ (s d : List ℕ) (at to : ℕ) (out o : List ℕ) (h : at < length s) (ed : d ≡ drop at s) (lay : Laying (sheet_of (packets_of (drop at s))) to out o)
     (f : Result Framed Refusal) (r : Promise number_by f (frame_of d)) where
@@ -176,17 +177,17 @@ module _ (s d : List ℕ) (at to : ℕ) (out o : List ℕ) (h : at < length s) (
   pub lines_never : (why : Refusal) → f ≡ Err why → out ≡ o
   lines_never why e = let z : whole took.address took.command took.end ≡ Err why = sym begun ∙ e in impossible cc
 
-  module _ (a : Address) (c n : ℕ) (e : f ≡ whole a c n) (p : List ℕ) (ep : p ≡ take n d) where
-    ends : took.end ≡ n
-    ends = let z : whole took.address took.command took.end ≡ whole a c n = sym begun ∙ e in cc
+  module _ (k : Framed) (e : f ≡ Ok k) (p : List ℕ) (ep : p ≡ take k.end d) where
+    ends : took.end ≡ k.end
+    ends = (whole_parts (sym begun ∙ e)).1.1
 
-    long : (length p ≡ n) × (4 ≤ n)
+    long : (length p ≡ k.end) × (4 ≤ k.end)
     long =
-        let g = framing d a c n (sym r.answer ∙ e) in
-        (ap (λ (l : List ℕ). length l) ep ∙ length-take-le n d g.reaches, omega (arith, g.end))
+        let g = framing d k.address k.command k.end (sym r.answer ∙ e) in
+        (ap (λ (l : List ℕ). length l) ep ∙ length-take-le k.end d g.reaches, omega (arith, g.end))
 
     own : take took.end d ≡ p
-    own = ap (λ (k : ℕ). take k d) ends ∙ sym ep
+    own = ap (λ (n : ℕ). take n d) ends ∙ sym ep
 
     pub line_some : 4 ≤ length p
     line_some = omega (arith, long.0, long.1)
@@ -194,10 +195,10 @@ module _ (s d : List ℕ) (at to : ℕ) (out o : List ℕ) (h : at < length s) (
     pub line_room : to + 3 * length p ≤ length out + 2
     line_room = omega (arith, rw own at took.room, length-append (sheet_line p) took.rest, line_long p line_some)
 
-    pub lines_on : (left : List ℕ) (q : ℕ) → Wrote (sheet_line p) to out q left → Laying (sheet_of (packets_of (drop (at + n) s))) q left o
+    pub lines_on : (left : List ℕ) (q : ℕ) → Wrote (sheet_line p) to out q left → Laying (sheet_of (packets_of (drop (at + k.end) s))) q left o
     lines_on left q w =
-        let i : sheet_of (packets_of (drop (at + n) s)) ≡ made took.rest =
-        ap (λ (l : List ℕ). sheet_of (packets_of l)) (sym (drop-drop n at s) ∙ ap (drop n) (sym ed) ∙ ap (λ (k : ℕ). drop k d) (sym ends)) ∙ took.is in
+        let i : sheet_of (packets_of (drop (at + k.end) s)) ≡ made took.rest =
+        ap (λ (l : List ℕ). sheet_of (packets_of l)) (sym (drop-drop k.end at s) ∙ ap (drop k.end) (sym ed) ∙ ap (λ (n : ℕ). drop n d) (sym ends)) ∙ took.is in
         rw i (laid_on (rw own at took.room) (rw own at took.laid) w)
 
 pub lines_done : (s out o : List ℕ) (at to : ℕ) → length s ≤ at → Laying (sheet_of (packets_of (drop at s))) to out o → out ≡ o

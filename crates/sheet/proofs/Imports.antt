@@ -1,6 +1,6 @@
 -- A sheet, as the code imports it: its answer first, then its packets.
 use Prim.Native.Nat.{ℕ, suc, ◌+◌, ◌/◌, ◌≤◌, ◌<◌}
-use Rattle.std.specs.Prelude.{Option, Some, None, ℕ}
+use Rattle.std.specs.Prelude.{Option, Some, None, ℕ, Result, Ok, Err}
 use mathlib.Core.Bool.{Bool, true, false, cond}
 use mathlib.Core.List.{List, [], ◌∷◌, ◌++◌}
 use mathlib.Core.Path.{◌≡◌, refl, sym, ap, ◌∙◌}
@@ -28,8 +28,8 @@ use Rattle.hexadecimal.specs.Gathering.{gathered}
 use Rattle.sheet.specs.Line.{line_in}
 use Rattle.sheet.specs.Sheet.{Made, made, fault, sheet_packet, on_line, packets_in, most_text, import_refused, import_made, import_of, imported_number}
 use Rattle.sheet.specs.Reading.{read_line, import_behind, import_answer, HasRoom, made_from, sheet_packets}
-use Rattle.sheet.specs.declared.importing.Imported.{Imported}
-use Rattle.sheet.specs.declared.importing.Imported.TheVariants as imported
+use Rattle.sheet.specs.declared.importing.ImportError.{ImportError}
+use Rattle.sheet.specs.declared.importing.ImportError.TheVariants as wrong
 use Rattle.sheet.proofs.Gathers.{gathered_none, Heard, gathered_whole, second}
 use Rattle.sheet.proofs.Laying.{Laying, laid_on}
 use Rattle.sheet.proofs.Said.{Said, line_says, said_some, said_few, packet_says, packet_long}
@@ -42,13 +42,13 @@ line_kept l b m q n g e h =
 
 -- ---- the answer: lines are passed, and their packets have so many bytes
 
-module _ (sheet d l b m : List ℕ) (at passed total room : ℕ) (q : Option ℕ) (t : Imported) (h : at < length sheet) (ed : d ≡ drop at sheet) (el : l ≡ first_line d)
+module _ (sheet d l b m : List ℕ) (at passed total room : ℕ) (q : Option ℕ) (t : Result ℕ ImportError) (h : at < length sheet) (ed : d ≡ drop at sheet) (el : l ≡ first_line d)
     (g : gathered q m ≡ read_line l b) (inv : import_behind passed total room (packets_in (lines_of (drop at sheet))) ≡ t) where
   here : import_behind passed total room (on_line (line_in l) (packets_in (lines_of (drop (at + length l + 1) sheet)))) ≡ t
   unfolding packets_in
   here = rw (lines_next sheet d l at h ed el) at inv
 
-  pub answer_fault : q ≡ None → imported.Fault (passed + 1) ≡ t
+  pub answer_fault : q ≡ None → Err (wrong.Line (passed + 1)) ≡ t
   answer_fault e = rw (gathered_none (line_in l) b (rw e at g)) at here
 
   module _ (n : ℕ) (e : q ≡ Some n) (v : ℕ) (long : length b ≡ 17) (ev : (v ≡ get_or m 1 0 / 16) × (v ≤ 15)) where
@@ -74,19 +74,19 @@ module _ (sheet d l b m : List ℕ) (at passed total room : ℕ) (q : Option ℕ
     pub answer_on : import_behind (passed + 1) (total + (4 + v)) room (packets_in (lines_of (drop (at + length l + 1) sheet))) ≡ t
     answer_on = sym (on (packets_in (lines_of (drop (at + length l + 1) sheet)))) ∙ (rw heard.is at here)
 
-module _ (sheet : List ℕ) (at passed total room : ℕ) (t : Imported) (h : length sheet ≤ at)
+module _ (sheet : List ℕ) (at passed total room : ℕ) (t : Result ℕ ImportError) (h : length sheet ≤ at)
     (inv : import_behind passed total room (packets_in (lines_of (drop at sheet))) ≡ t) where
-  all : cond (ltb room (total + 0)) (imported.Refused Room) (imported.Bytes (total + 0)) ≡ t
+  all : cond (ltb room (total + 0)) (Err (wrong.Refused Room)) (Ok (total + 0)) ≡ t
   unfolding packets_in
   all = rw (drop_of_length-le sheet h) at inv
 
   end : total + 0 ≡ total
   end = omega arith
 
-  pub answer_short : room < total → imported.Refused Room ≡ t
+  pub answer_short : room < total → Err (wrong.Refused Room) ≡ t
   answer_short k = rw (end, lt-ltb room total k) at all
 
-  pub answer_bytes : total ≤ room → imported.Bytes total ≡ t
+  pub answer_bytes : total ≤ room → Ok total ≡ t
   answer_bytes k = rw (end, le-ltb room total k) at all
 
 -- ---- a packet
@@ -163,8 +163,8 @@ answer_made : (m : Made ℕ) (out : List ℕ) → import_answer m (length out) �
 answer_made (fault k) out = rw zero-add
 answer_made (made p) out = rw zero-add (by_room (ltb (length out) (length p)))
   where
-    by_room : (t : Bool) → cond t (imported.Refused Room) (imported.Bytes (length p))
-        ≡ (cond t (import_refused (imported.Refused Room) out) (record { answer = imported.Bytes (length p); left = p ++ drop (length p) out })).answer
+    by_room : (t : Bool) → cond t (Err (wrong.Refused Room)) (Ok (length p))
+        ≡ (cond t (import_refused (Err (wrong.Refused Room)) out) (record { answer = Ok (length p); left = p ++ drop (length p) out })).answer
     by_room true = refl
     by_room false = refl
 
@@ -174,17 +174,17 @@ spared (fault k) out n = refl
 spared (made p) out n = by_room (ltb (length out) (length p)) n
   where
     by_room : (t : Bool)
-        → (imported_number (cond t (import_refused (imported.Refused Room) out) (record { answer = imported.Bytes (length p); left = p ++ drop (length p) out })).answer ≡ done → ⊥)
-        → (cond t (import_refused (imported.Refused Room) out) (record { answer = imported.Bytes (length p); left = p ++ drop (length p) out })).left ≡ out
+        → (imported_number (cond t (import_refused (Err (wrong.Refused Room)) out) (record { answer = Ok (length p); left = p ++ drop (length p) out })).answer ≡ done → ⊥)
+        → (cond t (import_refused (Err (wrong.Refused Room)) out) (record { answer = Ok (length p); left = p ++ drop (length p) out })).left ≡ out
     by_room true n = refl
     by_room false n = absurd (n refl)
 
 -- what is written
-filled : (m : Made ℕ) (out : List ℕ) (n : ℕ) → imported.Bytes n ≡ import_answer m (length out) → HasRoom m 0 (length out) × ((import_made m out).left ≡ made_from m 0 out)
+filled : (m : Made ℕ) (out : List ℕ) (n : ℕ) → Ok n ≡ import_answer m (length out) → HasRoom m 0 (length out) × ((import_made m out).left ≡ made_from m 0 out)
 filled (fault k) out n e = impossible cc
 filled (made p) out n e = by_room (ltb (length out) (0 + length p)) refl e
   where
-    by_room : (t : Bool) → ltb (length out) (0 + length p) ≡ t → imported.Bytes n ≡ cond t (imported.Refused Room) (imported.Bytes (0 + length p))
+    by_room : (t : Bool) → ltb (length out) (0 + length p) ≡ t → Ok n ≡ cond t (Err (wrong.Refused Room)) (Ok (0 + length p))
         → (0 + length p ≤ length out) × ((import_made (made p) out).left ≡ sets out 0 p)
     by_room true k e = impossible cc
     by_room false k e =
@@ -194,11 +194,11 @@ filled (made p) out n e = by_room (ltb (length out) (0 + length p)) refl e
 both : {A B : Type 0} (o : Outcome A B) (a : A) (b : B) → a ≡ o.answer → b ≡ o.left → record { answer = a; left = b } ≡ o
 both o a b e f = rw (e, f)
 
-pub import_long : (s out : List ℕ) → most_text < length s → Lending imported_number (imported.Refused Range) out (import_of s out)
+pub import_long : (s out : List ℕ) → most_text < length s → Lending imported_number (Err (wrong.Refused Range)) out (import_of s out)
 unfolding import_of
 import_long s out h = lent (rw (lt-ltb most_text (length s) h))
 
-module _ (s out : List ℕ) (a : Imported) (h : length s ≤ most_text) (e : a ≡ import_answer (packets_in (lines_of s)) (length out)) where
+module _ (s out : List ℕ) (a : Result ℕ ImportError) (h : length s ≤ most_text) (e : a ≡ import_answer (packets_in (lines_of s)) (length out)) where
   by_made : import_of s out ≡ import_made (packets_in (lines_of s)) out
   unfolding import_of
   by_made = rw (le-ltb most_text (length s) h)
@@ -206,22 +206,26 @@ module _ (s out : List ℕ) (a : Imported) (h : length s ≤ most_text) (e : a �
   answered : a ≡ (import_made (packets_in (lines_of s)) out).answer
   answered = e ∙ answer_made (packets_in (lines_of s)) out
 
-  pub import_refused_lem : (why : Refusal) → a ≡ imported.Refused why → Lending imported_number (imported.Refused why) out (import_of s out)
+  import_refused_lem : (why : Refusal) → a ≡ Err (wrong.Refused why) → Lending imported_number (Err (wrong.Refused why)) out (import_of s out)
   import_refused_lem why f =
-      let z : imported.Refused why ≡ (import_made (packets_in (lines_of s)) out).answer = sym f ∙ answered in
-      lent (both (import_made (packets_in (lines_of s)) out) (imported.Refused why) out z (sym (spared (packets_in (lines_of s)) out (λ k. not_done why (rw (← z) at k)))) ∙ sym by_made)
+      let z : Err (wrong.Refused why) ≡ (import_made (packets_in (lines_of s)) out).answer = sym f ∙ answered in
+      lent (both (import_made (packets_in (lines_of s)) out) (Err (wrong.Refused why)) out z (sym (spared (packets_in (lines_of s)) out (λ k. not_done why (rw (← z) at k)))) ∙ sym by_made)
 
-  pub import_fault : (k : ℕ) → a ≡ imported.Fault k → Lending imported_number (imported.Fault k) out (import_of s out)
+  import_fault : (k : ℕ) → a ≡ Err (wrong.Line k) → Lending imported_number (Err (wrong.Line k)) out (import_of s out)
   import_fault k f =
-      let z : imported.Fault k ≡ (import_made (packets_in (lines_of s)) out).answer = sym f ∙ answered in
-      lent (both (import_made (packets_in (lines_of s)) out) (imported.Fault k) out z (sym (spared (packets_in (lines_of s)) out (λ y. not_done Line (rw (← z) at y)))) ∙ sym by_made)
+      let z : Err (wrong.Line k) ≡ (import_made (packets_in (lines_of s)) out).answer = sym f ∙ answered in
+      lent (both (import_made (packets_in (lines_of s)) out) (Err (wrong.Line k)) out z (sym (spared (packets_in (lines_of s)) out (λ y. not_done Line (rw (← z) at y)))) ∙ sym by_made)
 
-  module _ (n : ℕ) (f : a ≡ imported.Bytes n) where
+  pub import_failed : (why : ImportError) → a ≡ Err why → Lending imported_number (Err why) out (import_of s out)
+  import_failed (wrong.Refused why) f = import_refused_lem why f
+  import_failed (wrong.Line k) f = import_fault k f
+
+  module _ (n : ℕ) (f : a ≡ Ok n) where
     pub import_room : HasRoom (packets_in (lines_of s)) 0 (length out)
     import_room = (filled (packets_in (lines_of s)) out n (sym f ∙ e)).0
 
-    pub import_done : (left : List ℕ) → left ≡ sheet_packets s out → Lending imported_number (imported.Bytes n) left (import_of s out)
+    pub import_done : (left : List ℕ) → left ≡ sheet_packets s out → Lending imported_number (Ok n) left (import_of s out)
     import_done left g =
-        let z : imported.Bytes n ≡ (import_made (packets_in (lines_of s)) out).answer = sym f ∙ answered in
+        let z : Ok n ≡ (import_made (packets_in (lines_of s)) out).answer = sym f ∙ answered in
         let y : left ≡ (import_made (packets_in (lines_of s)) out).left = g ∙ sym (filled (packets_in (lines_of s)) out n (sym f ∙ e)).1 in
-        lent (both (import_made (packets_in (lines_of s)) out) (imported.Bytes n) left z y ∙ sym by_made)
+        lent (both (import_made (packets_in (lines_of s)) out) (Ok n) left z y ∙ sym by_made)

@@ -1,7 +1,7 @@
 -- A list of packets as it is read: one behind the other, nothing lost; what is found is of the form, and conversely.
 use Prim.Native.Nat.{ℕ, zero, suc, ◌+◌, ◌-◌, ◌*◌, ◌≤◌, ◌<◌}
 use Rattle.packet.specs.declared.Framed.{Framed}
-use Rattle.std.specs.Prelude.{Result, Err}
+use Rattle.std.specs.Prelude.{Result, Err, Ok}
 use mathlib.Core.List.{List, [], ◌∷◌, ◌++◌, append-nil}
 use mathlib.Core.Path.{◌≡◌, refl, sym, ap, subst, ◌∙◌}
 use native.Mathlib.Omega.{arith}
@@ -60,10 +60,11 @@ from_formed zero (b ∷ s) = by_packet (read_of (b ∷ s)) refl (λ k. from_form
   where
     by_packet : (f : Result Framed Refusal) → read_of (b ∷ s) ≡ f → ((k : ℕ) → ListForm (drop k s) (packets_from k s)) → ListForm (b ∷ s) (found_by (b ∷ s) f (λ end. packets_from (end - 1) s))
     by_packet (Err why) r rest = not {s = b ∷ s} (omega arith) r
-    by_packet (whole a c e) r rest =
-        let z : suc (e - 1) ≡ e = omega (arith, (read_framing (b ∷ s) a c e r).end) in
+    by_packet (Ok f) r rest =
+        let e = f.end in
+        let z : suc (e - 1) ≡ e = omega (arith, (read_framing (b ∷ s) f.address f.command e r).end) in
         let l : ListForm (drop e (b ∷ s)) (packets_from (e - 1) s) = subst (λ (n : ℕ). ListForm (drop n (b ∷ s)) (packets_from (e - 1) s)) z (rest (e - 1)) in
-        subst (λ (x : List ℕ). ListForm x (packet (take e (b ∷ s)) (packets_from (e - 1) s))) (take-append-drop e (b ∷ s)) (then (own_form (b ∷ s) a c e r) l)
+        subst (λ (x : List ℕ). ListForm x (packet (take e (b ∷ s)) (packets_from (e - 1) s))) (take-append-drop e (b ∷ s)) (then (own_form (b ∷ s) f.address f.command e r) l)
 
 pub list_formed : (s : List ℕ) → ListForm s (packets_of s)
 unfolding packets_of

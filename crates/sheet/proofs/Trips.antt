@@ -1,4 +1,5 @@
 -- There and back: an exported packet imports as itself, and importing and exporting a sheet twice equals once.
+use Rattle.std.specs.Prelude.{Result, Ok, Err}
 use Prim.Native.Nat.{ℕ, ◌+◌, ◌-◌, ◌*◌, ◌/◌, ◌%◌, ◌≤◌, ◌<◌}
 use mathlib.Core.Bool.{Bool, true, false, cond}
 use mathlib.Core.List.{List, [], ◌∷◌, ◌++◌, append_assoc, append-nil}
@@ -31,8 +32,8 @@ use Rattle.sheet.specs.Line.{hex_word, line_in}
 use Rattle.sheet.specs.Sheet.{Made, made, fault, sheet_packet, packets_in, most_text, import_refused, import_made, import_of}
 use Rattle.sheet.specs.Packets.{Found, over, packet, packets_of, bare_of, sheet_line, ahead, sheet_of, export_made, export_of}
 use Rattle.sheet.specs.Form.{NumeralForm, two, NumeralsForm, last, more, SheetForm, end, next, PacketForm, ListForm, none, then, not}
-use Rattle.sheet.specs.declared.importing.Imported.{Imported}
-use Rattle.sheet.specs.declared.importing.Imported.TheVariants as imported
+use Rattle.sheet.specs.declared.importing.ImportError.{ImportError}
+use Rattle.sheet.specs.declared.importing.ImportError.TheVariants as wrong
 use Rattle.sheet.proofs.Said.{Said, line_says, said_some, packet_says}
 use Rattle.sheet.proofs.Lists.{list_formed, form_list}
 use Rattle.sheet.proofs.Forms.{value_form, form_line, sheet_formed}
@@ -185,18 +186,18 @@ packed (next {l = l} {d = d} {p = p} f g) =
 
 -- a sheet within 64 KiB whose packets have room
 import_made_lem : (t p room : List ℕ) → length t ≤ most_text → packets_in (lines_of t) ≡ made p → length p ≤ length room
-    → import_of t room ≡ record { answer = imported.Bytes (length p); left = p ++ drop (length p) room }
+    → import_of t room ≡ record { answer = Ok (length p); left = p ++ drop (length p) room }
 unfolding import_of
 import_made_lem t p room h e k = rw (le-ltb most_text (length t) h, e, le-ltb (length room) (length p) k)
 
 -- "An exported packet imports as itself": so do all of a list
 pub export_import : (s out left : List ℕ) (n : ℕ) → AllBytes s → export_of s out ≡ wrote n left → n ≤ most_text → (room : List ℕ) → length s ≤ length room
-    → import_of (take n left) room ≡ record { answer = imported.Bytes (length s); left = s ++ drop (length s) room }
+    → import_of (take n left) room ≡ record { answer = Ok (length s); left = s ++ drop (length s) room }
 unfolding export_of
 export_import s out left n b e h room k = go (sheet_of (packets_of s)) refl e
   where
     go : (m : Made Refusal) → sheet_of (packets_of s) ≡ m → export_made m out ≡ wrote n left
-        → import_of (take n left) room ≡ record { answer = imported.Bytes (length s); left = s ++ drop (length s) room }
+        → import_of (take n left) room ≡ record { answer = Ok (length s); left = s ++ drop (length s) room }
     go (fault why) r e = absurd (wrote_not why out left n e)
     go (made t) r e =
         import_made_lem (take n left) s room (omega (arith, length-take n left)) (rw (written_wrote t out left n e) (exported_imports s t b r)) k
@@ -207,7 +208,7 @@ pub record Again (p : List ℕ) : Type 0 where
   pub sheet : List ℕ
   pub exports : (out : List ℕ) → export_of p out ≡ written sheet out
   pub twice : length sheet ≤ most_text → (room : List ℕ) → length p ≤ length room
-      → import_of sheet room ≡ record { answer = imported.Bytes (length p); left = p ++ drop (length p) room }
+      → import_of sheet room ≡ record { answer = Ok (length p); left = p ++ drop (length p) room }
 
 again : (p : List ℕ) → Packed p → Again p
 unfolding export_of
@@ -217,31 +218,31 @@ again p k = record {
   twice = λ h room r. import_made_lem k.sheet p room h (lines_import k.list k.small k.sheet k.makes) r;
 }
 
-pub import_again : (s out left : List ℕ) (n : ℕ) → import_of s out ≡ record { answer = imported.Bytes n; left = left } → Again (take n left)
+pub import_again : (s out left : List ℕ) (n : ℕ) → import_of s out ≡ record { answer = Ok n; left = left } → Again (take n left)
 unfolding import_of
 import_again s out left n e = by_length (ltb most_text (length s)) e
   where
     by_room : (p : List ℕ) (t : Bool) → packets_in (lines_of s) ≡ made p
-        → cond t (import_refused (imported.Refused Room) out) (record { answer = imported.Bytes (length p); left = p ++ drop (length p) out }) ≡ record { answer = imported.Bytes n; left = left }
+        → cond t (import_refused (Err (wrong.Refused Room)) out) (record { answer = Ok (length p); left = p ++ drop (length p) out }) ≡ record { answer = Ok n; left = left }
         → Again (take n left)
     by_room p true r e =
-        let z : imported.Refused Room ≡ imported.Bytes n = ap (λ (o : Outcome Imported (List ℕ)). o.answer) e in
+        let z : Err (wrong.Refused Room) ≡ Ok n = ap (λ (o : Outcome (Result ℕ ImportError) (List ℕ)). o.answer) e in
         impossible cc
     by_room p false r e =
-        let z : imported.Bytes (length p) ≡ imported.Bytes n = ap (λ (o : Outcome Imported (List ℕ)). o.answer) e in
-        let y : p ++ drop (length p) out ≡ left = ap (λ (o : Outcome Imported (List ℕ)). o.left) e in
+        let z : Ok (length p) ≡ Ok n = ap (λ (o : Outcome (Result ℕ ImportError) (List ℕ)). o.answer) e in
+        let y : p ++ drop (length p) out ≡ left = ap (λ (o : Outcome (Result ℕ ImportError) (List ℕ)). o.left) e in
         let x : length p ≡ n = cc in
         rw (← y, take_at p (drop (length p) out) n x) (again p (packed (sheet_formed (lines_of s) p r)))
 
-    by_made : (m : Made ℕ) → packets_in (lines_of s) ≡ m → import_made m out ≡ record { answer = imported.Bytes n; left = left } → Again (take n left)
+    by_made : (m : Made ℕ) → packets_in (lines_of s) ≡ m → import_made m out ≡ record { answer = Ok n; left = left } → Again (take n left)
     by_made (made p) r e = by_room p (ltb (length out) (length p)) r e
     by_made (fault k) r e =
-        let z : imported.Fault k ≡ imported.Bytes n = ap (λ (o : Outcome Imported (List ℕ)). o.answer) e in
+        let z : Err (wrong.Line k) ≡ Ok n = ap (λ (o : Outcome (Result ℕ ImportError) (List ℕ)). o.answer) e in
         impossible cc
 
-    by_length : (t : Bool) → cond t (import_refused (imported.Refused Range) out) (import_made (packets_in (lines_of s)) out) ≡ record { answer = imported.Bytes n; left = left }
+    by_length : (t : Bool) → cond t (import_refused (Err (wrong.Refused Range)) out) (import_made (packets_in (lines_of s)) out) ≡ record { answer = Ok n; left = left }
         → Again (take n left)
     by_length true e =
-        let z : imported.Refused Range ≡ imported.Bytes n = ap (λ (o : Outcome Imported (List ℕ)). o.answer) e in
+        let z : Err (wrong.Refused Range) ≡ Ok n = ap (λ (o : Outcome (Result ℕ ImportError) (List ℕ)). o.answer) e in
         impossible cc
     by_length false e = by_made (packets_in (lines_of s)) refl e

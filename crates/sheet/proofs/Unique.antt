@@ -1,7 +1,7 @@
 -- A second result that meets a contract is equal to the first, for each public function; and so is what the lent buffer then holds.
 use mathlib.Core.Path.{◌≡◌, sym, ◌∙◌}
 use Rattle.wire.proofs.OneResult.{OneResult}
-use Rattle.sheet.proofs.importing.Imported.number.Reads as imported-number
+use Rattle.sheet.proofs.importing.number.Reads as imported-number
 use Rattle.sheet.proofs.importing.import.Reads as import
 use Rattle.sheet.proofs.exporting.export.Reads as export
 

@@ -1,5 +1,5 @@
 -- Document 02, requests 1 and 2: packets exported. "Packets stand back to back"; "export writes two capitals".
-use Rattle.std.specs.Prelude.{ℕ, zero, suc, ◌-◌, List, [], ◌∷◌, ◌++◌, length, take, drop, Result, Err}
+use Rattle.std.specs.Prelude.{ℕ, zero, suc, ◌-◌, List, [], ◌∷◌, ◌++◌, length, take, drop, Result, Err, Ok}
 use Rattle.packet.specs.declared.Framed.{Framed}
 use Rattle.wire.specs.Promise.{Outcome}
 use Rattle.wire.specs.declared.refusal.Refusal.{Refusal}
@@ -17,7 +17,7 @@ pub data Found : Type 0 where
 
 -- by what reading says of the first: its own bytes, and what is found from where it ends
 abbrev pub found_by : List ℕ → Result Framed Refusal → (ℕ → Found) → Found
-found_by s (whole a c end) from = packet (take end s) (from end)
+found_by s (Ok f) from = packet (take f.end s) (from f.end)
 found_by s (Err why) from = misread why
 
 -- where k bytes of the packet before are still to come

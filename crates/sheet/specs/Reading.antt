@@ -8,8 +8,8 @@ use Rattle.hexadecimal.specs.Hex.{space}
 use Rattle.hexadecimal.specs.Gathering.{Gathered, read_pairs}
 use Rattle.sheet.specs.declared.line.Numeral.{Numeral}
 use Rattle.sheet.specs.declared.line.Numeral.TheVariants.{Last, More, Bad}
-use Rattle.sheet.specs.declared.importing.Imported.{Imported}
-use Rattle.sheet.specs.declared.importing.Imported.TheVariants as imported
+use Rattle.sheet.specs.declared.importing.ImportError.{ImportError}
+use Rattle.sheet.specs.declared.importing.ImportError.TheVariants as wrong
 use Rattle.sheet.specs.Line.{either_digit, numerals_of, numeral_bytes, right_count, line_in}
 use Rattle.sheet.specs.Sheet.{Made, made, fault, packets_in}
 use Rattle.sheet.specs.Packets.{Found, over, packet, misread, packets_of, sheet_of}
@@ -51,12 +51,12 @@ read_line l out = read_pairs (line_in l) 0 out
 -- ---- lengths
 
 -- behind so many lines, whose packets have n bytes
-abbrev pub import_behind : ℕ → ℕ → ℕ → Made ℕ → Imported
-import_behind passed n room (made p) = cond (ltb room (n + length p)) (imported.Refused Room) (imported.Bytes (n + length p))
-import_behind passed n room (fault k) = imported.Fault (passed + k)
+abbrev pub import_behind : ℕ → ℕ → ℕ → Made ℕ → Result ℕ ImportError
+import_behind passed n room (made p) = cond (ltb room (n + length p)) (Err (wrong.Refused Room)) (Ok (n + length p))
+import_behind passed n room (fault k) = Err (wrong.Line (passed + k))
 
 -- what importing answers, but for a sheet that is too long
-abbrev pub import_answer : Made ℕ → ℕ → Imported
+abbrev pub import_answer : Made ℕ → ℕ → Result ℕ ImportError
 import_answer m room = import_behind 0 0 room m
 
 -- behind n packets that read

@@ -16,19 +16,9 @@ fn count_packets(packets: &[u8]) -> Result<usize, Refusal>
     let mut at = 0;
     let mut count = 0;
     while at < packets.len() {
-        match packet::read(rest(packets, at)) {
-            Err(why) => {
-                return Err(why);
-            }
-            whole {
-                address: _,
-                command: _,
-                end,
-            } => {
-                count += 1;
-                at += end;
-            }
-        }
+        let framed = packet::read(rest(packets, at))?;
+        count += 1;
+        at += framed.end;
     }
     Ok(count)
 }
@@ -40,7 +30,7 @@ fn put_line(out: &mut [u8], at: usize, packet: &[u8]) -> usize
 {
     let n = packet.len() - 1;
     buffer::put(out, at, b"HEX ");
-    hexadecimal::write_line(&packet[1..n], &mut out[at + 4..]);
+    let _ = hexadecimal::write_line(&packet[1..n], &mut out[at + 4..]);
     at + 4 + 3 * (n - 1)
 }
 
@@ -59,13 +49,9 @@ fn put_lines(packets: &[u8], out: &mut [u8])
             Err(_) => {
                 return;
             }
-            whole {
-                address: _,
-                command: _,
-                end,
-            } => {
-                to = put_line(out, to, first(tail, end));
-                at += end;
+            Ok(framed) => {
+                to = put_line(out, to, first(tail, framed.end));
+                at += framed.end;
             }
         }
     }
@@ -75,23 +61,19 @@ fn put_lines(packets: &[u8], out: &mut [u8])
 pub fn export(packets: &[u8], out: &mut [u8]) -> Result<usize, Refusal>
     ensures { Lending number_by result out.new (export_of packets.now out.old) }
 {
-    match count_packets(packets) {
-        Err(why) => Err(why),
-        Ok(count) => {
-            // Each line has three characters for each byte of its packet but two: `HEX` and a space for header and sum.
-            // So a sheet has one for each byte, and twice as many again but for the packets.
-            let room = out.len();
-            let length = packets.len();
-            let more = length - count;
-            if room < length {
-                return Err(Refusal::Room);
-            }
-            if (room - length) / 2 < more {
-                return Err(Refusal::Room);
-            }
-            let total = length + 2 * more;
-            put_lines(packets, out);
-            Ok(total)
-        }
+    let count = count_packets(packets)?;
+    // Each line has three characters for each byte of its packet but two: `HEX` and a space for header and sum.
+    // So a sheet has one for each byte, and twice as many again but for the packets.
+    let room = out.len();
+    let length = packets.len();
+    let more = length - count;
+    if room < length {
+        return Err(Refusal::Room);
     }
+    if (room - length) / 2 < more {
+        return Err(Refusal::Room);
+    }
+    let total = length + 2 * more;
+    put_lines(packets, out);
+    Ok(total)
 }

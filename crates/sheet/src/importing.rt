@@ -3,6 +3,7 @@ ghost use Rattle.std.specs.Prelude.{◌≡◌, ◌+◌, ◌≤◌, length};
 ghost use Rattle.wire.specs.Promise.{Lending};
 ghost use Rattle.buffer.specs.Wrote.{Wrote};
 ghost use Rattle.text.specs.Lines.{lines_of};
+ghost use Rattle.sheet.specs.declared.importing.ImportError.TheVariants.{Refused};
 ghost use Rattle.sheet.specs.Sheet.{sheet_packet, packets_in, most_text, import_of, imported_number};
 ghost use Rattle.sheet.specs.Reading.{import_answer, HasRoom, sheet_packets};
 
@@ -13,29 +14,34 @@ use wire::Refusal;
 // The longest sheet, 64 KiB.
 pub const MOST: usize = 65536;
 
-// What importing a sheet answers: so many bytes of packets; refused; or refused with 14, with the number of the first line at fault, from 1.
+// Why a sheet isn't imported: refused, or refused with 14, with the number of the first line at fault, from 1.
 #[derive(Clone, Copy)]
-pub enum Imported {
-    Bytes(usize),
+pub enum ImportError {
     Refused(Refusal),
-    Fault(usize),
+    Line(usize),
 }
 
-impl Imported {
-    // The paper's number.
-    pub fn number(self) -> u8
-        ensures { result ≡ imported_number self }
-    {
-        match self {
-            Imported::Bytes(_) => wire::DONE,
-            Imported::Refused(why) => why.number(),
-            Imported::Fault(_) => Refusal::Line.number(),
-        }
+impl From<Refusal> for ImportError {
+    ghost from_gives = { λ why e. e ≡ Refused why };
+
+    fn from(why: Refusal) -> ImportError {
+        ImportError::Refused(why)
+    }
+}
+
+// The paper's number of what importing answers.
+pub fn number(imported: Result<usize, ImportError>) -> u8
+    ensures { result ≡ imported_number imported }
+{
+    match imported {
+        Ok(_) => wire::DONE,
+        Err(ImportError::Refused(why)) => why.number(),
+        Err(ImportError::Line(_)) => Refusal::Line.number(),
     }
 }
 
 // What importing answers, found before anything is written: one pass over the text.
-fn import_answer(sheet: &[u8], room: usize) -> Imported
+fn import_answer(sheet: &[u8], room: usize) -> Result<usize, ImportError>
     requires { length sheet.now ≤ most_text }
     ensures { result ≡ import_answer (packets_in (lines_of sheet.now)) room }
 {
@@ -47,7 +53,7 @@ fn import_answer(sheet: &[u8], room: usize) -> Imported
         let line = first_line(rest(sheet, at));
         match read_line(line, &mut bytes) {
             None => {
-                return Imported::Fault(passed + 1);
+                return Err(ImportError::Line(passed + 1));
             }
             Some(_) => {
                 // Header, address, command byte and sum, and as many data bytes as the command byte says.
@@ -58,9 +64,9 @@ fn import_answer(sheet: &[u8], room: usize) -> Imported
         }
     }
     if room < total {
-        return Imported::Refused(Refusal::Room);
+        return Err(ImportError::Refused(Refusal::Room));
     }
-    Imported::Bytes(total)
+    Ok(total)
 }
 
 // The packet of a line's bytes, from `at` on; the position behind it.
@@ -99,18 +105,13 @@ fn put_packets(sheet: &[u8], out: &mut [u8])
 }
 
 // The packets of a sheet, back to back, at the start of `out`, whose rest stays. A refusal leaves it as it stood.
-pub fn import(sheet: &[u8], out: &mut [u8]) -> Imported
+pub fn import(sheet: &[u8], out: &mut [u8]) -> Result<usize, ImportError>
     ensures { Lending imported_number result out.new (import_of sheet.now out.old) }
 {
     if MOST < sheet.len() {
-        return Imported::Refused(Refusal::Range);
+        return Err(ImportError::Refused(Refusal::Range));
     }
-    match import_answer(sheet, out.len()) {
-        Imported::Bytes(n) => {
-            put_packets(sheet, out);
-            Imported::Bytes(n)
-        }
-        Imported::Refused(why) => Imported::Refused(why),
-        Imported::Fault(line) => Imported::Fault(line),
-    }
+    let length = import_answer(sheet, out.len())?;
+    put_packets(sheet, out);
+    Ok(length)
 }

@@ -8,4 +8,4 @@ mod importing;
 mod line;
 
 pub use exporting::export;
-pub use importing::{Imported, MOST, import};
+pub use importing::{ImportError, MOST, import, number};

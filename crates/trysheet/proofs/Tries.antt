@@ -4,7 +4,7 @@ use Rattle.wire.specs.declared.refusal.Refusal.{Refusal}
 use Rattle.wire.specs.Numbers.{number_by}
 use native.Mathlib.Nat.{sub-zero}
 use Rattle.wire.specs.Promise.{Lending}
-use Rattle.sheet.specs.declared.importing.Imported.{Imported}
+use Rattle.sheet.specs.declared.importing.ImportError.{ImportError}
 use Rattle.sheet.specs.Sheet.{import_of, imported_number}
 use Rattle.sheet.specs.Packets.{export_of}
 use Rattle.fields.specs.declared.answer.Answer.{Answer}
@@ -33,7 +33,7 @@ module _ (w : View) (l : List ℕ) (n v : ℕ) (r : Answer) where
   shown_summed e f = rw e f
 
 module _ (w : View) (s out left : List ℕ) (n v : ℕ) (r : Answer) (f : r ≡ trysheet_show w n v left) where
-  pub import_shown_lem : (d : Imported) → Lending imported_number d left (import_of s out) → n ≡ imported_number d → v ≡ import_value d → r ≡ import_into w s out
+  pub import_shown_lem : (d : Result ℕ ImportError) → Lending imported_number d left (import_of s out) → n ≡ imported_number d → v ≡ import_value d → r ≡ import_into w s out
   unfolding import_into
   import_shown_lem d l en ev = rw (f, en, ev, l.answer, l.leaves)
 

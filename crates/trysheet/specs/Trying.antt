@@ -3,8 +3,8 @@ use Rattle.std.specs.Prelude.{ℕ, cond, List, take, drop, Result, Ok, Err}
 use Rattle.wire.specs.declared.refusal.Refusal.{Refusal}
 use Rattle.wire.specs.Numbers.{number_by}
 use Rattle.wire.specs.Promise.{Outcome}
-use Rattle.sheet.specs.declared.importing.Imported.{Imported}
-use Rattle.sheet.specs.declared.importing.Imported.TheVariants as imported
+use Rattle.sheet.specs.declared.importing.ImportError.{ImportError}
+use Rattle.sheet.specs.declared.importing.ImportError.TheVariants as wrong
 use Rattle.sheet.specs.Sheet.{import_of, imported_number}
 use Rattle.sheet.specs.Packets.{export_of}
 use Rattle.fields.specs.declared.answer.Answer.{Answer}
@@ -16,10 +16,10 @@ use Rattle.trysheet.specs.Sums.{sums_of}
 use Rattle.trysheet.specs.Copies.{copied_of, is_copied}
 
 -- "value: the length written; for 0E the line's number from 1; for other refusals 0000"
-abbrev pub import_value : Imported → ℕ
-import_value (imported.Bytes n) = n
-import_value (imported.Refused why) = 0
-import_value (imported.Fault k) = k
+abbrev pub import_value : Result ℕ ImportError → ℕ
+import_value (Ok n) = n
+import_value (Err (wrong.Refused why)) = 0
+import_value (Err (wrong.Line k)) = k
 
 -- "value: the length written, 0000 for a refusal"
 abbrev pub export_value : Result ℕ Refusal → ℕ
@@ -36,7 +36,7 @@ trysheet_show view.Whole n v lent = valued_of n v lent
 trysheet_show view.Summed n v lent = summed_of n v lent
 
 -- a sheet imported into a lent buffer
-abbrev pub import_shown : View → Outcome Imported (List ℕ) → Answer
+abbrev pub import_shown : View → Outcome (Result ℕ ImportError) (List ℕ) → Answer
 import_shown w o = trysheet_show w (imported_number o.answer) (import_value o.answer) o.left
 
 unfoldable pub import_into : View → List ℕ → List ℕ → Answer

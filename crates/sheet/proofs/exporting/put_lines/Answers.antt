@@ -8,8 +8,8 @@ use Rattle.sheet.proofs.exporting.put_lines.Goals as goal
 pub loop-at-init : goal.loop-at-init
 loop-at-init c = (search rules, (refl, record { room = search rules; laid = refl }))
 
-pub returns-in-Refused : goal.returns-in-Refused
-returns-in-Refused c = search lines_never
+pub returns-in-Err : goal.returns-in-Err
+returns-in-Err c = search lines_never
 
 pub put_line-to-requires : goal.put_line-to-requires
 put_line-to-requires c = (search line_some, search line_room)

@@ -8,8 +8,8 @@ use Rattle.sheet.proofs.importing.import_answer.Goals as goal
 pub loop-at-init : goal.loop-at-init
 loop-at-init c = (search rules, (search rules, (search rules, (refl, refl))))
 
-pub returns-in-Malformed : goal.returns-in-Malformed
-returns-in-Malformed c = search answer_fault
+pub returns-in-None : goal.returns-in-None
+returns-in-None c = search answer_fault
 
 pub loop-at-preserved : goal.loop-at-preserved
 loop-at-preserved c = (search next_line, (omega arith, (omega arith, (search line_kept, search answer_on))))

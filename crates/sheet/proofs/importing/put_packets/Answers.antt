@@ -8,8 +8,8 @@ use Rattle.sheet.proofs.importing.put_packets.Goals as goal
 pub loop-at-init : goal.loop-at-init
 loop-at-init c = (search rules, (refl, (refl, record { room = search rules; laid = refl })))
 
-pub returns-in-Malformed : goal.returns-in-Malformed
-returns-in-Malformed c = search packets_never
+pub returns-in-None : goal.returns-in-None
+returns-in-None c = search packets_never
 
 pub slice_bounds-first-end : goal.slice_bounds-first-end
 slice_bounds-first-end c = search (line_kept, rules)

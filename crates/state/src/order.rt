@@ -98,7 +98,8 @@ pub(crate) fn put_order(a: Answer, to: Address, c: Command) -> Answer
     ensures { result ≡ put_order a to c }
 {
     let mut packet = [0; 19];
-    codec::put_packet_to(0, c, &mut packet);
+    // It has room: no packet is longer.
+    let _ = codec::put_packet_to(0, c, &mut packet);
     a.put_all(&[target_kind(to), to.byte(), family(c), packet[2]])
         .put_all(packet::data_part(&packet))
 }

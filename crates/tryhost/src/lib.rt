@@ -17,7 +17,7 @@ use fields::{
 use session::{Session, Step};
 use state::{is_order, is_state, put_state, read_command, read_state, read_target};
 use text::rest;
-use wire::{Group, Individual};
+use wire::{Group, Individual, number};
 
 // What a line makes: its answer, and the session after it.
 #[derive(Clone, Copy)]
@@ -105,8 +105,7 @@ fn is_call(kind: u8, args: &[u8]) -> bool
 fn tried_by(step: Step, lent: &[u8]) -> Tried
     ensures { result ≡ tried_by step lent.now }
 {
-    let end = step.end;
-    with_session(numbered(end.number(), lent), step.session)
+    with_session(numbered(number(step.end), lent), step.session)
 }
 
 // `k group leader`.

@@ -45,16 +45,18 @@ module _ (s : List ℕ) (t : Bool) (r : Answer) (e : t ≡ is_lending s 3 most_r
   not_built y er = rw (sym e ∙ y, er)
 
 -- where a packet ends is a byte
-pub end_small : (s : List ℕ) (f : Result Framed Refusal) (a : Address) (c e : ℕ) → Promise number_by f (read_of s) → f ≡ whole a c e → get_or s 2 0 < 256 → e < 256
-end_small s f a c e p ef h = let k = most_end s a c e (read_says s a c e (sym p.answer ∙ ef)).0 h in omega arith
+pub end_small : (s : List ℕ) (r : Result Framed Refusal) (f : Framed) → Promise number_by r (read_of s) → r ≡ Ok f → get_or s 2 0 < 256 → f.end < 256
+end_small s r f p e h =
+    let k = most_end s f.address f.command f.end (read_says s f.address f.command f.end (sym p.answer ∙ e)).0 h in
+    omega arith
 
 module _ (s : List ℕ) (f : Result Framed Refusal) (n : ℕ) (x₀ x₁ : Answer) (p : Promise number_by f (read_of s)) (en : n ≡ number_by f)
     (e₀ : x₀ ≡ fields_nothing) (e₁ : x₁ ≡ answer_put x₀ n) where
   -- the end and the parts of a packet
-  pub read_whole : (a : Address) (c e b : ℕ) (x₂ x₃ x₄ r : Answer) (d : List ℕ) → f ≡ whole a c e → x₂ ≡ answer_put x₁ e → b ≡ byte_of a → x₃ ≡ answer_put x₂ b
-      → x₄ ≡ answer_put x₃ c → d ≡ data_part s → r ≡ answer_put_all x₄ d → r ≡ trypacket_read s
+  pub read_whole : (g : Framed) (b : ℕ) (x₂ x₃ x₄ r : Answer) (d : List ℕ) → f ≡ Ok g → x₂ ≡ answer_put x₁ g.end → b ≡ byte_of g.address → x₃ ≡ answer_put x₂ b
+      → x₄ ≡ answer_put x₃ g.command → d ≡ data_part s → r ≡ answer_put_all x₄ d → r ≡ trypacket_read s
   unfolding trypacket_read answer_put_all
-  read_whole a c e b x₂ x₃ x₄ r d ef e₂ eb e₃ e₄ ed er = rw (sym p.answer ∙ ef, er, ed, e₄, e₃, eb, e₂, e₁, e₀, en, ef)
+  read_whole g b x₂ x₃ x₄ r d ef e₂ eb e₃ e₄ ed er = rw (sym p.answer ∙ ef, er, ed, e₄, e₃, eb, e₂, e₁, e₀, en, ef)
 
   -- the refusal alone
   pub read_refused : (why : Refusal) → f ≡ Err why → x₁ ≡ trypacket_read s

@@ -6,7 +6,7 @@ use Rattle.wire.specs.Promise.{Outcome}
 use Rattle.wire.specs.Numbers.{done, number_of, number_by}
 use Rattle.wire.specs.Address.{byte_of}
 use Rattle.wire.specs.declared.kind.Kind.{Kind}
-use Rattle.packet.specs.Packet.{read_of, data_part, whole}
+use Rattle.packet.specs.Packet.{read_of, data_part}
 use Rattle.packet.specs.Build.{build_of}
 use Rattle.status.specs.Status.{items_part}
 use Rattle.mask.specs.Mask.{mask_read}
@@ -30,7 +30,7 @@ trypacket_build s = cond (is_lending s 3 most_room) (build_into s (take (room_of
 
 -- what reading a packet shows: where it ends and its parts, or the refusal
 abbrev pub parts_shown : List ℕ → Result Framed Refusal → Answer
-parts_shown s (whole a c e) = numbered_of done (e ∷ byte_of a ∷ c ∷ data_part s)
+parts_shown s (Ok f) = numbered_of done (f.end ∷ byte_of f.address ∷ f.command ∷ data_part s)
 parts_shown s (Err why) = numbered_of (number_of why) []
 
 -- "`11 bytes..` read a packet: `00 end address command data..`, else `NN`"

@@ -11,14 +11,14 @@ use fields::{
     room,
 };
 use text::rest;
-use wire::Kind;
+use wire::{Kind, number};
 
 // Builds a packet in what a line lends, and shows all of that.
 fn build_into(args: &[u8], lent: &mut [u8]) -> Answer
     ensures { result ≡ build_into args.now lent.old }
 {
     let built = packet::build(byte(args, 1), byte(args, 2), rest(args, 3), lent);
-    numbered(built.number(), lent)
+    numbered(number(built), lent)
 }
 
 // `room address command data..`: `NN buffer`.
@@ -38,16 +38,12 @@ pub fn read(args: &[u8]) -> Answer
     ensures { result ≡ trypacket_read args.now }
 {
     let found = packet::read(args);
-    let answer = nothing().put(found.number());
+    let answer = nothing().put(number(found));
     match found {
-        whole {
-            address,
-            command,
-            end,
-        } => answer
-            .put(end as u8)
-            .put(address.byte())
-            .put(command)
+        Ok(framed) => answer
+            .put(framed.end as u8)
+            .put(framed.address.byte())
+            .put(framed.command)
             .put_all(packet::data_part(args)),
         Err(_) => answer,
     }
@@ -58,7 +54,7 @@ fn read_under(kind: Kind, mask: u8, s: &[u8]) -> Answer
     ensures { result ≡ read_under kind mask s.now }
 {
     let found = mask::read(kind, s, mask);
-    let answer = nothing().put(found.number());
+    let answer = nothing().put(number(found));
     match found {
         Ok(first) => answer.put(first).put_all(status::items_part(s)),
         Err(_) => answer,

@@ -14,9 +14,10 @@ use fields::{
     Answer, MOST_TRIPLE_ROOM, MOST_WORD_ROOM, filled_triple, filled_word, is_lending, malformed,
     nothing, room, valued,
 };
-use sheet::Imported;
+use sheet::ImportError;
 use sums::sums_of;
 use text::{first, rest};
+use wire::Refusal;
 
 // The longest text in copies: some above the 64 KiB of a sheet, so that a longer one can be tried.
 const MOST_TEXT: usize = 69632;
@@ -32,13 +33,13 @@ enum View {
 }
 
 // The length written, the number of the line at fault, or 0.
-fn import_value(done: Imported) -> usize
+fn import_value(done: Result<usize, ImportError>) -> usize
     ensures { result ≡ import_value done }
 {
     match done {
-        Imported::Bytes(n) => n,
-        Imported::Refused(_) => 0,
-        Imported::Fault(line) => line,
+        Ok(n) => n,
+        Err(ImportError::Refused(_)) => 0,
+        Err(ImportError::Line(line)) => line,
     }
 }
 
@@ -46,10 +47,7 @@ fn import_value(done: Imported) -> usize
 fn export_value(done: Result<usize, Refusal>) -> usize
     ensures { result ≡ export_value done }
 {
-    match done {
-        Ok(n) => n,
-        Err(_) => 0,
-    }
+    done.unwrap_or(0)
 }
 
 // `NN value(3) SUMS`.
@@ -79,7 +77,7 @@ fn import_into(view: View, sheet: &[u8], lent: &mut [u8]) -> Answer
     ensures { result ≡ import_into view sheet.now lent.old }
 {
     let done = sheet::import(sheet, lent);
-    show(view, done.number(), import_value(done), lent)
+    show(view, sheet::number(done), import_value(done), lent)
 }
 
 // Exports packets into what a line lends.
@@ -87,7 +85,7 @@ fn export_into(view: View, packets: &[u8], lent: &mut [u8]) -> Answer
     ensures { result ≡ export_into view packets.now lent.old }
 {
     let done = sheet::export(packets, lent);
-    show(view, done.number(), export_value(done), lent)
+    show(view, wire::number(done), export_value(done), lent)
 }
 
 // `room(2) text..`: `NN value(2) buffer`.

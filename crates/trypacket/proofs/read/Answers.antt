@@ -2,11 +2,11 @@
 use Rattle.trypacket.proofs.Trials.{end_small, read_whole, read_refused}
 use Rattle.trypacket.proofs.read.Goals as goal
 
-pub overflow_cast-end : goal.overflow_cast-end
-overflow_cast-end c = search (end_small, c.shared_slice_known-1.given 2)
+pub overflow_cast-framed : goal.overflow_cast-framed
+overflow_cast-framed c = search (end_small, c.shared_slice_known-1.given 2)
 
-pub returns-in-Whole : goal.returns-in-Whole
-returns-in-Whole c = search read_whole
+pub returns-in-Ok : goal.returns-in-Ok
+returns-in-Ok c = search read_whole
 
-pub returns-in-Refused : goal.returns-in-Refused
-returns-in-Refused c = search read_refused
+pub returns-in-Err : goal.returns-in-Err
+returns-in-Err c = search read_refused

@@ -2,8 +2,8 @@
 use Rattle.trypacket.proofs.Trials.{under_whole, under_refused}
 use Rattle.trypacket.proofs.read_under.Goals as goal
 
-pub returns-in-Whole : goal.returns-in-Whole
-returns-in-Whole c = search under_whole
+pub returns-in-Ok : goal.returns-in-Ok
+returns-in-Ok c = search under_whole
 
-pub returns-in-Refused : goal.returns-in-Refused
-returns-in-Refused c = search under_refused
+pub returns-in-Err : goal.returns-in-Err
+returns-in-Err c = search under_refused

@@ -13,7 +13,7 @@ ghost use Rattle.command.specs.Ranges.{place_fits, gains_fit, value_fits, positi
 use wire::{Group, Individual, Kind};
 
 // Where a node stands: its individual address, its group, and whether it leads that group.
-#[derive(Clone, Copy)]
+#[derive(Clone, Copy, PartialEq, Eq)]
 pub struct Place {
     pub address: Individual,
     pub group: Group,
@@ -21,14 +21,14 @@ pub struct Place {
 }
 
 // The two PWM output values.
-#[derive(Clone, Copy)]
+#[derive(Clone, Copy, PartialEq, Eq)]
 pub struct Pwm {
     pub first: u8,
     pub second: u8,
 }
 
 // What Set Synch Output stores and Synch Output copies.
-#[derive(Clone, Copy)]
+#[derive(Clone, Copy, PartialEq, Eq)]
 pub struct Held {
     pub outputs: u16,
     pub pwm: Pwm,
@@ -36,7 +36,7 @@ pub struct Held {
 
 // What Set Gain stores, by the manual's names: the gains KP, KD, KI and the integration limit IL, the error limit EL, the output limit OL,
 // the servo rate divisor SR, the deadband compensation DB.
-#[derive(Clone, Copy)]
+#[derive(Clone, Copy, PartialEq, Eq)]
 pub struct Gains {
     pub kp: u16,
     pub kd: u16,
@@ -49,7 +49,7 @@ pub struct Gains {
 }
 
 // How a drive is to move: what Load Trajectory loads and Start Motion starts. A position is signed: 32 bits, two's complement, as it is sent.
-#[derive(Clone, Copy)]
+#[derive(Clone, Copy, PartialEq, Eq)]
 pub struct Motion {
     pub position: u32,
     pub velocity: u32,
@@ -59,14 +59,14 @@ pub struct Motion {
 }
 
 // What Stop Motor brings: the stop byte and, if its bit 4 says so, the position to stop at.
-#[derive(Clone, Copy)]
+#[derive(Clone, Copy, PartialEq, Eq)]
 pub struct Stop {
     pub position: u32,
     pub byte: u8,
 }
 
 // A match on it has an arm for each case, and no `_`, which would leave a proof only the number of the case.
-#[derive(Clone, Copy)]
+#[derive(Clone, Copy, PartialEq, Eq)]
 pub enum Command {
     SetAddress(Place),
     DefineStatus(u8),
@@ -88,7 +88,7 @@ pub enum Command {
 }
 
 // What a command is beside its data. Whoever treats some commands alike asks for their role, so that a new command is one row of `role`.
-#[derive(Clone, Copy)]
+#[derive(Clone, Copy, PartialEq, Eq)]
 pub enum Role {
     // Stores its data or copies what is held or waits, and no more.
     Plain,
@@ -109,7 +109,7 @@ pub enum Role {
 }
 
 // Who has a command: both kinds of node, or one alone.
-#[derive(Clone, Copy)]
+#[derive(Clone, Copy, PartialEq, Eq)]
 pub enum Owner {
     Both,
     Gate,
@@ -280,7 +280,7 @@ impl Role {
 }
 
 // What a control byte says: which values it brings, by bits 0 to 3, and whether the motion starts at once, by bit 7.
-#[derive(Clone, Copy)]
+#[derive(Clone, Copy, PartialEq, Eq)]
 pub struct Loads {
     pub position: bool,
     pub velocity: bool,

@@ -7,7 +7,7 @@ use command::{Command, Loads, Motion};
 use node::DriveSettings;
 
 // Which values of a motion are known, each by itself.
-#[derive(Clone, Copy)]
+#[derive(Clone, Copy, PartialEq, Eq)]
 pub struct MotionKnown {
     pub control: bool,
     pub position: bool,
@@ -17,7 +17,7 @@ pub struct MotionKnown {
 }
 
 // Which of a drive's own settings are known; the others are in doubt.
-#[derive(Clone, Copy)]
+#[derive(Clone, Copy, PartialEq, Eq)]
 pub struct DriveKnown {
     pub gains: bool,
     pub stop: bool,

@@ -7,7 +7,7 @@ use command::Command;
 use node::GateSettings;
 
 // Which of a gate's own settings are known; the others are in doubt.
-#[derive(Clone, Copy)]
+#[derive(Clone, Copy, PartialEq, Eq)]
 pub struct GateKnown {
     pub outputs: bool,
     pub pwm: bool,

@@ -19,7 +19,7 @@ use status::Answer;
 use wire::Kind;
 
 // Which of the settings are known, in the parts that settings have; the others are in doubt.
-#[derive(Clone, Copy)]
+#[derive(Clone, Copy, PartialEq, Eq)]
 pub struct Known {
     pub place: bool,
     pub mask: bool,
@@ -29,7 +29,7 @@ pub struct Known {
 }
 
 // A setting in doubt shows its last known value. The settings of the other kind are of no use, and are not shown.
-#[derive(Clone, Copy)]
+#[derive(Clone, Copy, PartialEq, Eq)]
 pub struct Entry {
     pub settings: Settings,
     pub known: Known,
@@ -38,7 +38,7 @@ pub struct Entry {
 
 // What a command is to the node. Misses: it doesn't go there. Hits: it goes there, and a reply to it is this node's own.
 // May: it went to a group that the node isn't known to lead; the node may be written, and no reply tells whether it was.
-#[derive(Clone, Copy)]
+#[derive(Clone, Copy, PartialEq, Eq)]
 pub enum Reach {
     Misses,
     Hits,

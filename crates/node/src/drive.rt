@@ -7,7 +7,7 @@ use command::{Command, Gains, Loads, Motion};
 use message::Message;
 
 // What a drive has of its own: gains, stop byte, and the motion that waits for Start Motion and the one in force.
-#[derive(Clone, Copy)]
+#[derive(Clone, Copy, PartialEq, Eq)]
 pub struct DriveSettings {
     pub waiting: Motion,
     pub in_force: Motion,

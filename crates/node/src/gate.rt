@@ -7,7 +7,7 @@ use command::{Command, Held, Pwm};
 use message::Message;
 
 // What a gate has of its own.
-#[derive(Clone, Copy)]
+#[derive(Clone, Copy, PartialEq, Eq)]
 pub struct GateSettings {
     pub outputs: u16,
     pub held: Held,

@@ -11,7 +11,7 @@ use message::Message;
 use wire::{Group, Individual, Kind};
 
 // The settings: every node's place, mask and divisor, and what its kind has of its own. A node has no use for the other kind's, and leaves them as they are.
-#[derive(Clone, Copy)]
+#[derive(Clone, Copy, PartialEq, Eq)]
 pub struct Settings {
     pub drive: DriveSettings,
     pub gate: GateSettings,
@@ -22,7 +22,7 @@ pub struct Settings {
 
 // What the bench sets and no command changes: a gate's inputs, counter and analog values; a drive's home position, velocity, position error, A/D value
 // and auxiliary status; either's device ID and version.
-#[derive(Clone, Copy)]
+#[derive(Clone, Copy, PartialEq, Eq)]
 pub struct Bench {
     pub counter: u32,
     pub home: u32,
@@ -39,7 +39,7 @@ pub struct Bench {
 }
 
 // The inputs and the counter as Synch Input found them.
-#[derive(Clone, Copy)]
+#[derive(Clone, Copy, PartialEq, Eq)]
 pub struct Captured {
     pub counter: u32,
     pub inputs: u16,

@@ -3,15 +3,15 @@ ghost use Rattle.std.specs.Prelude.{◌≡◌};
 ghost use Rattle.wire.specs.Address.{address_of, byte_of, in_range, individual_in_range, group_in_range};
 
 // An individual address, 0x00 to 0x7F.
-#[derive(Clone, Copy)]
+#[derive(Clone, Copy, PartialEq, Eq)]
 pub struct Individual(pub u8);
 
 // A group address, 0x80 to 0xFF.
-#[derive(Clone, Copy)]
+#[derive(Clone, Copy, PartialEq, Eq)]
 pub struct Group(pub u8);
 
 // What an address byte names.
-#[derive(Clone, Copy)]
+#[derive(Clone, Copy, PartialEq, Eq)]
 pub enum Address {
     Individual(Individual),
     Group(Group),

@@ -1,4 +1,3 @@
 pub mod Roles
 pub mod Lists
-mod Fitting
 pub mod Unique

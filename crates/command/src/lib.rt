@@ -65,7 +65,6 @@ pub struct Stop {
     pub byte: u8,
 }
 
-// A match on it has an arm for each case, and no `_`, which would leave a proof only the number of the case.
 #[derive(Clone, Copy, PartialEq, Eq)]
 pub enum Command {
     SetAddress(Place),
@@ -117,7 +116,7 @@ pub enum Owner {
 }
 
 impl Command {
-    // The one table of roles.
+    // The one table of roles: a row for each command and no `_`, so that a new one has to be given its own.
     pub fn role(self) -> Role
         ensures { result ≡ role_of self }
     {
@@ -142,7 +141,7 @@ impl Command {
         }
     }
 
-    // The one table of who has which command.
+    // The one table of who has which command, likewise a row for each.
     pub fn owner(self) -> Owner
         ensures { result ≡ owner_of self }
     {
@@ -173,22 +172,10 @@ impl Command {
     {
         match self {
             Command::SetAddress(place) => place_fits(place),
-            Command::DefineStatus(_) => true,
-            Command::ReadStatus(_) => true,
-            Command::SetPwm(_) => true,
-            Command::SynchOutput => true,
-            Command::SetOutputs(_) => true,
-            Command::SetSynchOutput(_) => true,
-            Command::SetTimerMode(_) => true,
-            Command::SetBaudRate(_) => true,
-            Command::SynchInput => true,
-            Command::Nop => true,
-            Command::HardReset => true,
-            Command::ResetPosition => true,
             Command::LoadTrajectory(motion) => motion_fits(motion),
-            Command::StartMotion => true,
             Command::SetGain(gains) => gains_fit(gains),
             Command::StopMotor(stop) => stop_fits(stop),
+            _ => true,
         }
     }
 }
@@ -205,12 +192,15 @@ pub fn has(kind: Kind, c: Command) -> bool
 }
 
 // Whether a kind's manual lists a divisor: four that both list, and four of the LS-773's alone.
+#[tactic(auto, unfolding(crate::specs::Divisors::is_listed))]
 pub fn is_listed(kind: Kind, divisor: u8) -> bool
     ensures { result ≡ is_listed kind divisor }
 {
-    let both = (divisor == 0x81) | (divisor == 0x3F) | (divisor == 0x14) | (divisor == 0x0A);
-    let gate = (divisor == 0x27) | (divisor == 0x0F) | (divisor == 0x07) | (divisor == 0x03);
-    both | (kind.is_gate() & gate)
+    match divisor {
+        0x81 | 0x3F | 0x14 | 0x0A => true,
+        0x27 | 0x0F | 0x07 | 0x03 => kind.is_gate(),
+        _ => false,
+    }
 }
 
 impl Role {
@@ -218,64 +208,28 @@ impl Role {
     pub fn is_placing(self) -> bool
         ensures { result ≡ is_placing self }
     {
-        match self {
-            Role::Places(_) => true,
-            Role::Paces(_) => false,
-            Role::Plain => false,
-            Role::Masks(_) => false,
-            Role::Captures => false,
-            Role::Zeroes => false,
-            Role::Idles => false,
-            Role::Resets => false,
-        }
+        matches!(self, Role::Places(_))
     }
 
     // Set Baud Rate: sent by a call of its own alone, and acted on only where it came to the node's group.
     pub fn is_pacing(self) -> bool
         ensures { result ≡ is_pacing self }
     {
-        match self {
-            Role::Paces(_) => true,
-            Role::Plain => false,
-            Role::Places(_) => false,
-            Role::Masks(_) => false,
-            Role::Captures => false,
-            Role::Zeroes => false,
-            Role::Idles => false,
-            Role::Resets => false,
-        }
+        matches!(self, Role::Paces(_))
     }
 
     // Nop: what "ask" sends.
     pub fn is_nop(self) -> bool
         ensures { result ≡ is_nop self }
     {
-        match self {
-            Role::Idles => true,
-            Role::Plain => false,
-            Role::Places(_) => false,
-            Role::Paces(_) => false,
-            Role::Masks(_) => false,
-            Role::Captures => false,
-            Role::Zeroes => false,
-            Role::Resets => false,
-        }
+        matches!(self, Role::Idles)
     }
 
     // Hard Reset: it is not answered, and closes the host's session.
     pub fn is_reset(self) -> bool
         ensures { result ≡ is_reset self }
     {
-        match self {
-            Role::Resets => true,
-            Role::Plain => false,
-            Role::Places(_) => false,
-            Role::Paces(_) => false,
-            Role::Masks(_) => false,
-            Role::Captures => false,
-            Role::Zeroes => false,
-            Role::Idles => false,
-        }
+        matches!(self, Role::Resets)
     }
 }
 
@@ -323,17 +277,15 @@ const MOST_ERROR: u16 = 0x3FFF;
 fn place_fits(p: Place) -> bool
     ensures { result ≡ place_fits p }
 {
-    let address = p.address;
-    let group = p.group;
-    address.in_range() & group.in_range()
+    p.address.in_range() && p.group.in_range()
 }
 
 // Whether gains are of their ranges; OL and DB may be any byte.
 fn gains_fit(g: Gains) -> bool
     ensures { result ≡ gains_fit g }
 {
-    let gains = (g.kp <= MOST_GAIN) & (g.kd <= MOST_GAIN) & (g.ki <= MOST_GAIN);
-    gains & (g.il <= MOST_GAIN) & (g.el <= MOST_ERROR) & (1 <= g.sr)
+    let terms = g.kp <= MOST_GAIN && g.kd <= MOST_GAIN && g.ki <= MOST_GAIN;
+    terms && g.il <= MOST_GAIN && g.el <= MOST_ERROR && 1 <= g.sr
 }
 
 // Whether a position is of its range, -0x7FFFFFFF to 0x7FFFFFFF: two's complement has one number more.
@@ -347,10 +299,7 @@ fn position_fits(position: u32) -> bool
 fn value_fits(brought: bool, fits: bool, value: u32) -> bool
     ensures { result ≡ value_fits brought fits value }
 {
-    if brought {
-        return fits;
-    }
-    value == 0
+    if brought { fits } else { value == 0 }
 }
 
 // Whether what a control byte brings is of its ranges.
@@ -359,13 +308,13 @@ fn motion_fits(m: Motion) -> bool
 {
     let l = Loads::of(m.control);
     value_fits(l.position, position_fits(m.position), m.position)
-        & value_fits(l.velocity, m.velocity <= MOST_MOTION, m.velocity)
-        & value_fits(
+        && value_fits(l.velocity, m.velocity <= MOST_MOTION, m.velocity)
+        && value_fits(
             l.acceleration,
             m.acceleration <= MOST_MOTION,
             m.acceleration,
         )
-        & value_fits(l.pwm, true, m.pwm as u32)
+        && value_fits(l.pwm, true, m.pwm as u32)
 }
 
 // Whether a stop byte has no reserved bit and at most one of bits 1 to 4, and the position that it brings is of its range.
@@ -374,5 +323,5 @@ fn stop_fits(s: Stop) -> bool
 {
     let b = s.byte;
     let chosen = b / 2 % 2 + b / 4 % 2 + b / 8 % 2 + b / 16 % 2;
-    (b < 0x20) & (chosen <= 1) & value_fits(is_stop_here(b), position_fits(s.position), s.position)
+    b < 0x20 && chosen <= 1 && value_fits(is_stop_here(b), position_fits(s.position), s.position)
 }

@@ -1,14 +1,11 @@
 -- The table of effects, part by part as the code has it: what each part becomes needs no other part.
 use Prim.Native.Nat.{ℕ}
-use mathlib.Core.Bool.{Bool, true, false, cond, ◌||◌, true≢false}
+use mathlib.Core.Bool.{Bool, true, false, cond, true≢false}
 use mathlib.Core.Path.{◌≡◌, refl, sym, ap, ◌∙◌}
-use lib.Dec.{leb}
-use Rattle.wire.specs.Kind.{is_gate}
 use Rattle.wire.specs.declared.kind.Kind.{Kind}
 use Rattle.wire.specs.declared.kind.Kind.TheVariants.{Gate, Drive}
 use Rattle.command.specs.declared.Place.{Place}
 use Rattle.command.specs.declared.Motion.{Motion}
-use Rattle.command.specs.declared.Loads.{Loads}
 use Rattle.command.specs.declared.Command.{Command}
 use Rattle.command.specs.declared.Command.TheVariants.{SetAddress, DefineStatus, ReadStatus, SetPwm, SynchOutput, SetOutputs, SetSynchOutput, SetTimerMode, SetBaudRate, SynchInput, Nop, HardReset, ResetPosition, LoadTrajectory, StartMotion, SetGain, StopMotor}
 use Rattle.command.specs.declared.Role.{Role}
@@ -21,28 +18,15 @@ use Rattle.message.specs.declared.Message.TheVariants.{Intact, Other, Spoilt}
 use Rattle.node.specs.declared.gate.GateSettings.{GateSettings}
 use Rattle.node.specs.declared.drive.DriveSettings.{DriveSettings}
 use Rattle.node.specs.declared.state.Settings.{Settings}
-use Rattle.node.specs.declared.state.Bench.{Bench}
 use Rattle.node.specs.declared.state.Captured.{Captured}
 use Rattle.node.specs.declared.state.Node.{Node}
 use Rattle.node.specs.Setting.{MotionPart, Setting, place, mask, divisor, gate, drive, waiting, Value, get_motion, make_motion, make_drive, make_gate, get}
-use Rattle.node.specs.Effect.{Effect, keeps, stores, settings_power_up, divisor_up, place_power_up, gate_power_up, drive_power_up, brings, starting, effect, applied, settings_after, own_after}
-use Rattle.node.specs.Node.{power_up, nothing, does_heed, addressed_after, captured_after, position_after, act_as, take_as, take_of, mask_after, shown_of}
+use Rattle.node.specs.Effect.{Effect, keeps, stores, brings, starting, effect, applied, settings_after, own_after}
+use Rattle.node.specs.Node.{does_heed, addressed_after, captured_after, position_after, act_as, take_as}
 use Rattle.node.specs.Parts.{message_role, with_drive, gate_after, drive_after, gate_take, drive_take, heeded_role, load_of, loaded_of, place_by, divisor_by, mask_by, mask_take}
 use Rattle.node.proofs.Laws.{place_effect, place_effect_lem, divisor_effect, divisor_effect_lem}
 
 -- ---- a load
-
-pub load_made : (m old : Motion) (l : Loads) (p v a w : ℕ) → l ≡ loads_of m.control → p ≡ cond l.position m.position old.position
-    → v ≡ cond l.velocity m.velocity old.velocity → a ≡ cond l.acceleration m.acceleration old.acceleration → w ≡ cond l.pwm m.pwm old.pwm
-    → record { position = p; velocity = v; acceleration = a; control = m.control; pwm = w } ≡ load_of m old
-load_made m old l p v a w el ep ev ea ew = rw (ep, ev, ea, ew, el)
-
-module _ (m : Motion) (s : DriveSettings) (w : Motion) (l : Loads) (ew : w ≡ load_of m s.waiting) (el : l ≡ loads_of m.control) where
-  pub loaded_started : l.starts ≡ true → record { waiting = w; in_force = w; gains = s.gains; stop = s.stop } ≡ loaded_of m s
-  loaded_started h = rw (ew, sym (ap (λ (x : Loads). x.starts) el) ∙ h)
-
-  pub loaded_waits : l.starts ≡ false → record { waiting = w; in_force = s.in_force; gains = s.gains; stop = s.stop } ≡ loaded_of m s
-  loaded_waits h = rw (ew, sym (ap (λ (x : Loads). x.starts) el) ∙ h)
 
 -- one value, stored or kept; stored or copied
 stored_or_kept : (s : Setting) (b : Bool) (v : Value s) (x : Settings) → cond b v (get x s) ≡ applied {s = s} (cond b (stores v) keeps) x
@@ -152,16 +136,6 @@ divisor_role Resets x = refl
 divisor_part : (c : Command) (x : Settings) → divisor_by (role_of c) x.divisor ≡ applied (effect c divisor) x
 divisor_part c x = divisor_role (role_of c) x ∙ ap (λ (e : Effect divisor). applied e x) (sym (divisor_effect_lem c))
 
--- in each arm the command is known
-pub told_gate : (c d : Command) (x r : GateSettings) → c ≡ d → r ≡ gate_after d x → r ≡ gate_after c x
-told_gate c d x r e h = h ∙ sym (ap (λ (k : Command). gate_after k x) e)
-
-pub told_drive : (c d : Command) (x r : DriveSettings) → c ≡ d → r ≡ drive_after d x → r ≡ drive_after c x
-told_drive c d x r e h = h ∙ sym (ap (λ (k : Command). drive_after k x) e)
-
-pub told_load : (c : Command) (m : Motion) (x r : DriveSettings) → c ≡ LoadTrajectory m → r ≡ loaded_of m x → r ≡ drive_after c x
-told_load c m x r e h = h ∙ loads m (with_drive x) ∙ sym (ap (λ (k : Command). drive_after k x) e)
-
 -- ---- all parts
 
 module _ (c : Command) (x : Settings) (role : Role) (p : Place) (k v : ℕ) (er : role ≡ role_of c) (ep : p ≡ place_by role x.place) (ek : k ≡ mask_by c x.mask)
@@ -185,15 +159,7 @@ module _ (c : Command) (x : Settings) (role : Role) (p : Place) (k v : ℕ) (er 
   drive_own_lem : (d : DriveSettings) → d ≡ drive_after c x.drive → record { drive = d; gate = x.gate; place = p; mask = k; divisor = v } ≡ own_after Drive c x
   drive_own_lem d ed = λ i. record { drive = (ed ∙ drive_part c x) i; gate = x.gate; place = placed i; mask = masked i; divisor = paced i }
 
-pub settings_up : (d : DriveSettings) (g : GateSettings) (p : Place) → d ≡ drive_power_up → g ≡ gate_power_up → p ≡ place_power_up
-    → record { drive = d; gate = g; place = p; mask = 0; divisor = divisor_up } ≡ settings_power_up
-settings_up d g p ed eg ep = rw (ed, eg, ep)
-
 -- ---- the node
-
-pub node_up : (k : Kind) (b : Bench) (s : Settings) (c : Captured) → s ≡ settings_power_up → c ≡ nothing
-    → record { settings = s; bench = b; captured = c; position = 0; addressed = false; kind = k } ≡ power_up k b
-node_up k b s c e f = rw (e, f)
 
 heeds_all : (r : Role) → does_heed Gate r ≡ true
 heeds_all Plain = refl
@@ -204,22 +170,6 @@ heeds_all Captures = refl
 heeds_all Zeroes = refl
 heeds_all Idles = refl
 heeds_all Resets = refl
-
-pub heeds_place : (k : Kind) (role : Role) (p : Place) (b : Bool) → role ≡ Places p → b ≡ is_gate k → (b || leb 1 p.address.0) ≡ does_heed k role
-heeds_place k role p b e h = rw (e, h)
-
-pub told_role : (h : Message) (c : Command) (r : Role) → h ≡ Intact c → r ≡ role_of c → r ≡ message_role h
-told_role h c r e p = p ∙ sym (ap (λ (y : Message). message_role y) e)
-
--- a packet that was matched as k
-pub told_gate_take : (h k : Message) (x r : GateSettings) → h ≡ k → r ≡ gate_take k x → r ≡ gate_take h x
-told_gate_take h k x r e p = p ∙ sym (ap (λ (y : Message). gate_take y x) e)
-
-pub told_drive_take : (h k : Message) (x r : DriveSettings) → h ≡ k → r ≡ drive_take k x → r ≡ drive_take h x
-told_drive_take h k x r e p = p ∙ sym (ap (λ (y : Message). drive_take y x) e)
-
-pub told_mask_take : (h k : Message) (m r : ℕ) → h ≡ k → r ≡ mask_take k m → r ≡ mask_take h m
-told_mask_take h k m r e p = p ∙ sym (ap (λ (y : Message). mask_take y m) e)
 
 module _ (h : Message) (role : Role) (b : Bool) (er : role ≡ message_role h) (eb : b ≡ does_heed Drive role) where
   heeding : does_heed Drive (message_role h) ≡ b
@@ -348,32 +298,3 @@ pub drive_taken : (h : Message) (n : Node) (role : Role) (d : DriveSettings) (p 
     }
     ≡ take_as Drive h n
 drive_taken h n role d p m v k a er ed ep em ev ek ea = rw (ed, ep, em, ev, ek, ea, er) (drive_made h n)
-
-pub by_kind : (k d : Kind) (h : Message) (n r : Node) → n.kind ≡ d → r ≡ take_as d h n → r ≡ take_of h n
-by_kind k d h n r e p = p ∙ sym (ap (λ (x : Kind). take_as x h n) e)
-
--- what a reply shows
-pub told_captured : (x y : Role) (b : Bench) (k r : Captured) → x ≡ y → r ≡ captured_after y b k → r ≡ captured_after x b k
-told_captured x y b k r e h = h ∙ sym (ap (λ (z : Role). captured_after z b k) e)
-
-pub told_place : (x y : Role) (p r : Place) → x ≡ y → r ≡ place_by y p → r ≡ place_by x p
-told_place x y p r e h = h ∙ sym (ap (λ (z : Role). place_by z p) e)
-
-mask_as : (k : Kind) (h : Message) (n : Node) → mask_take h n.settings.mask ≡ (take_as k h n).settings.mask
-mask_as Gate h n = ap (λ (m : Node). m.settings.mask) (gate_made h n)
-mask_as Drive h n = ap (λ (m : Node). m.settings.mask) (drive_made h n)
-
-pub mask_told : (h : Message) (n : Node) (m : ℕ) → m ≡ mask_take h n.settings.mask → m ≡ mask_after h n
-mask_told h n m p = p ∙ mask_as n.kind h n
-
-module _ (h : Message) (n : Node) (role : Role) where
-  shown_as : (k : Kind) → n.kind ≡ k → shown_of (take_as k h n) ≡ shown_of (take_of h n)
-  shown_as k e = sym (ap (λ (x : Kind). shown_of (take_as x h n)) e)
-
-  pub gate_shown : (k : Captured) → role ≡ message_role h → n.kind ≡ Gate → k ≡ captured_after role n.bench n.captured
-      → record { bench = n.bench; captured = k; position = n.position; kind = n.kind } ≡ shown_of (take_of h n)
-  gate_shown k er e ek = rw (ek, er) (ap (λ (m : Node). shown_of m) (gate_made h n) ∙ shown_as Gate e)
-
-  pub drive_shown : (p : ℕ) → role ≡ heeded_role h → n.kind ≡ Drive → p ≡ position_after role n.position
-      → record { bench = n.bench; captured = n.captured; position = p; kind = n.kind } ≡ shown_of (take_of h n)
-  drive_shown p er e ep = rw (ep, er) (ap (λ (m : Node). shown_of m) (drive_made h n) ∙ shown_as Drive e)

@@ -1,6 +1,11 @@
 -- A second result that meets a contract is equal to the first, for each public function.
 use mathlib.Core.Path.{sym, ◌∙◌}
+use mir.Syntax.{Dict}
+use denote.RattleType.{RattleType}
+use denote.Param.Laws.{Laws, IsCopy}
+use Rattle.std.specs.declared.clone.Clone.{Ghosts}
 use Rattle.wire.proofs.OneResult.{OneResult}
+use Rattle.node.proofs.choice.pick.Reads as pick
 use Rattle.node.proofs.state.Node.power_up.Reads as node-power-up
 use Rattle.node.proofs.state.Node.take.Reads as take
 use Rattle.node.proofs.state.Node.take_gate.Reads as take-gate
@@ -41,3 +46,7 @@ gate_power_up_unique κs a r r' s s' p q = p ∙ sym q
 
 pub drive_power_up_unique : OneResult drive-power-up.Post
 drive_power_up_unique κs a r r' s s' p q = p ∙ sym q
+
+-- at every type that can be copied
+pub pick_unique : (T : RattleType) (L : Laws T) (C : IsCopy T) (G : Ghosts T.Denot) (d : Dict) → OneResult (pick.Post T L C G d)
+pick_unique T L C G d κs a r r' s s' p q = p ∙ sym q

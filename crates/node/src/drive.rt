@@ -1,8 +1,9 @@
 // The settings of a drive, an LS-173AP: at power-up, and after a command.
-ghost use Rattle.std.specs.Prelude.{◌≡◌, cond};
+ghost use Rattle.std.specs.Prelude.{◌≡◌};
 ghost use Rattle.node.specs.Effect.{at_rest, drive_power_up};
 ghost use Rattle.node.specs.Parts.{load_of, loaded_of, drive_after, drive_take};
 
+use crate::choice::pick;
 use command::{Command, Gains, Loads, Motion};
 use message::Message;
 
@@ -15,30 +16,17 @@ pub struct DriveSettings {
     pub stop: u8,
 }
 
-// One of two values, by a flag.
-fn pick_long(flag: bool, new: u32, old: u32) -> u32
-    ensures { result ≡ cond flag new old }
-{
-    if flag { new } else { old }
-}
-
-fn pick_byte(flag: bool, new: u8, old: u8) -> u8
-    ensures { result ≡ cond flag new old }
-{
-    if flag { new } else { old }
-}
-
 // A motion with what a load brings: its control byte, and the values that this says.
 fn load(old: Motion, m: Motion) -> Motion
     ensures { result ≡ load_of m old }
 {
     let l = Loads::of(m.control);
     Motion {
-        position: pick_long(l.position, m.position, old.position),
-        velocity: pick_long(l.velocity, m.velocity, old.velocity),
-        acceleration: pick_long(l.acceleration, m.acceleration, old.acceleration),
+        position: pick(l.position, m.position, old.position),
+        velocity: pick(l.velocity, m.velocity, old.velocity),
+        acceleration: pick(l.acceleration, m.acceleration, old.acceleration),
         control: m.control,
-        pwm: pick_byte(l.pwm, m.pwm, old.pwm),
+        pwm: pick(l.pwm, m.pwm, old.pwm),
     }
 }
 
@@ -78,10 +66,9 @@ impl DriveSettings {
         ensures { result ≡ loaded_of m self }
     {
         let mut s = self;
-        let waiting = load(s.waiting, m);
-        s.waiting = waiting;
+        s.waiting = load(s.waiting, m);
         if Loads::of(m.control).starts {
-            s.in_force = waiting;
+            s.in_force = s.waiting;
         }
         s
     }
@@ -94,8 +81,7 @@ impl DriveSettings {
         match c {
             Command::LoadTrajectory(motion) => s.loaded(motion),
             Command::StartMotion => {
-                let waiting = s.waiting;
-                s.in_force = waiting;
+                s.in_force = s.waiting;
                 s
             }
             Command::SetGain(gains) => {
@@ -107,18 +93,7 @@ impl DriveSettings {
                 s
             }
             Command::HardReset => DriveSettings::power_up(),
-            Command::SetAddress(_) => s,
-            Command::DefineStatus(_) => s,
-            Command::ReadStatus(_) => s,
-            Command::SetPwm(_) => s,
-            Command::SynchOutput => s,
-            Command::SetOutputs(_) => s,
-            Command::SetSynchOutput(_) => s,
-            Command::SetTimerMode(_) => s,
-            Command::SetBaudRate(_) => s,
-            Command::SynchInput => s,
-            Command::Nop => s,
-            Command::ResetPosition => s,
+            _ => s,
         }
     }
 
@@ -128,8 +103,7 @@ impl DriveSettings {
     {
         match message {
             Message::Intact(c) => self.after(c),
-            Message::Other => self,
-            Message::Spoilt => self,
+            Message::Other | Message::Spoilt => self,
         }
     }
 }

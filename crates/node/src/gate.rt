@@ -52,10 +52,8 @@ impl GateSettings {
                 s
             }
             Command::SynchOutput => {
-                let held = s.held;
-                let pwm = held.pwm;
-                s.outputs = held.outputs;
-                s.pwm = pwm;
+                s.outputs = s.held.outputs;
+                s.pwm = s.held.pwm;
                 s
             }
             Command::SetOutputs(outputs) => {
@@ -71,17 +69,7 @@ impl GateSettings {
                 s
             }
             Command::HardReset => GateSettings::power_up(),
-            Command::SetAddress(_) => s,
-            Command::DefineStatus(_) => s,
-            Command::ReadStatus(_) => s,
-            Command::SetBaudRate(_) => s,
-            Command::SynchInput => s,
-            Command::Nop => s,
-            Command::ResetPosition => s,
-            Command::LoadTrajectory(_) => s,
-            Command::StartMotion => s,
-            Command::SetGain(_) => s,
-            Command::StopMotor(_) => s,
+            _ => s,
         }
     }
 
@@ -91,8 +79,7 @@ impl GateSettings {
     {
         match message {
             Message::Intact(c) => self.after(c),
-            Message::Other => self,
-            Message::Spoilt => self,
+            Message::Other | Message::Spoilt => self,
         }
     }
 }

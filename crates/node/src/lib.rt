@@ -3,10 +3,12 @@
 // Left to others: whether the node hears it and is meant (survey), and the bytes of the reply (reply).
 #![tactic(auto)]
 
+mod choice;
 mod drive;
 mod gate;
 mod state;
 
+pub use choice::pick;
 pub use drive::DriveSettings;
 pub use gate::GateSettings;
 pub use state::{Bench, Captured, Node, Settings, Shown};

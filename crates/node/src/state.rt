@@ -70,14 +70,8 @@ fn does_heed(kind: Kind, role: Role) -> bool
     ensures { result ≡ does_heed kind role }
 {
     match role {
-        Role::Places(place) => kind.is_gate() | (1 <= place.address.0),
-        Role::Plain => true,
-        Role::Paces(_) => true,
-        Role::Masks(_) => true,
-        Role::Captures => true,
-        Role::Zeroes => true,
-        Role::Idles => true,
-        Role::Resets => true,
+        Role::Places(place) => kind.is_gate() || 1 <= place.address.0,
+        _ => true,
     }
 }
 
@@ -88,12 +82,7 @@ fn addressed_after(role: Role, addressed: bool) -> bool
     match role {
         Role::Places(_) => true,
         Role::Resets => false,
-        Role::Plain => addressed,
-        Role::Paces(_) => addressed,
-        Role::Masks(_) => addressed,
-        Role::Captures => addressed,
-        Role::Zeroes => addressed,
-        Role::Idles => addressed,
+        _ => addressed,
     }
 }
 
@@ -117,12 +106,7 @@ fn captured_after(role: Role, bench: Bench, captured: Captured) -> Captured
             inputs: bench.inputs,
         },
         Role::Resets => nothing(),
-        Role::Plain => captured,
-        Role::Places(_) => captured,
-        Role::Paces(_) => captured,
-        Role::Masks(_) => captured,
-        Role::Zeroes => captured,
-        Role::Idles => captured,
+        _ => captured,
     }
 }
 
@@ -131,14 +115,8 @@ fn position_after(role: Role, position: u32) -> u32
     ensures { result ≡ position_after role position }
 {
     match role {
-        Role::Zeroes => 0,
-        Role::Resets => 0,
-        Role::Plain => position,
-        Role::Places(_) => position,
-        Role::Paces(_) => position,
-        Role::Masks(_) => position,
-        Role::Captures => position,
-        Role::Idles => position,
+        Role::Zeroes | Role::Resets => 0,
+        _ => position,
     }
 }
 
@@ -171,30 +149,24 @@ impl Node {
     // The node after a packet, as a gate takes it: a drive's settings and position are not looked at.
     // Who walks along a table asks for the kind there, and stores what this gives. It is made part by part, each by the packet,
     // so that what every packet leaves is not copied.
+    // Two functions, a kind each: one that goes by the kind in each part chooses values that are then copied whole, and is slower (docs/PERFORMANCE.md).
     pub fn take_gate(self, message: Message) -> Node
         ensures { result ≡ take_gate message self }
     {
         let role = message_role(message);
-        let kind = self.kind;
-        let bench = self.bench;
-        let captured = self.captured;
-        let settings = self.settings;
-        let drive = settings.drive;
-        let gate = settings.gate;
-        let place = settings.place;
         Node {
             settings: Settings {
-                drive,
-                gate: gate.take(message),
-                place: place_by(role, place),
-                mask: mask_take(message, settings.mask),
-                divisor: divisor_by(role, settings.divisor),
+                drive: self.settings.drive,
+                gate: self.settings.gate.take(message),
+                place: place_by(role, self.settings.place),
+                mask: mask_take(message, self.settings.mask),
+                divisor: divisor_by(role, self.settings.divisor),
             },
-            bench,
-            captured: captured_after(role, bench, captured),
+            bench: self.bench,
+            captured: captured_after(role, self.bench, self.captured),
             position: self.position,
             addressed: addressed_after(role, self.addressed),
-            kind,
+            kind: self.kind,
         }
     }
 
@@ -203,26 +175,19 @@ impl Node {
         ensures { result ≡ take_drive message self }
     {
         let role = heeded_role(message);
-        let kind = self.kind;
-        let bench = self.bench;
-        let captured = self.captured;
-        let settings = self.settings;
-        let drive = settings.drive;
-        let gate = settings.gate;
-        let place = settings.place;
         Node {
             settings: Settings {
-                drive: drive.take(message),
-                gate,
-                place: place_by(role, place),
-                mask: mask_take(message, settings.mask),
-                divisor: divisor_by(role, settings.divisor),
+                drive: self.settings.drive.take(message),
+                gate: self.settings.gate,
+                place: place_by(role, self.settings.place),
+                mask: mask_take(message, self.settings.mask),
+                divisor: divisor_by(role, self.settings.divisor),
             },
-            bench,
-            captured,
+            bench: self.bench,
+            captured: self.captured,
             position: position_after(role, self.position),
             addressed: addressed_after(role, self.addressed),
-            kind,
+            kind: self.kind,
         }
     }
 
@@ -230,8 +195,7 @@ impl Node {
     pub fn take(self, message: Message) -> Node
         ensures { result ≡ take_of message self }
     {
-        let kind = self.kind;
-        match kind {
+        match self.kind {
             Kind::Gate => self.take_gate(message),
             Kind::Drive => self.take_drive(message),
         }
@@ -244,8 +208,7 @@ fn message_role(message: Message) -> Role
 {
     match message {
         Message::Intact(c) => c.role(),
-        Message::Other => Role::Idles,
-        Message::Spoilt => Role::Idles,
+        Message::Other | Message::Spoilt => Role::Idles,
     }
 }
 
@@ -255,9 +218,10 @@ fn heeded_role(message: Message) -> Role
 {
     let role = message_role(message);
     if does_heed(Kind::Drive, role) {
-        return role;
+        role
+    } else {
+        Role::Idles
     }
-    Role::Idles
 }
 
 // The mask after a command.
@@ -267,21 +231,7 @@ fn mask_by(c: Command, mask: u8) -> u8
     match c {
         Command::DefineStatus(new) => new,
         Command::HardReset => 0,
-        Command::SetAddress(_) => mask,
-        Command::ReadStatus(_) => mask,
-        Command::SetPwm(_) => mask,
-        Command::SynchOutput => mask,
-        Command::SetOutputs(_) => mask,
-        Command::SetSynchOutput(_) => mask,
-        Command::SetTimerMode(_) => mask,
-        Command::SetBaudRate(_) => mask,
-        Command::SynchInput => mask,
-        Command::Nop => mask,
-        Command::ResetPosition => mask,
-        Command::LoadTrajectory(_) => mask,
-        Command::StartMotion => mask,
-        Command::SetGain(_) => mask,
-        Command::StopMotor(_) => mask,
+        _ => mask,
     }
 }
 
@@ -291,8 +241,7 @@ fn mask_take(message: Message, mask: u8) -> u8
 {
     match message {
         Message::Intact(c) => mask_by(c, mask),
-        Message::Other => mask,
-        Message::Spoilt => mask,
+        Message::Other | Message::Spoilt => mask,
     }
 }
 
@@ -314,12 +263,7 @@ fn place_by(role: Role, place: Place) -> Place
     match role {
         Role::Places(new) => new,
         Role::Resets => place_power_up(),
-        Role::Plain => place,
-        Role::Paces(_) => place,
-        Role::Masks(_) => place,
-        Role::Captures => place,
-        Role::Zeroes => place,
-        Role::Idles => place,
+        _ => place,
     }
 }
 
@@ -330,12 +274,7 @@ fn divisor_by(role: Role, divisor: u8) -> u8
     match role {
         Role::Paces(new) => new,
         Role::Resets => Node::DIVISOR,
-        Role::Plain => divisor,
-        Role::Places(_) => divisor,
-        Role::Masks(_) => divisor,
-        Role::Captures => divisor,
-        Role::Zeroes => divisor,
-        Role::Idles => divisor,
+        _ => divisor,
     }
 }
 
@@ -352,21 +291,18 @@ impl Node {
     pub fn shown(self, message: Message) -> Shown
         ensures { result ≡ shown_of (take_of message self) }
     {
-        let kind = self.kind;
-        let bench = self.bench;
-        let captured = self.captured;
-        match kind {
+        match self.kind {
             Kind::Gate => Shown {
-                bench,
-                captured: captured_after(message_role(message), bench, captured),
+                bench: self.bench,
+                captured: captured_after(message_role(message), self.bench, self.captured),
                 position: self.position,
-                kind,
+                kind: self.kind,
             },
             Kind::Drive => Shown {
-                bench,
-                captured,
+                bench: self.bench,
+                captured: self.captured,
                 position: position_after(heeded_role(message), self.position),
-                kind,
+                kind: self.kind,
             },
         }
     }
@@ -391,13 +327,10 @@ impl Settings {
         ensures { result ≡ settings_after c self }
     {
         let role = c.role();
-        let drive = self.drive;
-        let gate = self.gate;
-        let place = self.place;
         Settings {
-            drive: drive.after(c),
-            gate: gate.after(c),
-            place: place_by(role, place),
+            drive: self.drive.after(c),
+            gate: self.gate.after(c),
+            place: place_by(role, self.place),
             mask: mask_by(c, self.mask),
             divisor: divisor_by(role, self.divisor),
         }

@@ -1,5 +1,3 @@
-mod Marking
-mod Blending
 mod Confirming
 pub mod Entries
 pub mod Unique

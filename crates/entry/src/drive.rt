@@ -2,9 +2,8 @@
 ghost use Rattle.std.specs.Prelude.{◌≡◌};
 ghost use Rattle.entry.specs.Parts.{load_flags, start_flags, blend_motion, drive_all, drive_load, drive_mark, drive_blend};
 
-use crate::pick::{pick_byte, pick_flag, pick_gains, pick_long};
 use command::{Command, Loads, Motion};
-use node::DriveSettings;
+use node::{DriveSettings, pick};
 
 // Which values of a motion are known, each by itself.
 #[derive(Clone, Copy, PartialEq, Eq)]
@@ -32,10 +31,10 @@ fn load_flags(m: Motion, sure: bool, old: MotionKnown) -> MotionKnown
     let l = Loads::of(m.control);
     MotionKnown {
         control: sure,
-        position: pick_flag(l.position, sure, old.position),
-        velocity: pick_flag(l.velocity, sure, old.velocity),
-        acceleration: pick_flag(l.acceleration, sure, old.acceleration),
-        pwm: pick_flag(l.pwm, sure, old.pwm),
+        position: pick(l.position, sure, old.position),
+        velocity: pick(l.velocity, sure, old.velocity),
+        acceleration: pick(l.acceleration, sure, old.acceleration),
+        pwm: pick(l.pwm, sure, old.pwm),
     }
 }
 
@@ -57,11 +56,11 @@ fn blend_motion(known: MotionKnown, new: Motion, old: Motion) -> Motion
     ensures { result ≡ blend_motion known new old }
 {
     Motion {
-        position: pick_long(known.position, new.position, old.position),
-        velocity: pick_long(known.velocity, new.velocity, old.velocity),
-        acceleration: pick_long(known.acceleration, new.acceleration, old.acceleration),
-        control: pick_byte(known.control, new.control, old.control),
-        pwm: pick_byte(known.pwm, new.pwm, old.pwm),
+        position: pick(known.position, new.position, old.position),
+        velocity: pick(known.velocity, new.velocity, old.velocity),
+        acceleration: pick(known.acceleration, new.acceleration, old.acceleration),
+        control: pick(known.control, new.control, old.control),
+        pwm: pick(known.pwm, new.pwm, old.pwm),
     }
 }
 
@@ -90,10 +89,9 @@ impl DriveKnown {
         ensures { result ≡ drive_load m sure self }
     {
         let mut k = self;
-        let waiting = load_flags(m, sure, k.waiting);
-        k.waiting = waiting;
+        k.waiting = load_flags(m, sure, k.waiting);
         if Loads::of(m.control).starts {
-            k.in_force = start_flags(sure, waiting);
+            k.in_force = start_flags(sure, k.waiting);
         }
         k
     }
@@ -118,18 +116,7 @@ impl DriveKnown {
                 k
             }
             Command::HardReset => DriveKnown::all(sure),
-            Command::SetAddress(_) => k,
-            Command::DefineStatus(_) => k,
-            Command::ReadStatus(_) => k,
-            Command::SetPwm(_) => k,
-            Command::SynchOutput => k,
-            Command::SetOutputs(_) => k,
-            Command::SetSynchOutput(_) => k,
-            Command::SetTimerMode(_) => k,
-            Command::SetBaudRate(_) => k,
-            Command::SynchInput => k,
-            Command::Nop => k,
-            Command::ResetPosition => k,
+            _ => k,
         }
     }
 
@@ -140,8 +127,8 @@ impl DriveKnown {
         DriveSettings {
             waiting: blend_motion(self.waiting, new.waiting, old.waiting),
             in_force: blend_motion(self.in_force, new.in_force, old.in_force),
-            gains: pick_gains(self.gains, new.gains, old.gains),
-            stop: pick_byte(self.stop, new.stop, old.stop),
+            gains: pick(self.gains, new.gains, old.gains),
+            stop: pick(self.stop, new.stop, old.stop),
         }
     }
 }

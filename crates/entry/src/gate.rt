@@ -2,9 +2,8 @@
 ghost use Rattle.std.specs.Prelude.{◌≡◌};
 ghost use Rattle.entry.specs.Parts.{gate_all, gate_mark, gate_blend};
 
-use crate::pick::{pick_byte, pick_held, pick_pwm, pick_word};
 use command::Command;
-use node::GateSettings;
+use node::{GateSettings, pick};
 
 // Which of a gate's own settings are known; the others are in doubt.
 #[derive(Clone, Copy, PartialEq, Eq)]
@@ -57,17 +56,7 @@ impl GateKnown {
                 k
             }
             Command::HardReset => GateKnown::all(sure),
-            Command::SetAddress(_) => k,
-            Command::DefineStatus(_) => k,
-            Command::ReadStatus(_) => k,
-            Command::SetBaudRate(_) => k,
-            Command::SynchInput => k,
-            Command::Nop => k,
-            Command::ResetPosition => k,
-            Command::LoadTrajectory(_) => k,
-            Command::StartMotion => k,
-            Command::SetGain(_) => k,
-            Command::StopMotor(_) => k,
+            _ => k,
         }
     }
 
@@ -76,10 +65,10 @@ impl GateKnown {
         ensures { result ≡ gate_blend self new old }
     {
         GateSettings {
-            outputs: pick_word(self.outputs, new.outputs, old.outputs),
-            held: pick_held(self.held, new.held, old.held),
-            pwm: pick_pwm(self.pwm, new.pwm, old.pwm),
-            timer: pick_byte(self.timer, new.timer, old.timer),
+            outputs: pick(self.outputs, new.outputs, old.outputs),
+            held: pick(self.held, new.held, old.held),
+            pwm: pick(self.pwm, new.pwm, old.pwm),
+            timer: pick(self.timer, new.timer, old.timer),
         }
     }
 }

@@ -5,7 +5,6 @@
 
 mod drive;
 mod gate;
-mod pick;
 
 ghost use Rattle.std.specs.Prelude.{◌≡◌};
 ghost use Rattle.entry.specs.Entry.{entry_power_up, mark_of, confirm_of, doubt_of, note_of};
@@ -14,7 +13,7 @@ ghost use Rattle.entry.specs.Parts.{mark_place, mark_divisor, mark_mask, blend_o
 use command::{Command, Role};
 pub use drive::{DriveKnown, MotionKnown};
 pub use gate::GateKnown;
-use node::Settings;
+use node::{Settings, pick};
 use status::Answer;
 use wire::Kind;
 
@@ -50,14 +49,8 @@ fn mark_place(known: bool, role: Role, sure: bool) -> bool
     ensures { result ≡ mark_place role sure known }
 {
     match role {
-        Role::Places(_) => sure,
-        Role::Resets => sure,
-        Role::Plain => known,
-        Role::Paces(_) => known,
-        Role::Masks(_) => known,
-        Role::Captures => known,
-        Role::Zeroes => known,
-        Role::Idles => known,
+        Role::Places(_) | Role::Resets => sure,
+        _ => known,
     }
 }
 
@@ -66,14 +59,8 @@ fn mark_divisor(known: bool, role: Role, sure: bool) -> bool
     ensures { result ≡ mark_divisor role sure known }
 {
     match role {
-        Role::Paces(_) => sure,
-        Role::Resets => sure,
-        Role::Plain => known,
-        Role::Places(_) => known,
-        Role::Masks(_) => known,
-        Role::Captures => known,
-        Role::Zeroes => known,
-        Role::Idles => known,
+        Role::Paces(_) | Role::Resets => sure,
+        _ => known,
     }
 }
 
@@ -82,23 +69,8 @@ fn mark_mask(known: bool, c: Command, sure: bool) -> bool
     ensures { result ≡ mark_mask c sure known }
 {
     match c {
-        Command::DefineStatus(_) => sure,
-        Command::HardReset => sure,
-        Command::SetAddress(_) => known,
-        Command::ReadStatus(_) => known,
-        Command::SetPwm(_) => known,
-        Command::SynchOutput => known,
-        Command::SetOutputs(_) => known,
-        Command::SetSynchOutput(_) => known,
-        Command::SetTimerMode(_) => known,
-        Command::SetBaudRate(_) => known,
-        Command::SynchInput => known,
-        Command::Nop => known,
-        Command::ResetPosition => known,
-        Command::LoadTrajectory(_) => known,
-        Command::StartMotion => known,
-        Command::SetGain(_) => known,
-        Command::StopMotor(_) => known,
+        Command::DefineStatus(_) | Command::HardReset => sure,
+        _ => known,
     }
 }
 
@@ -107,14 +79,12 @@ fn mark(known: Known, c: Command, sure: bool) -> Known
     ensures { result ≡ mark_of c sure known }
 {
     let role = c.role();
-    let gate = known.gate;
-    let drive = known.drive;
     Known {
         place: mark_place(known.place, role, sure),
         mask: mark_mask(known.mask, c, sure),
         divisor: mark_divisor(known.divisor, role, sure),
-        gate: gate.mark(c, sure),
-        drive: drive.mark(c, sure),
+        gate: known.gate.mark(c, sure),
+        drive: known.drive.mark(c, sure),
     }
 }
 
@@ -122,14 +92,12 @@ fn mark(known: Known, c: Command, sure: bool) -> Known
 fn blend(known: Known, new: Settings, old: Settings) -> Settings
     ensures { result ≡ blend_of known new old }
 {
-    let gate = known.gate;
-    let drive = known.drive;
     Settings {
-        drive: drive.blend(new.drive, old.drive),
-        gate: gate.blend(new.gate, old.gate),
-        place: pick::pick_place(known.place, new.place, old.place),
-        mask: pick::pick_byte(known.mask, new.mask, old.mask),
-        divisor: pick::pick_byte(known.divisor, new.divisor, old.divisor),
+        drive: known.drive.blend(new.drive, old.drive),
+        gate: known.gate.blend(new.gate, old.gate),
+        place: pick(known.place, new.place, old.place),
+        mask: pick(known.mask, new.mask, old.mask),
+        divisor: pick(known.divisor, new.divisor, old.divisor),
     }
 }
 
@@ -155,9 +123,8 @@ impl Entry {
     pub fn doubt(self, c: Command) -> Entry
         ensures { result ≡ doubt_of c self }
     {
-        let known = self.known;
         let mut e = self;
-        e.known = mark(known, c, false);
+        e.known = mark(self.known, c, false);
         e
     }
 
@@ -165,12 +132,9 @@ impl Entry {
     fn confirm(self, c: Command) -> Entry
         ensures { result ≡ confirm_of c self }
     {
-        let before = self.known;
-        let known = mark(before, c, true);
-        let old = self.settings;
         let mut e = self;
-        e.settings = blend(known, old.after(c), old);
-        e.known = known;
+        e.known = mark(self.known, c, true);
+        e.settings = blend(e.known, self.settings.after(c), self.settings);
         e
     }
 
@@ -178,18 +142,10 @@ impl Entry {
     pub fn note(self, answer: Answer, reach: Reach, c: Command) -> Entry
         ensures { result ≡ note_of answer reach c self }
     {
-        match answer {
-            Answer::Marked => self,
-            Answer::Clear => match reach {
-                Reach::Misses => self,
-                Reach::Hits => self.confirm(c),
-                Reach::May => self.doubt(c),
-            },
-            Answer::Silent => match reach {
-                Reach::Misses => self,
-                Reach::Hits => self.doubt(c),
-                Reach::May => self.doubt(c),
-            },
+        match (answer, reach) {
+            (Answer::Marked, _) | (_, Reach::Misses) => self,
+            (Answer::Clear, Reach::Hits) => self.confirm(c),
+            (Answer::Clear, Reach::May) | (Answer::Silent, _) => self.doubt(c),
         }
     }
 }

@@ -1,4 +1,3 @@
 mod Turns
-mod Nodes
 pub mod Ledgers
 pub mod Unique

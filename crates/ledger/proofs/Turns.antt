@@ -10,17 +10,15 @@ use lib.Dec.{ltb}
 use lib.ListN.{length, get_or, set, drop}
 use lib.Seq.{drop-cons}
 use borrow.Author.Tests.{ltb-false}
-use Rattle.wire.specs.declared.address.Group.{Group}
 use Rattle.wire.specs.declared.address.Address.{Address}
 use Rattle.wire.specs.declared.kind.Kind.{Kind}
 use Rattle.wire.specs.declared.kind.Kind.TheVariants.{Gate}
 use Rattle.command.specs.declared.Command.{Command}
-use Rattle.command.specs.declared.Command.TheVariants.{HardReset}
 use Rattle.status.specs.declared.Answer.{Answer}
 use Rattle.entry.specs.declared.Entry.{Entry}
 use Rattle.entry.specs.declared.Reach.{Reach}
-use Rattle.entry.specs.Entry.{entry_power_up, note_of, doubt_of}
-use Rattle.ledger.specs.Ledger.{all_gates, telling, ledger_power_up, ledger_least, reach_of, each_from, settling, settle_of, forget_of, is_rival, any_from, is_led, does_lack, is_lacked, lacks_divisor, is_unlisted}
+use Rattle.entry.specs.Entry.{entry_power_up, note_of}
+use Rattle.ledger.specs.Ledger.{all_gates, telling, ledger_power_up, ledger_least, reach_of, each_from, settling, settle_of, any_from}
 
 capped : (t : Bool) (n : ℕ) → ltb 31 n ≡ t → cond t 31 n ≤ 31
 capped true n h = omega arith
@@ -55,18 +53,16 @@ one_more f i es d l =
     rw (next_kept f 1 i es d, add-one i)
     (ap (λ (n : ℕ). set (each_from f 1 i es) i (f n (get_or es i d))) (omega arith) ∙ step f 1 i es d l)
 
--- a rule that is the same for all nodes, over all of them
-pub each_map : (f : Entry → Entry) (j : ℕ) (es : List Entry) → each_from (λ k. f) j (length es) es ≡ map f es
-unfolding each_from
-each_map f j [] = refl
-each_map f j (e ∷ es) = ap (λ (t : List Entry). f e ∷ t) (each_map f (suc j) es)
-
 -- how many entries n counts: never more than there are
 pub least_31 : (n end : ℕ) → end ≡ ledger_least n → end ≤ 31
 unfolding ledger_least
 least_31 n end e = rw e (capped (ltb 31 n) n refl)
 
--- a turn of `power_up`, and its end
+-- where `power_up` starts, a turn of it, and its end
+pub length_gates : length all_gates ≡ 31
+unfolding all_gates
+length_gates = refl
+
 pub up_turn : (ks : List Kind) (i : ℕ) (es l : List Entry) (e : Entry) → l ≡ each_from (telling ks) 1 i es → e ≡ entry_power_up (get_or ks i Gate) → i < length es
     → set l i e ≡ each_from (telling ks) 1 (i + 1) es
 unfolding telling
@@ -90,34 +86,9 @@ pub settle_end : (a : Answer) (to : Address) (c : Command) (n i : ℕ) (es l : L
 unfolding settle_of
 settle_end a to c n i es l p q = q ∙ ap (λ (m : ℕ). each_from (settling a to c) 1 m es) p
 
--- a turn of `forget`, and its end: all that a node holds goes into doubt, whichever it is
-abbrev pub forgetting : ℕ → Entry → Entry
-forgetting k e = doubt_of HardReset e
-
-pub forget_turn : (i : ℕ) (es l : List Entry) (e d : Entry) → l ≡ each_from forgetting 1 i es → e ≡ doubt_of HardReset (get_or l i d) → i < length es
-    → set l i e ≡ each_from forgetting 1 (i + 1) es
-forget_turn i es l e d p f h = rw (f, p) (one_more forgetting i es d h)
-
-pub forget_end : (i : ℕ) (es l : List Entry) → i ≡ length es → l ≡ each_from forgetting 1 i es → l ≡ forget_of es
-unfolding forget_of
-forget_end i es l p q = q ∙ ap (λ (m : ℕ). each_from forgetting 1 m es) p ∙ each_map (doubt_of HardReset) 1 es
-
 -- a search: where it starts; one is found; a turn; none is found
-any_start : (f : ℕ → Entry → Bool) (m end : ℕ) (es : List Entry) → end ≡ m → any_from f (0 + 1) (end - 0) (drop 0 es) ≡ any_from f 1 m es
+pub any_start : (f : ℕ → Entry → Bool) (m end : ℕ) (es : List Entry) → end ≡ m → any_from f (0 + 1) (end - 0) (drop 0 es) ≡ any_from f 1 m es
 any_start f m end es e = ap (λ (k : ℕ). any_from f 1 k es) (omega arith)
-
-pub led_start : (k : ℕ) (g : Group) (n end : ℕ) (es : List Entry) → end ≡ ledger_least n → any_from (is_rival k g) (0 + 1) (end - 0) (drop 0 es) ≡ is_led k g n es
-unfolding is_led
-led_start k g n end es e = any_start (is_rival k g) (ledger_least n) end es e
-
-pub lacked_start : (to : Address) (c : Command) (n end : ℕ) (es : List Entry) → end ≡ ledger_least n
-    → any_from (does_lack to c) (0 + 1) (end - 0) (drop 0 es) ≡ is_lacked to c n es
-unfolding is_lacked
-lacked_start to c n end es e = any_start (does_lack to c) (ledger_least n) end es e
-
-pub unlisted_start : (v n end : ℕ) (es : List Entry) → end ≡ ledger_least n → any_from (λ k. lacks_divisor v) (0 + 1) (end - 0) (drop 0 es) ≡ is_unlisted v n es
-unfolding is_unlisted
-unlisted_start v n end es e = any_start (λ k. lacks_divisor v) (ledger_least n) end es e
 
 here : (f : ℕ → Entry → Bool) (n i : ℕ) (es : List Entry) (d : Entry) → i < n → i < length es
     → any_from f (i + 1) (n - i) (drop i es) ≡ (f (i + 1) (get_or es i d) || any_from f (i + 1 + 1) (n - (i + 1)) (drop (i + 1) es))
@@ -137,3 +108,13 @@ module _ (f : ℕ → Entry → Bool) (end i : ℕ) (es : List Entry) (w : Bool)
   pub any_none : end ≤ i → false ≡ w
   unfolding any_from
   any_none p = let e : end - i ≡ 0 = omega arith in rw e at h
+
+-- a list whose every item is f of another's is that one mapped
+pub mapped : (f : Entry → Entry) (xs ys : List Entry) → length ys ≡ length xs → ((i : ℕ) (d : Entry) → i < length ys → get_or ys i d ≡ f (get_or xs i d)) → ys ≡ map f xs
+mapped f [] [] e h = refl
+mapped f [] (y ∷ ys) e h = absurd (omega arith)
+mapped f (x ∷ xs) [] e h = absurd (omega arith)
+mapped f (x ∷ xs) (y ∷ ys) e h =
+    let t : ys ≡ map f xs = mapped f xs ys (omega arith) (λ i d p. h (suc i) d (omega arith)) in
+    let u : y ≡ f x = h 0 x (omega arith) in
+    rw (u, t)

@@ -3,8 +3,9 @@
 // Left to others: which command waits, and how far the walk is (session, reports).
 #![tactic(auto)]
 
-ghost use Rattle.std.specs.Prelude.{◌≡◌};
-ghost use Rattle.ledger.specs.Ledger.{ledger_power_up, ledger_least, group_reach, reach_by, settle_of, forget_of, is_rival, is_led, does_lack, is_lacked, lacks_divisor, is_unlisted, is_off_list};
+ghost use Rattle.std.specs.Prelude.{◌≡◌, ℕ, Bool};
+ghost use Rattle.entry.specs.declared.Entry.{Entry};
+ghost use Rattle.ledger.specs.Ledger.{ledger_power_up, ledger_least, group_reach, reach_by, reach_of, settle_of, forget_of, is_rival, any_from, is_led, does_lack, is_lacked, lacks_divisor, is_unlisted, is_off_list};
 
 use command::{Command, Place};
 use entry::{Entry, Reach};
@@ -16,27 +17,20 @@ pub fn power_up(n: u8, kinds: [Kind; MOST_NODES]) -> [Entry; MOST_NODES]
     ensures { result ≡ ledger_power_up n kinds }
 {
     let told = least(n);
-    let gate = Entry::power_up(Kind::Gate);
-    let mut all = [gate; MOST_NODES];
-    let mut i: u8 = 0;
-    while i < told {
-        let at = i as usize;
-        let kind = kinds[at];
-        all[at] = Entry::power_up(kind);
-        i += 1;
+    let mut all = [Entry::power_up(Kind::Gate); MOST_NODES];
+    for i in 0..told {
+        all[i] = Entry::power_up(kinds[i]);
     }
     all
 }
 
 // n, or 31 where n is more: how many entries n counts.
 // So a loop stays within the record, for every n.
-fn least(n: u8) -> u8
+#[tactic(auto, unfolding(crate::specs::Ledger::ledger_least))]
+fn least(n: u8) -> usize
     ensures { result ≡ ledger_least n }
 {
-    if MOST_NODES < n as usize {
-        return MOST_NODES as u8;
-    }
-    n
+    MOST_NODES.min(n as usize)
 }
 
 // What a command to a group is to a node, by its place, if that is known.
@@ -47,7 +41,7 @@ fn group_reach(g: Group, known: bool, place: Place) -> Reach
     if !known {
         return Reach::May;
     }
-    if place.group.0 != g.0 {
+    if place.group != g {
         return Reach::Misses;
     }
     if place.leader {
@@ -66,6 +60,13 @@ fn reach_by(to: Address, k: u8, known: bool, place: Place) -> Reach
     }
 }
 
+// By its entry.
+fn reach_of(to: Address, k: u8, e: Entry) -> Reach
+    ensures { result ≡ reach_of to k e }
+{
+    reach_by(to, k, e.known.place, e.settings.place)
+}
+
 // The record after an exchange: a command to an address, and how it was answered.
 pub fn settle(
     entries: [Entry; MOST_NODES],
@@ -76,76 +77,57 @@ pub fn settle(
 ) -> [Entry; MOST_NODES]
     ensures { result ≡ settle_of answer to c n entries }
 {
-    let end = least(n);
     let mut all = entries;
-    let mut i: u8 = 0;
-    while i < end {
-        let at = i as usize;
-        let e = all[at];
-        let place = e.settings.place;
-        all[at] = e.note(answer, reach_by(to, i + 1, e.known.place, place), c);
-        i += 1;
+    for i in 0..least(n) {
+        let e = all[i];
+        all[i] = e.note(answer, reach_of(to, i as u8 + 1, e), c);
     }
     all
 }
 
 // Everything in doubt, in all 31 entries: what a Hard Reset leaves.
+#[tactic(auto, unfolding(crate::specs::Ledger::forget_of))]
 pub fn forget(entries: [Entry; MOST_NODES]) -> [Entry; MOST_NODES]
     ensures { result ≡ forget_of entries }
 {
-    let mut all = entries;
-    let mut i = 0;
-    while i < MOST_NODES {
-        let e = all[i];
-        all[i] = e.doubt(Command::HardReset);
-        i += 1;
+    entries.map(|e| e.doubt(Command::HardReset))
+}
+
+// Whether one of nodes 1 to n passes a test of its number and its entry.
+fn has_any<F: Fn(u8, Entry) -> bool>(entries: &[Entry; MOST_NODES], n: u8, test: F) -> bool
+    requires { F.IsAlwaysCallable test }
+    ensures { (t : ℕ → Entry → Bool) → ((k : ℕ) (e : Entry) (r : Bool) → F.post test k e r → r ≡ t k e) → result ≡ any_from t 1 (ledger_least n) entries.now }
+{
+    for i in 0..least(n) {
+        if test(i as u8 + 1, entries[i]) {
+            return true;
+        }
     }
-    all
+    false
 }
 
 // Whether node j, another than k, leads group g or has its place in doubt.
 fn is_rival(k: u8, g: Group, j: u8, e: Entry) -> bool
     ensures { result ≡ is_rival k g j e }
 {
-    if j == k {
-        return false;
-    }
-    if e.known.place {
-        if e.settings.place.leader {
-            return e.settings.place.group.0 == g.0;
-        }
-        return false;
-    }
-    true
+    let place = e.settings.place;
+    j != k && (!e.known.place || place.leader && place.group == g)
 }
 
 // Whether one of nodes 1 to n, another than k, leads group g or has its place in doubt.
 pub fn is_led(entries: [Entry; MOST_NODES], n: u8, k: u8, g: Group) -> bool
     ensures { result ≡ is_led k g n entries }
 {
-    let end = least(n);
-    let mut i: u8 = 0;
-    while i < end {
-        let at = i as usize;
-        let e = entries[at];
-        if is_rival(k, g, i + 1, e) {
-            return true;
-        }
-        i += 1;
-    }
-    false
+    has_any(&entries, n, |j, e| is_rival(k, g, j, e))
 }
 
 // Whether a command to an address may reach node k, whose kind lacks it: also one that writes nothing.
 fn does_lack(to: Address, c: Command, k: u8, e: Entry) -> bool
     ensures { result ≡ does_lack to c k e }
 {
-    let kind = e.kind;
-    let place = e.settings.place;
-    match reach_by(to, k, e.known.place, place) {
+    match reach_of(to, k, e) {
         Reach::Misses => false,
-        Reach::Hits => !command::has(kind, c),
-        Reach::May => !command::has(kind, c),
+        Reach::Hits | Reach::May => !command::has(e.kind, c),
     }
 }
 
@@ -153,50 +135,27 @@ fn does_lack(to: Address, c: Command, k: u8, e: Entry) -> bool
 pub fn is_lacked(entries: [Entry; MOST_NODES], n: u8, to: Address, c: Command) -> bool
     ensures { result ≡ is_lacked to c n entries }
 {
-    let end = least(n);
-    let mut i: u8 = 0;
-    while i < end {
-        let at = i as usize;
-        let e = entries[at];
-        if does_lack(to, c, i + 1, e) {
-            return true;
-        }
-        i += 1;
-    }
-    false
+    has_any(&entries, n, |k, e| does_lack(to, c, k, e))
 }
 
 // Whether the manual of a node's kind doesn't list a divisor.
 fn lacks_divisor(divisor: u8, e: Entry) -> bool
     ensures { result ≡ lacks_divisor divisor e }
 {
-    let kind = e.kind;
-    !command::is_listed(kind, divisor)
+    !command::is_listed(e.kind, divisor)
 }
 
 // Whether that of one of nodes 1 to n doesn't.
 fn is_unlisted(entries: [Entry; MOST_NODES], n: u8, divisor: u8) -> bool
     ensures { result ≡ is_unlisted divisor n entries }
 {
-    let end = least(n);
-    let mut i: u8 = 0;
-    while i < end {
-        let at = i as usize;
-        let e = entries[at];
-        if lacks_divisor(divisor, e) {
-            return true;
-        }
-        i += 1;
-    }
-    false
+    has_any(&entries, n, |_, e| lacks_divisor(divisor, e))
 }
 
 // Whether a divisor is none that the manual of every kind on the chain lists. What the LS-773's doesn't list no manual does: it is asked in any case, and alone where there are no nodes.
+#[tactic(auto, unfolding(crate::specs::Ledger::is_off_list))]
 pub fn is_off_list(entries: [Entry; MOST_NODES], n: u8, divisor: u8) -> bool
     ensures { result ≡ is_off_list divisor n entries }
 {
-    if command::is_listed(Kind::Gate, divisor) {
-        return is_unlisted(entries, n, divisor);
-    }
-    true
+    !command::is_listed(Kind::Gate, divisor) || is_unlisted(entries, n, divisor)
 }

@@ -1,21 +1,7 @@
-use native.Mathlib.Omega.{arith}
 use borrow.Author.Rules.{rules}
-use Rattle.ledger.specs.Ledger.{blank_entry}
-use Rattle.ledger.proofs.Turns.{lacked_start, any_found, any_turn, any_none, least_31}
+use Rattle.ledger.specs.Ledger.{is_lacked, does_lack}
 use Rattle.ledger.proofs.is_lacked.Goals as goal
 
-pub loop-i-init : goal.loop-i-init
-loop-i-init c = (omega arith, least_31 _ _ c.least-end.ensures, search rules, lacked_start _ _ _ _ _ c.least-end.ensures)
-
-pub returns-then-does_lack : goal.returns-then-does_lack
-returns-then-does_lack c =
-    let w : _ = c.loop-i.invariant in
-    any_found _ _ _ _ _ w.3 blank_entry _ c.does_lack.ensures c.if-does_lack.true (omega arith) (omega arith)
-
-pub loop-i-preserved : goal.loop-i-preserved
-loop-i-preserved c =
-    let w : _ = c.loop-i.invariant in
-    (omega arith, w.1, w.2, any_turn _ _ _ _ _ w.3 blank_entry _ c.does_lack.ensures c.if-does_lack.false (omega arith) (omega arith))
-
 pub returns : goal.returns
-returns c = any_none _ _ _ _ _ c.loop-i.invariant.3 (omega arith)
+unfolding is_lacked
+returns c = c.has_any.ensures (does_lack c.args.to c.args.c) (λ k e r p. search rules)

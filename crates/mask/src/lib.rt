@@ -24,11 +24,9 @@ pub fn size(kind: Kind, mask: u8) -> usize
     let counts = status::counts(kind);
     let mut bits = mask;
     let mut n = 2;
-    let mut i = 0;
-    while i < 8 {
-        n += asked_count(bits % 2 == 1, counts[i] as usize);
+    for count in &counts {
+        n += asked_count(bits % 2 == 1, *count as usize);
         bits /= 2;
-        i += 1;
     }
     n
 }

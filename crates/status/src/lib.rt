@@ -17,25 +17,23 @@ const GATE_COUNTS: [u8; 8] = [2, 1, 1, 1, 4, 2, 2, 4];
 // And each of a drive, which has none for bit 7.
 const DRIVE_COUNTS: [u8; 8] = [4, 1, 2, 1, 4, 2, 2, 0];
 
-// All that a gate has.
-const GATE_TOTAL: usize = (GATE_COUNTS[0]
-    + GATE_COUNTS[1]
-    + GATE_COUNTS[2]
-    + GATE_COUNTS[3]
-    + GATE_COUNTS[4]
-    + GATE_COUNTS[5]
-    + GATE_COUNTS[6]
-    + GATE_COUNTS[7]) as usize;
+// All that a kind has. A macro and no function, since a constant's value can call none.
+macro_rules! total {
+    ($counts:ident) => {
+        ($counts[0]
+            + $counts[1]
+            + $counts[2]
+            + $counts[3]
+            + $counts[4]
+            + $counts[5]
+            + $counts[6]
+            + $counts[7]) as usize
+    };
+}
 
-// All that a drive has.
-const DRIVE_TOTAL: usize = (DRIVE_COUNTS[0]
-    + DRIVE_COUNTS[1]
-    + DRIVE_COUNTS[2]
-    + DRIVE_COUNTS[3]
-    + DRIVE_COUNTS[4]
-    + DRIVE_COUNTS[5]
-    + DRIVE_COUNTS[6]
-    + DRIVE_COUNTS[7]) as usize;
+const GATE_TOTAL: usize = total!(GATE_COUNTS);
+
+const DRIVE_TOTAL: usize = total!(DRIVE_COUNTS);
 
 // The total of all item counts: the larger of the two.
 pub const T: usize = if GATE_TOTAL < DRIVE_TOTAL {

@@ -1,5 +1,5 @@
 -- A second result that meets a contract is equal to the first, for each public function.
-use mathlib.Core.Path.{sym, ◌∙◌}
+use Rattle.std.proofs.Common.{ℕ, sym, ◌∙◌, Fits, w64}
 use Rattle.wire.proofs.OneResult.{OneResult}
 use Rattle.fields.proofs.read.byte.Reads as byte
 use Rattle.fields.proofs.read.word.Reads as word
@@ -16,8 +16,6 @@ use Rattle.fields.proofs.answer.malformed.Reads as malformed
 use Rattle.fields.proofs.answer.numbered.Reads as numbered
 use Rattle.fields.proofs.answer.valued.Reads as valued
 use Rattle.fields.proofs.read.filled.Reads as filled
-use Rattle.fields.proofs.read.filled_word.Reads as filled-word
-use Rattle.fields.proofs.read.filled_triple.Reads as filled-triple
 use Rattle.fields.proofs.read.room.Reads as room
 use Rattle.fields.proofs.read.is_lending.Reads as is-lending
 use Rattle.fields.proofs.kind.is_kind.Reads as is-kind
@@ -68,14 +66,8 @@ numbered_unique κs a r r' s s' p q = p ∙ sym q
 pub valued_unique : OneResult valued.Post
 valued_unique κs a r r' s s' p q = p ∙ sym q
 
-pub filled_unique : OneResult filled.Post
-filled_unique κs a r r' s s' p q = p ∙ sym q
-
-pub filled_word_unique : OneResult filled-word.Post
-filled_word_unique κs a r r' s s' p q = p ∙ sym q
-
-pub filled_triple_unique : OneResult filled-triple.Post
-filled_triple_unique κs a r r' s s' p q = p ∙ sym q
+pub filled_unique : (n : ℕ) (f : Fits w64 n) → OneResult (filled.Post n f)
+filled_unique n f κs a r r' s s' p q = p ∙ sym q
 
 pub room_unique : OneResult room.Post
 room_unique κs a r r' s s' p q = p ∙ sym q

@@ -5,7 +5,7 @@ ghost use Rattle.fields.specs.Answer.{fields_nothing, answer_put, answer_put_fla
 // The longest answer: number, length, 64 bytes of a lent buffer, 33 node records of 65 bytes.
 pub const MOST_BYTES: usize = 2211;
 
-// What a line is answered: the first `length` bytes.
+// What a line is answered: the first `length` bytes. A length beside the bytes, since there is no heap here, and `put` has no way to fail.
 #[derive(Clone, Copy)]
 pub struct Answer {
     pub bytes: [u8; MOST_BYTES],
@@ -27,10 +27,9 @@ impl Answer {
     pub fn put(mut self, b: u8) -> Answer
         ensures { result ≡ answer_put self b }
     {
-        let at = self.length;
-        if at < MOST_BYTES {
-            self.bytes[at] = b;
-            self.length = at + 1;
+        if self.length < MOST_BYTES {
+            self.bytes[self.length] = b;
+            self.length += 1;
         }
         self
     }
@@ -39,46 +38,35 @@ impl Answer {
     pub fn put_flag(self, set: bool) -> Answer
         ensures { result ≡ answer_put_flag self set }
     {
-        if set {
-            return self.put(1);
-        }
-        self.put(0)
+        self.put(u8::from(set))
     }
 
     // With two bytes more, the least significant first.
     pub fn put_word(self, word: u16) -> Answer
         ensures { result ≡ answer_put_word self word }
     {
-        self.put((word % 256) as u8).put((word / 256) as u8)
+        self.put_all(&word.to_le_bytes())
     }
 
     // With three bytes more: of a larger number its lowest three.
     pub fn put_triple(self, triple: usize) -> Answer
         ensures { result ≡ answer_put_triple self triple }
     {
-        self.put_word((triple % 65536) as u16)
-            .put((triple / 65536 % 256) as u8)
+        self.put_all(&triple.to_le_bytes()[..3])
     }
 
     // With four bytes more.
     pub fn put_long(self, long: u32) -> Answer
         ensures { result ≡ answer_put_long self long }
     {
-        self.put_word((long % 65536) as u16)
-            .put_word((long / 65536) as u16)
+        self.put_all(&long.to_le_bytes())
     }
 
     // With these bytes more.
     pub fn put_all(self, bytes: &[u8]) -> Answer
         ensures { result ≡ answer_put_all self bytes.now }
     {
-        let mut all = self;
-        let mut i = 0;
-        while i < bytes.len() {
-            all = all.put(bytes[i]);
-            i += 1;
-        }
-        all
+        bytes.iter().fold(self, |all, b| all.put(*b))
     }
 }
 

@@ -4,9 +4,10 @@ ghost use Rattle.fields.specs.Kind.{is_kind, read_kind, kind_byte, answer_put_ki
 
 use crate::answer::Answer;
 use crate::read::byte;
-use text::rest;
+use std::array;
 use wire::Kind;
 
+// A test and a reader of any byte, and no `TryFrom`: a line is tested whole and then read, and the impl had to stand beside the type, in wire, which knows no lines.
 // Whether a byte is a KIND.
 pub fn is_kind(b: u8) -> bool
     ensures { result ≡ is_kind b }
@@ -18,10 +19,7 @@ pub fn is_kind(b: u8) -> bool
 pub fn read_kind(b: u8) -> Kind
     ensures { result ≡ read_kind b }
 {
-    if b == 1 {
-        return Kind::Drive;
-    }
-    Kind::Gate
+    if b == 1 { Kind::Drive } else { Kind::Gate }
 }
 
 // The KIND of a kind.
@@ -47,25 +45,12 @@ impl Answer {
 pub fn are_kinds(s: &[u8]) -> bool
     ensures { result ≡ are_kinds s.now }
 {
-    let mut i = 0;
-    while i < s.len() {
-        if !is_kind(s[i]) {
-            return false;
-        }
-        i += 1;
-    }
-    true
+    s.iter().all(|b| is_kind(*b))
 }
 
 // The kinds that s says of a chain's nodes; past its end are LS-773s.
 pub fn read_kinds(s: &[u8]) -> [Kind; wire::MOST_NODES]
     ensures { result ≡ read_kinds s.now }
 {
-    let mut kinds = [Kind::Gate; wire::MOST_NODES];
-    let mut i = 0;
-    while i < wire::MOST_NODES {
-        kinds[i] = read_kind(byte(rest(s, i), 0));
-        i += 1;
-    }
-    kinds
+    array::from_fn(|i| read_kind(byte(s, i)))
 }

@@ -10,6 +10,5 @@ mod read;
 pub use answer::{Answer, MOST_BYTES, malformed, nothing, numbered, valued};
 pub use kind::{are_kinds, is_kind, read_kind, read_kinds};
 pub use read::{
-    MOST_ROOM, MOST_TRIPLE_ROOM, MOST_WORD_ROOM, byte, filled, filled_triple, filled_word,
-    is_lending, long, room, triple, word,
+    MOST_ROOM, MOST_TRIPLE_ROOM, MOST_WORD_ROOM, byte, filled, is_lending, long, room, triple, word,
 };

@@ -1,5 +1,5 @@
 -- The answer with no bytes.
-use mathlib.Core.Path.{refl}
+use Rattle.std.proofs.Common.{refl}
 use Rattle.fields.specs.Answer.{fields_nothing}
 use Rattle.fields.proofs.answer.nothing.Goals as goal
 

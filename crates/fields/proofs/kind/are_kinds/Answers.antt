@@ -1,16 +1,10 @@
-use mathlib.Core.Path.{refl}
-use native.Mathlib.Omega.{arith}
-use Rattle.fields.proofs.Telling.{kind_bad, kind_good, kinds_good}
+-- The test of all bytes.
+use Rattle.std.proofs.Common.{rules, tests, ◌∙◌}
+use Rattle.std.proofs.lemmas.Iterator.{YieldsList-from_slice}
+use Rattle.std.proofs.lemmas.Iterator.Search.{all_from_yields_List}
+use Rattle.fields.specs.Kind.{is_kind}
+use Rattle.fields.proofs.Telling.{all_kinds}
 use Rattle.fields.proofs.kind.are_kinds.Goals as goal
 
-pub loop-i-init : goal.loop-i-init
-loop-i-init c = (omega arith, refl)
-
-pub returns-then-not-is_kind : goal.returns-then-not-is_kind
-returns-then-not-is_kind c = search kind_bad
-
-pub loop-i-preserved : goal.loop-i-preserved
-loop-i-preserved c = (omega arith, search kind_good)
-
 pub returns : goal.returns
-returns c = search kinds_good
+returns c = all_from_yields_List is_kind _ _ _ c.all.ensures.ran (YieldsList-from_slice c.args.s.now cc) (λ x b q k. search (rules, tests)) ∙ all_kinds c.args.s.now

@@ -1,9 +1,12 @@
 -- By the byte.
-use Rattle.fields.proofs.Telling.{kind_drive, kind_gate}
+use Rattle.wire.proofs.Tests.{tests}
+use Rattle.fields.specs.Kind.{read_kind}
 use Rattle.fields.proofs.kind.read_kind.Goals as goal
 
 pub returns-then-b-eq1 : goal.returns-then-b-eq1
-returns-then-b-eq1 c = search kind_drive
+unfolding read_kind
+returns-then-b-eq1 c = search tests
 
-pub returns : goal.returns
-returns c = search kind_gate
+pub returns-else-b-eq1 : goal.returns-else-b-eq1
+unfolding read_kind
+returns-else-b-eq1 c = search tests

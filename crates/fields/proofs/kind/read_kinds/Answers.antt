@@ -1,14 +1,7 @@
-use mathlib.Core.Path.{refl}
-use native.Mathlib.Omega.{arith}
-use borrow.Author.Rules.{rules}
-use Rattle.fields.proofs.Telling.{kind_more, kinds_end}
+-- The kind at each position.
+use Rattle.std.proofs.Common.{rules, tests}
+use Rattle.fields.proofs.Telling.{kinds_each}
 use Rattle.fields.proofs.kind.read_kinds.Goals as goal
 
-pub loop-i-init : goal.loop-i-init
-loop-i-init c = (omega arith, refl, refl)
-
-pub loop-i-preserved : goal.loop-i-preserved
-loop-i-preserved c = (omega arith, search rules, search kind_more)
-
 pub returns : goal.returns
-returns c = search kinds_end
+returns c = kinds_each _ _ _ _ c.from_fn.ensures.items.long (λ y j q k. search (rules, tests)) c.from_fn.ensures.items.each

@@ -1,12 +1,17 @@
 -- By the most.
-use Rattle.fields.proofs.Fields.{field_byte, field_word, field_triple}
+use Rattle.std.proofs.Common.{rules}
+use Rattle.wire.proofs.Tests.{tests}
+use Rattle.fields.specs.Lending.{room_field}
 use Rattle.fields.proofs.read.room_field.Goals as goal
 
-pub returns-then-most-lt256 : goal.returns-then-most-lt256
-returns-then-most-lt256 c = search field_byte
+pub returns-in-0-to-255 : goal.returns-in-0-to-255
+unfolding room_field
+returns-in-0-to-255 c = search (tests, rules)
 
-pub returns-then-most-lt65536 : goal.returns-then-most-lt65536
-returns-then-most-lt65536 c = search field_word
+pub returns-in-256-to-65535 : goal.returns-in-256-to-65535
+unfolding room_field
+returns-in-256-to-65535 c = search (tests, rules)
 
-pub returns : goal.returns
-returns c = search field_triple
+pub returns-in_default : goal.returns-in_default
+unfolding room_field
+returns-in_default c = search (tests, rules)

@@ -1,9 +1,12 @@
 -- The byte, where it has room.
-use Rattle.fields.proofs.Answers.{put_fits, put_not}
+use Rattle.wire.proofs.Tests.{tests}
+use Rattle.fields.specs.Answer.{answer_put}
 use Rattle.fields.proofs.answer.Answer.put.Goals as goal
 
-pub returns-then-at-lt-MOST_BYTES : goal.returns-then-at-lt-MOST_BYTES
-returns-then-at-lt-MOST_BYTES c = search put_fits
+pub returns-then-self-lt-MOST_BYTES : goal.returns-then-self-lt-MOST_BYTES
+unfolding answer_put
+returns-then-self-lt-MOST_BYTES c = search tests
 
-pub returns-else-at-lt-MOST_BYTES : goal.returns-else-at-lt-MOST_BYTES
-returns-else-at-lt-MOST_BYTES c = search put_not
+pub returns-else-self-lt-MOST_BYTES : goal.returns-else-self-lt-MOST_BYTES
+unfolding answer_put
+returns-else-self-lt-MOST_BYTES c = search tests

@@ -1,6 +1,8 @@
 -- Its byte.
-use Rattle.fields.proofs.Telling.{kind_put}
+use Rattle.std.proofs.Common.{rules}
+use Rattle.fields.specs.Kind.{answer_put_kind}
 use Rattle.fields.proofs.answer.Answer.put_kind.Goals as goal
 
 pub returns : goal.returns
-returns c = search kind_put
+unfolding answer_put_kind
+returns c = search rules

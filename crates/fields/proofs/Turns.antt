@@ -6,10 +6,10 @@ use mathlib.Core.Path.{◌≡◌, refl, sym, ap, ◌∙◌}
 use native.Mathlib.Nat.{not-suc-le-zero, le_of_suc-le-suc, add_assoc, add-zero}
 use native.Mathlib.Numerals.{add-one}
 use native.Mathlib.Omega.{arith}
-use lib.ListN.{length, get_or, set, take, drop, length-take, drop_of_length-le}
-use lib.Seq.{drop-cons, drop-drop, get_or-take}
+use lib.ListN.{length, set, take, drop}
+use lib.Seq.{drop-drop}
 use borrow.Author.Tests.{not-true, not-false}
-use Rattle.fields.specs.declared.answer.Answer.{Answer}
+use Rattle.std.specs.List.{fold}
 use Rattle.fields.specs.Record.{records_from, records_length, all_are, put_each}
 
 -- the records from i on, which begin at a position: the next, and those behind it
@@ -79,26 +79,8 @@ module _ {A : Type 0} (long : List ℕ → ℕ) (read : List ℕ → A) where
   pub all_read : (n : ℕ) (s : List ℕ) (l : List A) (i at : ℕ) → Reading n s l i at → n ≤ i → length l ≤ i → l ≡ map read (records_from long n s)
   all_read n s l i at h le inside = sym (whole l i inside) ∙ rw (none long i n at s le) at h
 
--- putting all of an array: what is put, and then what the rest will give, is the answer
-module _ {B : Type 0} (put : Answer → B → Answer) where
-  pub one_put : (l : List B) (a b w : Answer) (i : ℕ) (d : B) → put_each put a (drop i l) ≡ w → i < length l → b ≡ put a (get_or l i d) → put_each put b (drop (i + 1) l) ≡ w
-  unfolding put_each
-  one_put l a b w i d h lt e = rw (e, add-one i) (rw (drop-cons l i d lt) at h)
-
-  pub all_put : (l : List B) (a w : Answer) (i m : ℕ) → put_each put a (drop i l) ≡ w → length l ≡ m → m ≤ i → a ≡ w
-  unfolding put_each
-  all_put l a w i m h e le = rw (drop_of_length-le l {i = i} (omega arith)) at h
-
-  -- or of its first n
-  taken : (l : List B) (n i : ℕ) (d : B) → i < n → i < length l → (i < length (take n l)) × (get_or (take n l) i d ≡ get_or l i d)
-  taken l n i d p q = (omega (arith, length-take n l), get_or-take n l i d p)
-
-  module _ (l : List B) (n i : ℕ) (a w : Answer) (h : put_each put a (drop i (take n l)) ≡ w) where
-    pub one_counted : (d : B) (b : Answer) → i < n → i < length l → b ≡ put a (get_or l i d) → put_each put b (drop (i + 1) (take n l)) ≡ w
-    one_counted d b p q e = let t = taken l n i d p q in one_put (take n l) a b w i d h t.0 (e ∙ ap (put a) (sym t.1))
-
-    pub all_counted : n ≤ i → a ≡ w
-    all_counted p = all_put (take n l) a w i _ h refl (omega (arith, length-take n l))
-
-    pub all_there : (m : ℕ) → length l ≡ m → m ≤ i → a ≡ w
-    all_there m e p = all_put (take n l) a w i _ h refl (omega (arith, length-take n l))
+-- putting all of an array is a fold over it
+pub each_folded : {A B : Type 0} (put : A → B → A) (a : A) (l : List B) → fold put a l ≡ put_each put a l
+unfolding put_each
+each_folded put a [] = refl
+each_folded put a (x ∷ l) = each_folded put (put a x) l

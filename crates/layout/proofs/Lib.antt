@@ -1,4 +1,3 @@
 mod Fields
-mod Answers
 mod Known
 pub mod Unique

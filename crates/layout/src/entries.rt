@@ -34,7 +34,7 @@ fn is_entry(s: &[u8]) -> bool
     ensures { result ≡ is_entry s.now }
 {
     let n = entry_length(s);
-    is_kind(byte(s, 0)) & (n <= s.len()) & (byte(s, 4) < 2) & (byte(s, n - 1) < 128)
+    is_kind(byte(s, 0)) && n <= s.len() && byte(s, 4) < 2 && byte(s, n - 1) < 128
 }
 
 // Whether s is the 31 entries of a session.
@@ -42,14 +42,12 @@ pub fn are_entries(s: &[u8]) -> bool
     ensures { result ≡ are_entries s.now }
 {
     let mut at = 0;
-    let mut i = 0;
-    while i < ENTRIES {
+    for _ in 0..ENTRIES {
         let entry = rest(s, at);
         if !is_entry(entry) {
             return false;
         }
         at += entry_length(entry);
-        i += 1;
     }
     at == s.len()
 }
@@ -95,26 +93,21 @@ fn drive_known(bits: u16) -> DriveKnown
 fn read_known(kind: Kind, bits: u16) -> Known
     ensures { result ≡ read_known kind bits }
 {
-    let up = Entry::power_up(kind);
-    let all = up.known;
-    let gate = all.gate;
-    let drive = all.drive;
-    let place = bits % 2 == 1;
-    let mask = bits / 2 % 2 == 1;
+    let known = Known {
+        place: bits % 2 == 1,
+        mask: bits / 2 % 2 == 1,
+        ..Entry::power_up(kind).known
+    };
     match kind {
         Kind::Gate => Known {
-            place,
-            mask,
             divisor: bits / 64 % 2 == 1,
             gate: gate_known(bits / 4),
-            drive,
+            ..known
         },
         Kind::Drive => Known {
-            place,
-            mask,
             divisor: bits / 16384 % 2 == 1,
-            gate,
             drive: drive_known(bits / 4),
+            ..known
         },
     }
 }
@@ -124,7 +117,7 @@ fn bits_in(kind: Kind, s: &[u8]) -> u16
     ensures { result ≡ bits_in kind s.now }
 {
     match kind {
-        Kind::Gate => byte(s, 15) as u16,
+        Kind::Gate => u16::from(byte(s, 15)),
         Kind::Drive => word(s, 48),
     }
 }
@@ -147,16 +140,12 @@ fn read_entry(s: &[u8]) -> Entry
 pub fn read_entries(s: &[u8]) -> [Entry; ENTRIES]
     ensures { result ≡ read_entries s.now }
 {
-    let e = read_entry(s);
-    let mut entries = [e; ENTRIES];
+    let mut entries = [read_entry(s); ENTRIES];
     let mut at = 0;
-    let mut i = 0;
-    while i < ENTRIES {
-        let entry = rest(s, at);
-        let e = read_entry(entry);
-        entries[i] = e;
-        at += entry_length(entry);
-        i += 1;
+    for entry in entries.iter_mut() {
+        let record = rest(s, at);
+        *entry = read_entry(record);
+        at += entry_length(record);
     }
     entries
 }
@@ -182,8 +171,11 @@ fn motion_bits(k: MotionKnown) -> u8
     ensures value { result ≡ motion_bits k }
     ensures within { result ≤ 31 }
 {
-    let low = bit(k.control, 1) + bit(k.position, 2);
-    low + bit(k.velocity, 4) + bit(k.acceleration, 8) + bit(k.pwm, 16)
+    bit(k.control, 1)
+        + bit(k.position, 2)
+        + bit(k.velocity, 4)
+        + bit(k.acceleration, 8)
+        + bit(k.pwm, 16)
 }
 
 // Of a drive's own.
@@ -194,7 +186,7 @@ fn drive_bits(k: DriveKnown) -> u16
     let low = bit(k.gains, 1) + bit(k.stop, 2);
     let waiting = motion_bits(k.waiting);
     let in_force = motion_bits(k.in_force);
-    low as u16 + waiting as u16 * 4 + in_force as u16 * 128
+    u16::from(low) + u16::from(waiting) * 4 + u16::from(in_force) * 128
 }
 
 // Of place and mask, which both kinds have in the same bits.
@@ -213,7 +205,7 @@ fn put_known(a: Answer, kind: Kind, k: Known) -> Answer
     let pace = bit(k.divisor, 64);
     match kind {
         Kind::Gate => a.put(low + gate_bits(k.gate) * 4 + pace),
-        Kind::Drive => a.put_word(low as u16 + drive_bits(k.drive) * 4 + pace as u16 * 256),
+        Kind::Drive => a.put_word(u16::from(low) + drive_bits(k.drive) * 4 + u16::from(pace) * 256),
     }
 }
 
@@ -221,22 +213,13 @@ fn put_known(a: Answer, kind: Kind, k: Known) -> Answer
 fn put_entry(a: Answer, e: Entry) -> Answer
     ensures { result ≡ put_entry a e }
 {
-    let kind = e.kind;
-    let s = e.settings;
-    let a = put_place(a.put_kind(kind).put(s.divisor), s.place);
-    put_known(put_settings(a, kind, s), kind, e.known)
+    let a = put_place(a.put_kind(e.kind).put(e.settings.divisor), e.settings.place);
+    put_known(put_settings(a, e.kind, e.settings), e.kind, e.known)
 }
 
 // With ENTRY*31 more.
 pub fn put_entries(a: Answer, entries: [Entry; ENTRIES]) -> Answer
     ensures { result ≡ put_entries a entries }
 {
-    let mut all = a;
-    let mut i = 0;
-    while i < ENTRIES {
-        let e = entries[i];
-        all = put_entry(all, e);
-        i += 1;
-    }
-    all
+    entries.iter().fold(a, |all, e| put_entry(all, *e))
 }

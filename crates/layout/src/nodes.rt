@@ -33,7 +33,7 @@ fn node_length(s: &[u8]) -> usize
 fn is_node(s: &[u8]) -> bool
     ensures { result ≡ is_node s.now }
 {
-    is_kind(byte(s, 0)) & (node_length(s) <= s.len()) & (byte(s, 4) < 2) & (byte(s, 5) < 2)
+    is_kind(byte(s, 0)) && node_length(s) <= s.len() && byte(s, 4) < 2 && byte(s, 5) < 2
 }
 
 // Whether s starts with so many records, and a line may lend them.
@@ -44,14 +44,12 @@ pub fn are_nodes(s: &[u8], count: usize) -> bool
         return false;
     }
     let mut at = 0;
-    let mut i = 0;
-    while i < count {
+    for _ in 0..count {
         let record = rest(s, at);
         if !is_node(record) {
             return false;
         }
         at += node_length(record);
-        i += 1;
     }
     true
 }
@@ -64,10 +62,8 @@ pub fn nodes_length(s: &[u8], count: usize) -> usize
         return 0;
     }
     let mut at = 0;
-    let mut i = 0;
-    while i < count {
+    for _ in 0..count {
         at += node_length(rest(s, at));
-        i += 1;
     }
     at
 }
@@ -116,25 +112,22 @@ fn drive_bench(s: &[u8]) -> Bench
 fn read_captured(s: &[u8]) -> Captured
     ensures { result ≡ read_captured s.now }
 {
-    let inputs = word(s, 0);
-    let counter = long(s, 2);
-    Captured { counter, inputs }
+    Captured {
+        counter: long(s, 2),
+        inputs: word(s, 0),
+    }
 }
 
 // What a gate's record has behind its kind.
 fn read_gate_node(s: &[u8]) -> Node
     ensures { result ≡ read_gate_node s.now }
 {
-    let addressed = byte(s, 4) == 1;
-    let settings = read_settings(Kind::Gate, byte(s, 0), read_place(rest(s, 1)), rest(s, 5));
-    let bench = gate_bench(rest(s, 15));
-    let captured = read_captured(rest(s, 26));
     Node {
-        settings,
-        bench,
-        captured,
+        settings: read_settings(Kind::Gate, byte(s, 0), read_place(rest(s, 1)), rest(s, 5)),
+        bench: gate_bench(rest(s, 15)),
+        captured: read_captured(rest(s, 26)),
         position: 0,
-        addressed,
+        addressed: byte(s, 4) == 1,
         kind: Kind::Gate,
     }
 }
@@ -143,20 +136,16 @@ fn read_gate_node(s: &[u8]) -> Node
 fn read_drive_node(s: &[u8]) -> Node
     ensures { result ≡ read_drive_node s.now }
 {
-    let addressed = byte(s, 4) == 1;
-    let settings = read_settings(Kind::Drive, byte(s, 0), read_place(rest(s, 1)), rest(s, 5));
     let shown = rest(s, 48);
-    let bench = drive_bench(shown);
-    let captured = Captured {
-        counter: 0,
-        inputs: 0,
-    };
     Node {
-        settings,
-        bench,
-        captured,
+        settings: read_settings(Kind::Drive, byte(s, 0), read_place(rest(s, 1)), rest(s, 5)),
+        bench: drive_bench(shown),
+        captured: Captured {
+            counter: 0,
+            inputs: 0,
+        },
         position: long(shown, 0),
-        addressed,
+        addressed: byte(s, 4) == 1,
         kind: Kind::Drive,
     }
 }
@@ -175,16 +164,12 @@ fn read_node(s: &[u8]) -> Node
 pub fn read_nodes(s: &[u8]) -> [Node; MOST_LENT]
     ensures { result ≡ read_nodes s.now }
 {
-    let n = read_node(s);
-    let mut nodes = [n; MOST_LENT];
+    let mut nodes = [read_node(s); MOST_LENT];
     let mut at = 0;
-    let mut i = 0;
-    while i < MOST_LENT {
+    for node in nodes.iter_mut() {
         let record = rest(s, at);
-        let n = read_node(record);
-        nodes[i] = n;
+        *node = read_node(record);
         at += node_length(record);
-        i += 1;
     }
     nodes
 }
@@ -220,10 +205,10 @@ fn put_drive_bench(a: Answer, position: u32, b: Bench) -> Answer
 }
 
 // With what stands behind a node's settings more, by its kind.
-fn put_shown(a: Answer, kind: Kind, n: Node) -> Answer
-    ensures { result ≡ put_shown a kind n }
+fn put_shown(a: Answer, n: Node) -> Answer
+    ensures { result ≡ put_shown a n.kind n }
 {
-    match kind {
+    match n.kind {
         Kind::Gate => put_captured(put_gate_bench(a, n.bench), n.captured),
         Kind::Drive => put_drive_bench(a, n.position, n.bench),
     }
@@ -233,25 +218,13 @@ fn put_shown(a: Answer, kind: Kind, n: Node) -> Answer
 fn put_node(a: Answer, n: Node) -> Answer
     ensures { result ≡ put_node a n }
 {
-    let kind = n.kind;
-    let s = n.settings;
-    let a = put_place(a.put_kind(kind).put(s.divisor), s.place).put_flag(n.addressed);
-    put_shown(put_settings(a, kind, s), kind, n)
+    let a = put_place(a.put_kind(n.kind).put(n.settings.divisor), n.settings.place);
+    put_shown(put_settings(a.put_flag(n.addressed), n.kind, n.settings), n)
 }
 
 // With the first `count` nodes more.
 pub fn put_nodes(a: Answer, nodes: [Node; MOST_LENT], count: usize) -> Answer
     ensures { result ≡ put_nodes a nodes count }
 {
-    let mut all = a;
-    let mut i = 0;
-    while i < MOST_LENT {
-        if count <= i {
-            return all;
-        }
-        let n = nodes[i];
-        all = put_node(all, n);
-        i += 1;
-    }
-    all
+    nodes.iter().take(count).fold(a, |all, n| put_node(all, *n))
 }

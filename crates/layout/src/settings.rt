@@ -13,11 +13,10 @@ use wire::{Group, Individual, Kind};
 pub(crate) fn read_place(s: &[u8]) -> Place
     ensures { result ≡ read_place s.now }
 {
-    let leader = byte(s, 2) == 1;
     Place {
         address: Individual(byte(s, 0)),
         group: Group(byte(s, 1)),
-        leader,
+        leader: byte(s, 2) == 1,
     }
 }
 
@@ -25,12 +24,13 @@ pub(crate) fn read_place(s: &[u8]) -> Place
 fn read_held(s: &[u8]) -> Held
     ensures { result ≡ read_held s.now }
 {
-    let outputs = word(s, 0);
-    let pwm = Pwm {
-        first: byte(s, 2),
-        second: byte(s, 3),
-    };
-    Held { outputs, pwm }
+    Held {
+        outputs: word(s, 0),
+        pwm: Pwm {
+            first: byte(s, 2),
+            second: byte(s, 3),
+        },
+    }
 }
 
 // A gate's own: outputs (2), PWM pair, held outputs (2), held PWM pair, timer mode.
@@ -38,12 +38,10 @@ fn read_gate(s: &[u8]) -> GateSettings
     ensures { result ≡ read_gate s.now }
 {
     let live = read_held(s);
-    let held = read_held(rest(s, 4));
-    let pwm = live.pwm;
     GateSettings {
         outputs: live.outputs,
-        held,
-        pwm,
+        held: read_held(rest(s, 4)),
+        pwm: live.pwm,
         timer: byte(s, 8),
     }
 }
@@ -81,13 +79,10 @@ fn read_motion(s: &[u8]) -> Motion
 fn read_drive(s: &[u8]) -> DriveSettings
     ensures { result ≡ read_drive s.now }
 {
-    let gains = read_gains(s);
-    let waiting = read_motion(rest(s, 14));
-    let in_force = read_motion(rest(s, 28));
     DriveSettings {
-        waiting,
-        in_force,
-        gains,
+        waiting: read_motion(rest(s, 14)),
+        in_force: read_motion(rest(s, 28)),
+        gains: read_gains(s),
         stop: byte(s, 13),
     }
 }
@@ -126,17 +121,17 @@ pub(crate) fn put_place(a: Answer, p: Place) -> Answer
 fn put_held(a: Answer, h: Held) -> Answer
     ensures { result ≡ put_held a h }
 {
-    let pwm = h.pwm;
-    a.put_word(h.outputs).put(pwm.first).put(pwm.second)
+    a.put_word(h.outputs).put(h.pwm.first).put(h.pwm.second)
 }
 
 // With a gate's own more.
 fn put_gate(a: Answer, g: GateSettings) -> Answer
     ensures { result ≡ put_gate a g }
 {
-    let outputs = g.outputs;
-    let pwm = g.pwm;
-    let live = Held { outputs, pwm };
+    let live = Held {
+        outputs: g.outputs,
+        pwm: g.pwm,
+    };
     put_held(put_held(a, live), g.held).put(g.timer)
 }
 

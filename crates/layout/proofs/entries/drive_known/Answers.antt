@@ -1,6 +1,7 @@
--- Bit by bit.
-use Rattle.layout.proofs.Known.{drive_known_lem}
+use Rattle.std.proofs.Common.{rules}
+use Rattle.layout.specs.Entries.{drive_known}
 use Rattle.layout.proofs.entries.drive_known.Goals as goal
 
 pub returns : goal.returns
-returns c = search drive_known_lem
+unfolding drive_known
+returns c = search rules

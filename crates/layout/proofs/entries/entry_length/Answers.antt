@@ -1,10 +1,11 @@
--- By the kind.
-use borrow.Author.Rules.{rules}
-use Rattle.layout.proofs.Known.{entry_gate, entry_drive}
+use Rattle.std.proofs.Common.{rules}
+use Rattle.layout.specs.Entries.{entry_length}
 use Rattle.layout.proofs.entries.entry_length.Goals as goal
 
-pub returns-in-Gate : goal.returns-in-Gate
-returns-in-Gate c = search (entry_gate, rules)
+pub returns-in-Gate-clause-value : goal.returns-in-Gate-clause-value
+unfolding entry_length
+returns-in-Gate-clause-value c = search rules
 
-pub returns-in-Drive : goal.returns-in-Drive
-returns-in-Drive c = search (entry_drive, rules)
+pub returns-in-Drive-clause-value : goal.returns-in-Drive-clause-value
+unfolding entry_length
+returns-in-Drive-clause-value c = search rules

@@ -1,7 +1,7 @@
--- Bit by bit.
-use borrow.Author.Rules.{rules}
-use Rattle.layout.proofs.Known.{gate_bits_lem}
+use Rattle.std.proofs.Common.{rules}
+use Rattle.layout.specs.Entries.{gate_bits}
 use Rattle.layout.proofs.entries.gate_bits.Goals as goal
 
-pub returns : goal.returns
-returns c = search (gate_bits_lem, rules)
+pub returns-clause-value : goal.returns-clause-value
+unfolding gate_bits
+returns-clause-value c = search rules

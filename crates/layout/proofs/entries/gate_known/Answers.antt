@@ -1,6 +1,7 @@
--- Bit by bit.
-use Rattle.layout.proofs.Known.{gate_known_lem}
+use Rattle.std.proofs.Common.{rules}
+use Rattle.layout.specs.Entries.{gate_known}
 use Rattle.layout.proofs.entries.gate_known.Goals as goal
 
 pub returns : goal.returns
-returns c = search gate_known_lem
+unfolding gate_known
+returns c = search rules

@@ -1,7 +1,7 @@
--- Bit by bit.
-use borrow.Author.Rules.{rules}
-use Rattle.layout.proofs.Known.{motion_bits_lem}
+use Rattle.std.proofs.Common.{rules}
+use Rattle.layout.specs.Entries.{motion_bits}
 use Rattle.layout.proofs.entries.motion_bits.Goals as goal
 
-pub returns : goal.returns
-returns c = search (motion_bits_lem, rules)
+pub returns-clause-value : goal.returns-clause-value
+unfolding motion_bits
+returns-clause-value c = search rules

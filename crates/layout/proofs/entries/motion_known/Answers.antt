@@ -1,6 +1,7 @@
--- Bit by bit.
-use Rattle.layout.proofs.Known.{motion_known_lem}
+use Rattle.std.proofs.Common.{rules}
+use Rattle.layout.specs.Entries.{motion_known}
 use Rattle.layout.proofs.entries.motion_known.Goals as goal
 
 pub returns : goal.returns
-returns c = search motion_known_lem
+unfolding motion_known
+returns c = search rules

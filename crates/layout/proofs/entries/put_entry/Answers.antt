@@ -1,6 +1,7 @@
--- Part by part.
-use Rattle.layout.proofs.Known.{entry_put}
+use Rattle.std.proofs.Common.{rules}
+use Rattle.layout.specs.Entries.{put_entry}
 use Rattle.layout.proofs.entries.put_entry.Goals as goal
 
 pub returns : goal.returns
-returns c = search entry_put
+unfolding put_entry
+returns c = search rules

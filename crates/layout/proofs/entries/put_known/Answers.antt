@@ -1,9 +1,11 @@
--- By the kind.
-use Rattle.layout.proofs.Known.{gate_known_put, drive_known_put}
+use Rattle.std.proofs.Common.{rules}
+use Rattle.layout.specs.Entries.{put_known}
 use Rattle.layout.proofs.entries.put_known.Goals as goal
 
 pub returns-in-Gate : goal.returns-in-Gate
-returns-in-Gate c = search gate_known_put
+unfolding put_known
+returns-in-Gate c = search rules
 
 pub returns-in-Drive : goal.returns-in-Drive
-returns-in-Drive c = search drive_known_put
+unfolding put_known
+returns-in-Drive c = search rules

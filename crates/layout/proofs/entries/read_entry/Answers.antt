@@ -1,6 +1,7 @@
--- Part by part.
-use Rattle.layout.proofs.Known.{entry_is}
+use Rattle.std.proofs.Common.{rules}
+use Rattle.layout.specs.Entries.{read_entry}
 use Rattle.layout.proofs.entries.read_entry.Goals as goal
 
 pub returns : goal.returns
-returns c = search entry_is
+unfolding read_entry
+returns c = search rules

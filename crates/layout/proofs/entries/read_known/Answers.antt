@@ -1,9 +1,11 @@
--- By the kind.
-use Rattle.layout.proofs.Known.{known_gate_lem, known_drive_lem}
+use Rattle.std.proofs.Common.{rules}
+use Rattle.layout.specs.Entries.{read_known}
 use Rattle.layout.proofs.entries.read_known.Goals as goal
 
 pub returns-in-Gate : goal.returns-in-Gate
-returns-in-Gate c = search known_gate_lem
+unfolding read_known
+returns-in-Gate c = search rules
 
 pub returns-in-Drive : goal.returns-in-Drive
-returns-in-Drive c = search known_drive_lem
+unfolding read_known
+returns-in-Drive c = search rules

@@ -1,7 +1,7 @@
--- Bit by bit.
-use borrow.Author.Rules.{rules}
-use Rattle.layout.proofs.Known.{shared_bits_lem}
+use Rattle.std.proofs.Common.{rules}
+use Rattle.layout.specs.Entries.{shared_bits}
 use Rattle.layout.proofs.entries.shared_bits.Goals as goal
 
-pub returns : goal.returns
-returns c = search (shared_bits_lem, rules)
+pub returns-clause-value : goal.returns-clause-value
+unfolding shared_bits
+returns-clause-value c = search rules

@@ -1,6 +1,7 @@
--- Field by field.
-use Rattle.layout.proofs.Fields.{drive_bench_is}
+use Rattle.std.proofs.Common.{rules}
+use Rattle.layout.specs.Nodes.{drive_bench}
 use Rattle.layout.proofs.nodes.drive_bench.Goals as goal
 
 pub returns : goal.returns
-returns c = search drive_bench_is
+unfolding drive_bench
+returns c = search rules

@@ -1,6 +1,7 @@
--- Field by field.
-use Rattle.layout.proofs.Fields.{gate_bench_is}
+use Rattle.std.proofs.Common.{rules}
+use Rattle.layout.specs.Nodes.{gate_bench}
 use Rattle.layout.proofs.nodes.gate_bench.Goals as goal
 
 pub returns : goal.returns
-returns c = search gate_bench_is
+unfolding gate_bench
+returns c = search rules

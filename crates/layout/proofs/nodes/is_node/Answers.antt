@@ -1,6 +1,12 @@
--- By the tests.
-use Rattle.layout.proofs.Fields.{node_formed}
+use Rattle.std.proofs.Common.{rules}
+use Rattle.wire.proofs.Tests.{tests}
+use Rattle.layout.specs.Nodes.{is_node}
 use Rattle.layout.proofs.nodes.is_node.Goals as goal
 
-pub returns : goal.returns
-returns c = search node_formed
+pub returns-then-byte-lt2 : goal.returns-then-byte-lt2
+unfolding is_node
+returns-then-byte-lt2 c = search (tests, rules)
+
+pub returns-else-byte-lt2 : goal.returns-else-byte-lt2
+unfolding is_node
+returns-else-byte-lt2 c = search (tests, rules)

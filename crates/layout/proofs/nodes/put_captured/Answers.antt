@@ -1,6 +1,7 @@
--- Field by field.
-use Rattle.layout.proofs.Answers.{captured_put}
+use Rattle.std.proofs.Common.{rules}
+use Rattle.layout.specs.Nodes.{put_captured}
 use Rattle.layout.proofs.nodes.put_captured.Goals as goal
 
 pub returns : goal.returns
-returns c = search captured_put
+unfolding put_captured
+returns c = search rules

@@ -1,6 +1,7 @@
--- Field by field.
-use Rattle.layout.proofs.Answers.{drive_bench_put}
+use Rattle.std.proofs.Common.{rules}
+use Rattle.layout.specs.Nodes.{put_drive_bench}
 use Rattle.layout.proofs.nodes.put_drive_bench.Goals as goal
 
 pub returns : goal.returns
-returns c = search drive_bench_put
+unfolding put_drive_bench
+returns c = search rules

@@ -1,6 +1,7 @@
--- A word, four bytes, five more.
-use Rattle.layout.proofs.Answers.{gate_bench_put}
+use Rattle.std.proofs.Common.{rules}
+use Rattle.layout.specs.Nodes.{put_gate_bench}
 use Rattle.layout.proofs.nodes.put_gate_bench.Goals as goal
 
 pub returns : goal.returns
-returns c = search gate_bench_put
+unfolding put_gate_bench
+returns c = search rules

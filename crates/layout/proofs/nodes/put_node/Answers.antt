@@ -1,6 +1,7 @@
--- Part by part.
-use Rattle.layout.proofs.Answers.{node_put}
+use Rattle.std.proofs.Common.{rules}
+use Rattle.layout.specs.Nodes.{put_node}
 use Rattle.layout.proofs.nodes.put_node.Goals as goal
 
 pub returns : goal.returns
-returns c = search node_put
+unfolding put_node
+returns c = search rules

@@ -1,17 +1,13 @@
-use native.Mathlib.Omega.{arith}
-use borrow.Author.Rules.{rules}
-use Rattle.fields.proofs.Turns.{one_counted, all_counted, all_there}
-use Rattle.layout.proofs.Answers.{nodes_begin}
+-- The fold over the first of the nodes.
+use Rattle.std.proofs.Common.{rules, tests, take, ◌∙◌}
+use Rattle.std.proofs.lemmas.Iterator.{YieldsList-from_slice, YieldsList-from_take}
+use Rattle.std.proofs.lemmas.Iterator.Consumers.{fold_from_yields_List}
+use Rattle.fields.proofs.Turns.{each_folded}
+use Rattle.layout.specs.Nodes.{put_node, put_nodes}
 use Rattle.layout.proofs.nodes.put_nodes.Goals as goal
 
-pub loop-i-init : goal.loop-i-init
-loop-i-init c = (omega arith, search rules, nodes_begin _ _ _)
-
-pub returns-then-count-i : goal.returns-then-count-i
-returns-then-count-i c = search all_counted
-
-pub loop-i-preserved : goal.loop-i-preserved
-loop-i-preserved c = (omega arith, search rules, search (one_counted, rules))
-
 pub returns : goal.returns
-returns c = search all_there
+unfolding put_nodes
+returns c =
+    fold_from_yields_List _ put_node _ _ c.fold.ensures.ran (YieldsList-from_take c.args.count (YieldsList-from_slice c.args.nodes cc) cc) (λ a x b q k. search (rules, tests))
+    ∙ each_folded put_node c.args.a (take c.args.count c.args.nodes)

@@ -1,9 +1,11 @@
--- By the kind.
-use Rattle.layout.proofs.Answers.{gate_shown, drive_shown}
+use Rattle.std.proofs.Common.{rules}
+use Rattle.layout.specs.Nodes.{put_shown}
 use Rattle.layout.proofs.nodes.put_shown.Goals as goal
 
 pub returns-in-Gate : goal.returns-in-Gate
-returns-in-Gate c = search gate_shown
+unfolding put_shown
+returns-in-Gate c = search rules
 
 pub returns-in-Drive : goal.returns-in-Drive
-returns-in-Drive c = search drive_shown
+unfolding put_shown
+returns-in-Drive c = search rules

@@ -1,6 +1,7 @@
--- Field by field.
-use Rattle.layout.proofs.Fields.{captured_is}
+use Rattle.std.proofs.Common.{rules}
+use Rattle.layout.specs.Nodes.{read_captured}
 use Rattle.layout.proofs.nodes.read_captured.Goals as goal
 
 pub returns : goal.returns
-returns c = search captured_is
+unfolding read_captured
+returns c = search rules

@@ -1,6 +1,7 @@
--- Part by part.
-use Rattle.layout.proofs.Fields.{drive_node_is}
+use Rattle.std.proofs.Common.{rules}
+use Rattle.layout.specs.Nodes.{read_drive_node}
 use Rattle.layout.proofs.nodes.read_drive_node.Goals as goal
 
 pub returns : goal.returns
-returns c = search drive_node_is
+unfolding read_drive_node
+returns c = search rules

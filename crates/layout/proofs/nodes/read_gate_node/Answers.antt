@@ -1,6 +1,7 @@
--- Part by part.
-use Rattle.layout.proofs.Fields.{gate_node_is}
+use Rattle.std.proofs.Common.{rules}
+use Rattle.layout.specs.Nodes.{read_gate_node}
 use Rattle.layout.proofs.nodes.read_gate_node.Goals as goal
 
 pub returns : goal.returns
-returns c = search gate_node_is
+unfolding read_gate_node
+returns c = search rules

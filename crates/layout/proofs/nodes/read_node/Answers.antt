@@ -1,9 +1,11 @@
--- By the kind.
-use Rattle.layout.proofs.Fields.{reads_gate, reads_drive}
+use Rattle.std.proofs.Common.{rules}
+use Rattle.layout.specs.Nodes.{read_node}
 use Rattle.layout.proofs.nodes.read_node.Goals as goal
 
 pub returns-in-Gate : goal.returns-in-Gate
-returns-in-Gate c = search reads_gate
+unfolding read_node
+returns-in-Gate c = search rules
 
 pub returns-in-Drive : goal.returns-in-Drive
-returns-in-Drive c = search reads_drive
+unfolding read_node
+returns-in-Drive c = search rules

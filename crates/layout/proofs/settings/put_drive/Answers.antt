@@ -1,6 +1,7 @@
--- Part by part.
-use Rattle.layout.proofs.Answers.{drive_put}
+use Rattle.std.proofs.Common.{rules}
+use Rattle.layout.specs.Settings.{put_drive}
 use Rattle.layout.proofs.settings.put_drive.Goals as goal
 
 pub returns : goal.returns
-returns c = search drive_put
+unfolding put_drive
+returns c = search rules

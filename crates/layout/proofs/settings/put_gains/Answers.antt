@@ -1,6 +1,7 @@
--- Field by field.
-use Rattle.layout.proofs.Answers.{gains_put}
+use Rattle.std.proofs.Common.{rules}
+use Rattle.layout.specs.Settings.{put_gains}
 use Rattle.layout.proofs.settings.put_gains.Goals as goal
 
 pub returns : goal.returns
-returns c = search gains_put
+unfolding put_gains
+returns c = search rules

@@ -1,6 +1,7 @@
--- Both sets of outputs and PWM pair, and the timer mode.
-use Rattle.layout.proofs.Answers.{gate_put}
+use Rattle.std.proofs.Common.{rules}
+use Rattle.layout.specs.Settings.{put_gate}
 use Rattle.layout.proofs.settings.put_gate.Goals as goal
 
 pub returns : goal.returns
-returns c = search gate_put
+unfolding put_gate
+returns c = search rules

@@ -1,6 +1,7 @@
--- A word, two bytes.
-use Rattle.layout.proofs.Answers.{held_put}
+use Rattle.std.proofs.Common.{rules}
+use Rattle.layout.specs.Settings.{put_held}
 use Rattle.layout.proofs.settings.put_held.Goals as goal
 
 pub returns : goal.returns
-returns c = search held_put
+unfolding put_held
+returns c = search rules

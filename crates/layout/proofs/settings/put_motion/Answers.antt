@@ -1,6 +1,7 @@
--- Field by field.
-use Rattle.layout.proofs.Answers.{motion_put}
+use Rattle.std.proofs.Common.{rules}
+use Rattle.layout.specs.Settings.{put_motion}
 use Rattle.layout.proofs.settings.put_motion.Goals as goal
 
 pub returns : goal.returns
-returns c = search motion_put
+unfolding put_motion
+returns c = search rules

@@ -1,6 +1,7 @@
--- Three bytes.
-use Rattle.layout.proofs.Answers.{place_put}
+use Rattle.std.proofs.Common.{rules}
+use Rattle.layout.specs.Settings.{put_place}
 use Rattle.layout.proofs.settings.put_place.Goals as goal
 
 pub returns : goal.returns
-returns c = search place_put
+unfolding put_place
+returns c = search rules

@@ -1,9 +1,11 @@
--- By the kind.
-use Rattle.layout.proofs.Answers.{gate_settings_put, drive_settings_put}
+use Rattle.std.proofs.Common.{rules}
+use Rattle.layout.specs.Settings.{put_settings}
 use Rattle.layout.proofs.settings.put_settings.Goals as goal
 
 pub returns-in-Gate : goal.returns-in-Gate
-returns-in-Gate c = search gate_settings_put
+unfolding put_settings
+returns-in-Gate c = search rules
 
 pub returns-in-Drive : goal.returns-in-Drive
-returns-in-Drive c = search drive_settings_put
+unfolding put_settings
+returns-in-Drive c = search rules

@@ -1,6 +1,7 @@
--- Part by part.
-use Rattle.layout.proofs.Fields.{drive_is}
+use Rattle.std.proofs.Common.{rules}
+use Rattle.layout.specs.Settings.{read_drive}
 use Rattle.layout.proofs.settings.read_drive.Goals as goal
 
 pub returns : goal.returns
-returns c = search drive_is
+unfolding read_drive
+returns c = search rules

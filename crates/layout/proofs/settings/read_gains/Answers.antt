@@ -1,6 +1,7 @@
--- Field by field.
-use Rattle.layout.proofs.Fields.{gains_is}
+use Rattle.std.proofs.Common.{rules}
+use Rattle.layout.specs.Settings.{read_gains}
 use Rattle.layout.proofs.settings.read_gains.Goals as goal
 
 pub returns : goal.returns
-returns c = search gains_is
+unfolding read_gains
+returns c = search rules

@@ -1,6 +1,7 @@
--- Both sets of outputs and PWM pair, and the timer mode.
-use Rattle.layout.proofs.Fields.{gate_is}
+use Rattle.std.proofs.Common.{rules}
+use Rattle.layout.specs.Settings.{read_gate}
 use Rattle.layout.proofs.settings.read_gate.Goals as goal
 
 pub returns : goal.returns
-returns c = search gate_is
+unfolding read_gate
+returns c = search rules

@@ -1,6 +1,7 @@
--- A word, two bytes.
-use Rattle.layout.proofs.Fields.{held_is}
+use Rattle.std.proofs.Common.{rules}
+use Rattle.layout.specs.Settings.{read_held}
 use Rattle.layout.proofs.settings.read_held.Goals as goal
 
 pub returns : goal.returns
-returns c = search held_is
+unfolding read_held
+returns c = search rules

@@ -1,6 +1,7 @@
--- Field by field.
-use Rattle.layout.proofs.Fields.{motion_is}
+use Rattle.std.proofs.Common.{rules}
+use Rattle.layout.specs.Settings.{read_motion}
 use Rattle.layout.proofs.settings.read_motion.Goals as goal
 
 pub returns : goal.returns
-returns c = search motion_is
+unfolding read_motion
+returns c = search rules

@@ -1,6 +1,7 @@
--- Three bytes.
-use Rattle.layout.proofs.Fields.{place_is}
+use Rattle.std.proofs.Common.{rules}
+use Rattle.layout.specs.Settings.{read_place}
 use Rattle.layout.proofs.settings.read_place.Goals as goal
 
 pub returns : goal.returns
-returns c = search place_is
+unfolding read_place
+returns c = search rules

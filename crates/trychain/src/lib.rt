@@ -54,7 +54,7 @@ fn deliver_to(at: u8, records: &[u8], count: usize, lent: &mut [u8]) -> Answer
 fn deliver_lent(args: &[u8], records: &[u8], count: usize) -> Answer
     ensures { result ≡ deliver_to (fields_byte args.now 1) records.now count (take (room_of args.now most_room) filled_of) }
 {
-    let mut buffer = filled();
+    let mut buffer = filled::<MOST_ROOM>();
     let room = room(args, MOST_ROOM);
     deliver_to(byte(args, 1), records, count, &mut buffer[0..room])
 }

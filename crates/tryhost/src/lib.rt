@@ -152,7 +152,7 @@ fn send_lent(s: Session, kind: u8, at: u8, args: &[u8], lent: &mut [u8]) -> Trie
 fn lend(s: Session, kind: u8, args: &[u8]) -> Tried
     ensures { result ≡ lend_of s kind args.now }
 {
-    let mut buffer = filled();
+    let mut buffer = filled::<MOST_ROOM>();
     let room = room(args, MOST_ROOM);
     send_lent(s, kind, byte(args, 1), rest(args, 2), &mut buffer[0..room])
 }

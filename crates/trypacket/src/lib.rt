@@ -26,7 +26,7 @@ pub fn build(args: &[u8]) -> Answer
     ensures { result ≡ trypacket_build args.now }
 {
     if is_lending(args, 3, MOST_ROOM) {
-        let mut buffer = filled();
+        let mut buffer = filled::<MOST_ROOM>();
         let room = room(args, MOST_ROOM);
         return build_into(args, &mut buffer[0..room]);
     }

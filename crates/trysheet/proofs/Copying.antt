@@ -34,20 +34,6 @@ product_below t l h k =
     let p : t * l ≤ 65535 * 255 = mul-le-mul {n₁ = t} {m₁ = l} {n₂ = 65535} {m₂ = 255} (omega arith) (omega arith) in
     omega arith
 
--- the copies alone are too long
-pub fits_not : (t l tail most c : ℕ) → c ≡ t * l → most < c → false ≡ leb (t * l + tail) most
-fits_not t l tail most c e h = sym (lt-leb (t * l + tail) most (omega arith))
-
--- else the tail has what they leave
-leb_moved : (c tail most : ℕ) → c ≤ most → leb tail (most - c) ≡ leb (c + tail) most
-leb_moved c tail most h = by_test (leb tail (most - c)) refl where
-  by_test : (t : Bool) → leb tail (most - c) ≡ t → t ≡ leb (c + tail) most
-  by_test true e = let k : tail ≤ most - c = leb-true tail (most - c) e in sym (le-leb (c + tail) most (omega arith))
-  by_test false e = let k : most - c < tail = leb-false tail (most - c) e in sym (lt-leb (c + tail) most (omega arith))
-
-pub fits_tail : (t l tail most c : ℕ) → c ≡ t * l → c ≤ most → leb tail (most - c) ≡ leb (t * l + tail) most
-fits_tail t l tail most c e h = leb_moved c tail most h ∙ ap (λ (k : ℕ). leb (k + tail) most) e
-
 -- ---- whether a line is of the form
 
 pub not_lending : (s : List ℕ) (most : ℕ) (t : Bool) → t ≡ is_lending s 6 most_triple_room → not t ≡ true → false ≡ is_copied s most

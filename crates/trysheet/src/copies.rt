@@ -14,10 +14,7 @@ fn fits(times: u16, len: u8, tail: usize, most: usize) -> bool
     ensures { result ≡ nat_le (times * len + tail) most }
 {
     let copies = times as usize * len as usize;
-    if most < copies {
-        return false;
-    }
-    tail <= most - copies
+    copies <= most && tail <= most - copies
 }
 
 // Whether a line is of this form, and what it says comes to no more than the most.
@@ -50,10 +47,8 @@ fn put_copies(out: &mut [u8], times: usize, unit: &[u8]) -> usize
     ensures { Wrote (copies_of times unit.now) 0 out.old result out.new }
 {
     let mut at = 0;
-    let mut i = 0;
-    while i < times {
+    for _ in 0..times {
         at = put_bytes(out, at, unit);
-        i += 1;
     }
     at
 }

@@ -11,8 +11,7 @@ ghost use Rattle.trysheet.specs.Trying.{import_value, export_value, summed_of, t
 
 use copies::{is_copied, put_copied};
 use fields::{
-    Answer, MOST_TRIPLE_ROOM, MOST_WORD_ROOM, filled_triple, filled_word, is_lending, malformed,
-    nothing, room, valued,
+    Answer, MOST_TRIPLE_ROOM, MOST_WORD_ROOM, filled, is_lending, malformed, nothing, room, valued,
 };
 use sheet::ImportError;
 use sums::sums_of;
@@ -93,7 +92,7 @@ pub fn import(args: &[u8]) -> Answer
     ensures { result ≡ trysheet_import args.now }
 {
     if is_lending(args, 2, MOST_WORD_ROOM) {
-        let mut buffer = filled_word();
+        let mut buffer = filled::<MOST_WORD_ROOM>();
         let room = room(args, MOST_WORD_ROOM);
         return import_into(View::Whole, rest(args, 2), &mut buffer[0..room]);
     }
@@ -105,7 +104,7 @@ pub fn export(args: &[u8]) -> Answer
     ensures { result ≡ trysheet_export args.now }
 {
     if is_lending(args, 2, MOST_WORD_ROOM) {
-        let mut buffer = filled_word();
+        let mut buffer = filled::<MOST_WORD_ROOM>();
         let room = room(args, MOST_WORD_ROOM);
         return export_into(View::Whole, rest(args, 2), &mut buffer[0..room]);
     }
@@ -116,7 +115,7 @@ pub fn export(args: &[u8]) -> Answer
 fn import_summed(args: &[u8], sheet: &[u8]) -> Answer
     ensures { result ≡ import_summed args.now sheet.now }
 {
-    let mut buffer = filled_triple();
+    let mut buffer = filled::<MOST_TRIPLE_ROOM>();
     let room = room(args, MOST_TRIPLE_ROOM);
     import_into(View::Summed, sheet, &mut buffer[0..room])
 }
@@ -125,7 +124,7 @@ fn import_summed(args: &[u8], sheet: &[u8]) -> Answer
 fn export_summed(args: &[u8], packets: &[u8]) -> Answer
     ensures { result ≡ export_summed args.now packets.now }
 {
-    let mut buffer = filled_triple();
+    let mut buffer = filled::<MOST_TRIPLE_ROOM>();
     let room = room(args, MOST_TRIPLE_ROOM);
     export_into(View::Summed, packets, &mut buffer[0..room])
 }

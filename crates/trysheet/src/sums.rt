@@ -14,9 +14,11 @@ impl Sums {
     fn with(self, byte: u8) -> Sums
         ensures { result ≡ sums_with self byte }
     {
-        let a = std::num::wrapping_add_u16(self.a, byte as u16);
-        let b = std::num::wrapping_add_u16(self.b, a);
-        Sums { a, b }
+        let a = self.a.wrapping_add(u16::from(byte));
+        Sums {
+            a,
+            b: self.b.wrapping_add(a),
+        }
     }
 }
 
@@ -24,11 +26,7 @@ impl Sums {
 pub(crate) fn sums_of(bytes: &[u8]) -> Sums
     ensures { result ≡ sums_of bytes.now }
 {
-    let mut sums = Sums { a: 0, b: 0 };
-    let mut i = 0;
-    while i < bytes.len() {
-        sums = sums.with(bytes[i]);
-        i += 1;
-    }
-    sums
+    bytes
+        .iter()
+        .fold(Sums { a: 0, b: 0 }, |sums, byte| sums.with(*byte))
 }

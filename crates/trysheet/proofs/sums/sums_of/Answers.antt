@@ -1,9 +1,10 @@
-use Rattle.std.proofs.Common.{arith}
-use Rattle.trysheet.proofs.Summing.{sums_more, sums_all}
+-- The fold over the bytes.
+use Rattle.std.proofs.Common.{rules, tests, ◌∙◌}
+use Rattle.std.proofs.lemmas.Iterator.{YieldsList-from_slice}
+use Rattle.std.proofs.lemmas.Iterator.Consumers.{fold_from_yields_List}
+use Rattle.trysheet.specs.Sums.{sums_with}
+use Rattle.trysheet.proofs.Summing.{folded}
 use Rattle.trysheet.proofs.sums.sums_of.Goals as goal
 
-pub loop-i-preserved : goal.loop-i-preserved
-loop-i-preserved c = (omega arith, search sums_more)
-
 pub returns : goal.returns
-returns c = search sums_all
+returns c = fold_from_yields_List _ sums_with _ _ c.fold.ensures.ran (YieldsList-from_slice c.args.bytes.now cc) (λ a x b q k. search (rules, tests)) ∙ folded _ c.args.bytes.now

@@ -1,5 +1,5 @@
 -- Laws of sums: bytes that end in their sum, and that one changed byte always breaks it.
-use Rattle.std.proofs.Common.{◌≡◌, ℕ, zero, suc, ◌+◌, ◌-◌, ◌<◌, ◌≤◌, true, false, ltb, List, [], ◌∷◌, ◌++◌, length, get_or, take, set, sym, refl, ap, ◌∙◌, ⊎_elim, le_of_suc-le-suc, not-suc-le-zero, eq-or-lt_of_le, arith, length-append, length-set, length-take-le, take_all, get_or-set_other, get_or-take, take-suc, get_or-set_same, ltb-false, le-ltb, eq-eqb, ne_eqb, eqb-true}
+use Rattle.std.proofs.Common.{eqb, fold, ◌%◌, ◌≡◌, ℕ, zero, suc, ◌+◌, ◌-◌, ◌<◌, ◌≤◌, true, false, ltb, List, [], ◌∷◌, ◌++◌, length, get_or, take, set, sym, refl, ap, ◌∙◌, ⊎_elim, le_of_suc-le-suc, not-suc-le-zero, eq-or-lt_of_le, arith, length-append, length-set, length-take-le, take_all, get_or-set_other, get_or-take, take-suc, get_or-set_same, ltb-false, le-ltb, eq-eqb, ne_eqb, eqb-true}
 use mathlib.Core.Bool.{false≢true}
 use lib.Seq.{take-append_seam, get_or-append_seam, take-set-lt, take-set-le}
 use Rattle.buffer.specs.Sum.{total, sum_of, with_sum, ends_in_sum}
@@ -11,10 +11,13 @@ unfolding total
 total_append [] b = omega arith
 total_append (x ∷ a) b = omega (arith, total_append a b)
 
--- one byte more
-pub total_take : (s : List ℕ) (i : ℕ) → i < length s → total (take (suc i) s) ≡ total (take i s) + get_or s i 0
+-- byte by byte, wrapping
+pub fold_sum : (s : List ℕ) (a : ℕ) → fold (λ a x. (a + x) % 256) (a % 256) s ≡ (a + total s) % 256
 unfolding total
-total_take s i h = ap total (take-suc s i 0 h) ∙ omega (arith, total_append (take i s) (get_or s i 0 ∷ []))
+fold_sum [] a = omega arith
+fold_sum (x ∷ s) a =
+    let e : (a % 256 + x) % 256 ≡ (a + x) % 256 = omega arith in
+    rw (e, fold_sum s (a + x)) (omega arith)
 
 -- one byte changed
 total_set : (s : List ℕ) (i v : ℕ) → i < length s → total (set s i v) + get_or s i 0 ≡ total s + v
@@ -26,13 +29,17 @@ total_set (x ∷ s) (suc i) v h = omega (arith, total_set s i v (le_of_suc-le-su
 pub length_with_sum : (l : List ℕ) → length (with_sum l) ≡ suc (length l)
 length_with_sum l = omega (arith, length-append l (sum_of l ∷ []))
 
+-- a last byte, and those before it
+pub ends_by : (s l : List ℕ) (x : ℕ) → s ≡ l ++ (x ∷ []) → ends_in_sum s ≡ eqb (sum_of l) x
+unfolding ends_in_sum
+ends_by s l x e =
+    let n = length-append l (x ∷ []) in
+    let k : length (l ++ (x ∷ [])) - 1 ≡ length l = omega arith in
+    rw e (simp (le-ltb (length (l ++ (x ∷ []))) 1 (omega arith), k, take-append_seam, get_or-append_seam))
+
 -- bytes with their sum behind them end in their sum
 pub with_sum_ends : (l : List ℕ) → ends_in_sum (with_sum l) ≡ true
-unfolding ends_in_sum
-with_sum_ends l =
-    let n = length_with_sum l in
-    let k : length (with_sum l) - 1 ≡ length l = omega arith in
-    simp (le-ltb (length (with_sum l)) 1 (omega arith), k, take-append_seam, get_or-append_seam, eq-eqb (sum_of l) (sum_of l) refl)
+with_sum_ends l = ends_by (with_sum l) l (sum_of l) refl ∙ eq-eqb (sum_of l) (sum_of l) refl
 
 -- what ends in its sum has a last byte, which is the sum of those before it
 pub record Ends (s : List ℕ) : Type 0 where

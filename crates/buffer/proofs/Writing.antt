@@ -1,5 +1,6 @@
 -- A packet laid out by stores, and what writing it leaves in the buffer: `packet::build`, `reply::reply`.
-use Rattle.std.proofs.Common.{◌≡◌, ℕ, suc, ◌+◌, ◌<◌, ◌≤◌, Bool, true, false, cond, ltb, List, [], ◌∷◌, ◌++◌, length, take, drop, set, sym, refl, ap, ◌∙◌, le_of_suc-le-suc, not-suc-le-zero, add-zero, add-suc, suc-add, zero-add, arith, length-append, length-drop, drop-drop, take_at, ltb-false, le-ltb, lt-ltb, Result, Ok, Err}
+use Rattle.std.proofs.Common.{append_assoc, ◌≡◌, ℕ, suc, ◌+◌, ◌-◌, ◌<◌, ◌≤◌, Bool, true, false, cond, ltb, List, [], ◌∷◌, ◌++◌, length, take, drop, set, sym, refl, ap, ◌∙◌, le_of_suc-le-suc, not-suc-le-zero, add-zero, add-suc, suc-add, zero-add, arith, length-append, length-drop, drop-drop, take_at, ltb-false, le-ltb, lt-ltb, Result, Ok, Err}
+use borrow.Rule.Slice.PartMut.{put_mid}
 use Rattle.wire.specs.Numbers.{number_by}
 use lib.Seq.{paste, sets, sets-eq, length-sets, length-paste, take-length}
 use Rattle.wire.specs.Promise.{Outcome, Lending, lent}
@@ -25,6 +26,13 @@ laid_behind (x ∷ p) d r m h = rw suc-add (ap (λ (l : List ℕ). x ∷ l) (lai
 pub put_fits : (out : List ℕ) (at : ℕ) (d : List ℕ) → at + length d ≤ length out → put_of out at d ≡ paste out at d (length d)
 unfolding put_of
 put_fits out at d h = rw (le-ltb (length out) (at + length d) h, take-length)
+
+-- m, which is d, written in the place of as many bytes
+pub put_copied : (out : List ℕ) (at : ℕ) (d m : List ℕ) → m ≡ d → at + length d ≤ length out → put_mid at (at + length d - at) out m ≡ put_of out at d
+unfolding put_of
+put_copied out at d m e h =
+    let n : at + length d - at ≡ length d = omega arith in
+    rw (n, e, le-ltb (length out) (at + length d) h, drop-drop, append_assoc)
 
 -- it has none
 pub put_not : (out : List ℕ) (at : ℕ) (d : List ℕ) → length out < at + length d → out ≡ put_of out at d

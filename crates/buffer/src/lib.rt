@@ -14,25 +14,17 @@ use wire::Refusal;
 pub fn sum(s: &[u8]) -> u8
     ensures { result ≡ sum_of s.now }
 {
-    let mut r: u8 = 0;
-    let mut i = 0;
-    while i < s.len() {
-        r = std::num::wrapping_add_u8(r, s[i]);
-        i += 1;
-    }
-    r
+    s.iter().fold(0, |sum, b| sum.wrapping_add(*b))
 }
 
 // Whether the last byte is the sum of those before it; not so of no bytes.
 pub fn ends_in_sum(s: &[u8]) -> bool
     ensures { result ≡ ends_in_sum s.now }
 {
-    let n = s.len();
-    if n < 1 {
-        return false;
+    match s.split_last() {
+        Some((last, before)) => sum(before) == *last,
+        None => false,
     }
-    let last = n - 1;
-    sum(&s[..last]) == s[last]
 }
 
 // Copies `src` into `out` from `at` on, if all of it has room there.
@@ -45,17 +37,14 @@ pub fn put(out: &mut [u8], at: usize, src: &[u8])
     if out.len() - at < src.len() {
         return;
     }
-    let mut i = 0;
-    while i < src.len() {
-        out[at + i] = src[i];
-        i += 1;
-    }
+    out[at..at + src.len()].copy_from_slice(src);
 }
 
 // Stores b, if there is room.
 pub fn store(out: &mut [u8], at: usize, b: u8)
     ensures { out.new ≡ slice_set out.old at b }
 {
+    // Not `get_mut`: its contract doesn't say that the bytes beside the place stay.
     if at < out.len() {
         out[at] = b;
     }

@@ -1,45 +1,23 @@
 -- Parts of a text, and its lines.
-use Prim.Native.Nat.{ℕ, suc, ◌+◌, ◌-◌, ◌≤◌, ◌<◌}
+use Prim.Native.Nat.{ℕ, suc, ◌+◌, ◌≤◌, ◌<◌}
 use mathlib.Core.Bool.{Bool, true, false, cond}
 use mathlib.Core.List.{List, [], ◌∷◌}
 use mathlib.Core.Path.{◌≡◌, refl, sym, ap, ◌∙◌}
 use native.Mathlib.Omega.{arith}
-use native.Mathlib.Numerals.{add-one}
 use native.Mathlib.Nat.{not-suc-le-zero}
-use lib.Dec.{eqb}
-use lib.ListN.{length, take, drop, get_or, drop_of_length-le, length-drop}
-use lib.Seq.{drop-cons, drop-drop, take_all}
-use borrow.Author.Tests.{eq-eqb, ne_eqb}
+use lib.Dec.{eqb, ltb}
+use lib.ListN.{length, take, drop, length-drop}
+use lib.Seq.{drop-drop, take_all}
+use borrow.Author.Tests.{ltb-false}
+use Rattle.std.specs.List.{position, position_or_len}
+use Rattle.std.specs.Option.{unwrap_or}
+use Rattle.std.proofs.lemmas.List.Recursion.{is_position_or_len}
 use Rattle.text.specs.Lines.{newline, first_line, lines_of, grown}
 
--- ---- the first bytes, and what is left from a position on
+-- ---- the first bytes
 
 pub first_all : (s : List ℕ) (n : ℕ) → length s < n → s ≡ take n s
 first_all s n h = sym (take_all n s (omega arith))
-
-pub rest_within : (s : List ℕ) (at : ℕ) → take (length s - at) (drop at s) ≡ drop at s
-rest_within s at = take_all (length s - at) (drop at s) (omega (arith, length-drop at s))
-
-pub rest_past : (s : List ℕ) (at : ℕ) → length s < at → [] ≡ drop at s
-rest_past s at h = sym (drop_of_length-le s {i = at} (omega arith))
-
--- ---- the search for a newline: i bytes have none, and m is how many the line has
-
-module _ (s : List ℕ) (i m : ℕ) (e : i + length (first_line (drop i s)) ≡ m) where
-  pub line_on : i < length s → (get_or s i 0 ≡ newline → ⊥) → (i + 1) + length (first_line (drop (i + 1) s)) ≡ m
-  line_on h n =
-      let k : length (first_line (drop i s)) ≡ suc (length (first_line (drop (suc i) s))) = rw (drop-cons s i 0 h, ne_eqb (get_or s i 0) newline n) in
-      rw (add-one i) (omega arith)
-
-  pub line_found : i < length s → get_or s i 0 ≡ newline → i ≡ m
-  line_found h n =
-      let k : length (first_line (drop i s)) ≡ 0 = rw (drop-cons s i 0 h, eq-eqb (get_or s i 0) newline n) in
-      omega arith
-
-  pub line_end : length s ≤ i → i ≡ m
-  line_end h =
-      let k : length (first_line (drop i s)) ≡ 0 = rw (drop_of_length-le s h) in
-      omega arith
 
 -- ---- a text is its first line and the lines behind it
 
@@ -76,6 +54,22 @@ lines_step (b ∷ a ∷ s) h = by_test (eqb b newline) refl (lines_step (a ∷ s
         → lines_of (b ∷ a ∷ s) ≡ first_line (b ∷ a ∷ s) ∷ lines_of (drop (suc (length (first_line (b ∷ a ∷ s)))) (b ∷ a ∷ s))
     by_test true e k = rw e
     by_test false e k = rw e (ap (grown b) k)
+
+-- ---- the first newline is where the line ends; where there is none, the text's end is
+
+ends_here : (t : Bool) (b : ℕ) (s : List ℕ) → length (cond t [] (b ∷ first_line s)) ≡ cond t 0 (1 + length (first_line s))
+ends_here true b s = refl
+ends_here false b s = omega arith
+
+line_ends : (s : List ℕ) → length (first_line s) ≡ position_or_len (λ b. eqb b newline) s
+line_ends = is_position_or_len (λ (s : List ℕ). length (first_line s)) (λ b. eqb b newline) refl (λ b s. ends_here (eqb b newline) b s)
+
+pub line_found : (s : List ℕ) → unwrap_or (position (λ b. eqb b newline) s) (length s) ≡ length (first_line s)
+line_found s = by_test (ltb (length (first_line s)) (length s)) refl
+  where
+    by_test : (t : Bool) → ltb (length (first_line s)) (length s) ≡ t → unwrap_or (position (λ b. eqb b newline) s) (length s) ≡ length (first_line s)
+    by_test true e = rw (← (line_ends s), e)
+    by_test false e = rw (← (line_ends s), e) (omega (arith, line_short s, ltb-false (length (first_line s)) (length s) e))
 
 -- ---- a text gone through line by line: those from i on are still to come
 

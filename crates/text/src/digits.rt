@@ -4,19 +4,18 @@ ghost use Rattle.wire.specs.Promise.{Promise};
 ghost use Rattle.text.specs.Digits.{value_of, one_digit, two_digits, read_decimal, decimal_number};
 
 // The value of a decimal digit; 10 where b is none.
+#[tactic(auto, unfolding(crate::specs::Digits::value_of))]
 fn value(b: u8) -> u8
     ensures { result ≡ value_of b }
 {
-    if b < 48 {
-        return 10;
-    }
-    if b < 58 {
-        return b - 48;
+    if b.is_ascii_digit() {
+        return b - b'0';
     }
     10
 }
 
 // A number of one digit, by that digit's value.
+#[tactic(auto, unfolding(crate::specs::Digits::one_digit))]
 fn one_digit(a: u8) -> Option<u8>
     ensures { result ≡ one_digit a }
 {
@@ -27,6 +26,7 @@ fn one_digit(a: u8) -> Option<u8>
 }
 
 // A number of two digits, by their values: the first isn't 0.
+#[tactic(auto, unfolding(crate::specs::Digits::two_digits))]
 fn two_digits(a: u8, b: u8) -> Option<u8>
     ensures { result ≡ two_digits a b }
 {
@@ -43,6 +43,7 @@ fn two_digits(a: u8, b: u8) -> Option<u8>
 }
 
 // A decimal number of one or two digits, without a leading zero.
+#[tactic(auto, using(crate::proofs::Numerals::decimal_one, crate::proofs::Numerals::decimal_two, crate::proofs::Numerals::decimal_not))]
 pub fn read_decimal(s: &[u8]) -> Option<u8>
     ensures { Promise decimal_number result (read_decimal s.now) }
 {

@@ -31,17 +31,11 @@ pub fn rest(s: &[u8], at: usize) -> &[u8]
 fn line_length(s: &[u8]) -> usize
     ensures { result ≡ length (first_line s.now) }
 {
-    let mut i = 0;
-    while i < s.len() {
-        if s[i] == NEWLINE {
-            return i;
-        }
-        i += 1;
-    }
-    i
+    s.iter().position(|b| *b == NEWLINE).unwrap_or(s.len())
 }
 
 // The first line of s, without its newline. The next one starts one byte behind its end.
+#[tactic(auto, using(crate::proofs::Parts::line_taken))]
 pub fn first_line(s: &[u8]) -> &[u8]
     ensures { Part s.entry 0 (first_line s.now) result }
 {

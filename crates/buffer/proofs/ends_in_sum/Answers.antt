@@ -1,16 +1,12 @@
 -- Where there is a last byte, the sum of those before it is compared with it.
-use Rattle.std.proofs.Common.{arith, length-take, le-ltb}
+use Rattle.std.proofs.Common.{arith, lt-ltb, sym, length}
 use Rattle.buffer.specs.Sum.{ends_in_sum}
-use Rattle.wire.proofs.Tests.{tests}
+use Rattle.buffer.proofs.Sums.{ends_by}
 use Rattle.buffer.proofs.ends_in_sum.Goals as goal
 
-pub returns-then-n-lt1 : goal.returns-then-n-lt1
-unfolding ends_in_sum
-returns-then-n-lt1 c = search tests
+pub returns-in-Some : goal.returns-in-Some
+returns-in-Some c = rw c.sum.ensures (sym (ends_by _ _ _ c.in-Some.ensures.cases.0))
 
-pub slice_bounds-sum-end : goal.slice_bounds-sum-end
-slice_bounds-sum-end c = rw length-take (omega arith)
-
-pub returns : goal.returns
+pub returns-in-None : goal.returns-in-None
 unfolding ends_in_sum
-returns c = rw (le-ltb _ _ c.if-n-lt1.false, c.sum.ensures)
+returns-in-None c = rw (lt-ltb (length c.args.s.now) 1 (omega (arith, c.in-None.ensures.cases)))

@@ -1,17 +1,15 @@
-use borrow.Author.Rules.{rules}
-use native.Mathlib.Omega.{arith}
-use native.Mathlib.Nat.{zero-add}
-use Rattle.text.proofs.Parts.{line_on, line_found, line_end}
+-- The first newline is where the line ends.
+use Rattle.std.proofs.Common.{◌≡◌, eqb, length, ap, ◌∙◌, rules, tests}
+use Rattle.std.specs.List.{position}
+use Rattle.std.specs.Option.{unwrap_or}
+use Rattle.std.proofs.lemmas.Iterator.{YieldsList-from_slice}
+use Rattle.std.proofs.lemmas.Iterator.Search.{position_from_yields_List}
+use Rattle.text.specs.Lines.{newline}
+use Rattle.text.proofs.Parts.{line_found}
 use Rattle.text.proofs.lines.line_length.Goals as goal
 
-pub loop-i-init : goal.loop-i-init
-loop-i-init c = (search rules, search zero-add)
-
-pub returns-then-s-i-eq-NEWLINE : goal.returns-then-s-i-eq-NEWLINE
-returns-then-s-i-eq-NEWLINE c = search line_found
-
-pub loop-i-preserved : goal.loop-i-preserved
-loop-i-preserved c = (omega arith, search line_on)
-
 pub returns : goal.returns
-returns c = search line_end
+returns c =
+    let p : c.position.result ≡ position (λ b. eqb b newline) c.args.s.now =
+    position_from_yields_List (λ b. eqb b newline) _ _ c.position.result c.position.ensures.ran (YieldsList-from_slice _ c.iter.ensures.rest) (λ x b q k. search (rules, tests)) in
+    c.unwrap_or.ensures ∙ ap (λ r. unwrap_or r (length c.args.s.now)) p ∙ line_found c.args.s.now

@@ -28,7 +28,7 @@ use Rattle.entry.specs.declared.Reach.TheVariants.{Misses, Hits, May}
 use Rattle.entry.specs.Entry.{knows, shows, entry_power_up, note_of, doubt_of, Quiet}
 use Rattle.entry.proofs.Entries.{quiet_noted, kind_noted}
 use Rattle.ledger.specs.Ledger.{all_gates, telling, ledger_power_up, ledger_least, reach_of, each_from, settling, settle_of, forget_of, is_rival, any_from, is_led, may_reach, does_lack, is_lacked, lacks_divisor, is_unlisted, is_off_list}
-use Rattle.ledger.proofs.Turns.{length_each, length_gates}
+use Rattle.ledger.proofs.Turns.{length_each, gates_31}
 
 -- n itself, where there are entries for it
 least_is : (n : ℕ) → n ≤ 31 → ledger_least n ≡ n
@@ -136,6 +136,9 @@ kind_forgotten (e ∷ es) zero d = refl
 kind_forgotten (e ∷ es) (suc i) d = kind_forgotten es i d
 
 -- at power-up
+pub length_gates : length all_gates ≡ 31
+length_gates = gates_31
+
 at_replicate : (m i : ℕ) (e d : Entry) → i < m → get_or (replicate m e) i d ≡ e
 at_replicate zero i e d h = absurd (not-suc-le-zero h)
 at_replicate (suc m) zero e d h = refl

@@ -59,9 +59,9 @@ unfolding ledger_least
 least_31 n end e = rw e (capped (ltb 31 n) n refl)
 
 -- where `power_up` starts, a turn of it, and its end
-pub length_gates : length all_gates ≡ 31
+pub gates_31 : length all_gates ≡ 31
 unfolding all_gates
-length_gates = refl
+gates_31 = refl
 
 pub up_turn : (ks : List Kind) (i : ℕ) (es l : List Entry) (e : Entry) → l ≡ each_from (telling ks) 1 i es → e ≡ entry_power_up (get_or ks i Gate) → i < length es
     → set l i e ≡ each_from (telling ks) 1 (i + 1) es

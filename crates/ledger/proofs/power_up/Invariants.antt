@@ -8,5 +8,5 @@ abbrev pub invariant-loop-i : goal.invariant-loop-i
 invariant-loop-i l = record {
   counted : l.told ≡ ledger_least l.n;
   few : l.told ≤ 31;
-  told : l.all ≡ each_from (telling l.kinds) 1 l.i all_gates;
+  told : l.all ≡ each_from (telling l.fn.kinds) 1 l.i all_gates;
 }

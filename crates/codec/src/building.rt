@@ -54,7 +54,8 @@ fn four_data(one: u8, two: u8, three: u8, four: u8) -> [u8; 14]
 fn word_data(w: u16, third: u8, fourth: u8) -> [u8; 14]
     ensures { result ≡ word_data w third fourth }
 {
-    four_data((w % 256) as u8, (w / 256) as u8, third, fourth)
+    let [low, high] = w.to_le_bytes();
+    four_data(low, high, third, fourth)
 }
 
 // A byte, if it is brought.
@@ -71,12 +72,7 @@ fn byte_data(brought: bool, b: u8) -> [u8; 14]
 fn long_bytes(v: u32) -> [u8; 4]
     ensures { result ≡ long_bytes v }
 {
-    [
-        (v % 256) as u8,
-        (v / 256 % 256) as u8,
-        (v / 65536 % 256) as u8,
-        (v / 16777216) as u8,
-    ]
+    v.to_le_bytes()
 }
 
 // The bytes of a value, if it is brought, before others; what the last ones leave is cut off.
@@ -117,21 +113,13 @@ fn load_data(m: Motion) -> [u8; 14]
 fn gain_data(g: Gains) -> [u8; 14]
     ensures { result ≡ filled (gain_data g) }
 {
+    let kp = g.kp.to_le_bytes();
+    let kd = g.kd.to_le_bytes();
+    let ki = g.ki.to_le_bytes();
+    let il = g.il.to_le_bytes();
+    let el = g.el.to_le_bytes();
     [
-        (g.kp % 256) as u8,
-        (g.kp / 256) as u8,
-        (g.kd % 256) as u8,
-        (g.kd / 256) as u8,
-        (g.ki % 256) as u8,
-        (g.ki / 256) as u8,
-        (g.il % 256) as u8,
-        (g.il / 256) as u8,
-        g.ol,
-        0,
-        (g.el % 256) as u8,
-        (g.el / 256) as u8,
-        g.sr,
-        g.db,
+        kp[0], kp[1], kd[0], kd[1], ki[0], ki[1], il[0], il[1], g.ol, 0, el[0], el[1], g.sr, g.db,
     ]
 }
 

@@ -18,24 +18,21 @@ pub struct Readings {
 fn word(low: u8, high: u8) -> u16
     ensures { result ≡ word_of low high }
 {
-    low as u16 + high as u16 * 256
+    u16::from_le_bytes([low, high])
 }
 
 // The number of four.
 fn long(one: u8, two: u8, three: u8, four: u8) -> u32
     ensures { result ≡ long_of one two three four }
 {
-    one as u32 + two as u32 * 256 + three as u32 * 65536 + four as u32 * 16777216
+    u32::from_le_bytes([one, two, three, four])
 }
 
 // The data byte at a position.
 pub(crate) fn byte(bytes: &[u8], at: usize) -> u8
     ensures { result ≡ get_or bytes.now at 0 }
 {
-    if at < bytes.len() {
-        return bytes[at];
-    }
-    0
+    bytes.get(at).copied().unwrap_or(0)
 }
 
 // The word from a position on.

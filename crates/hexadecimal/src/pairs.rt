@@ -20,6 +20,7 @@ pub(crate) enum Pair {
 }
 
 // s starts with two digits of these values.
+#[tactic(auto, unfolding(crate::specs::Hex::pair_by))]
 fn pair_by(high: u8, low: u8, s: &[u8]) -> Pair
     ensures { result ≡ pair_by high low s.now }
 {
@@ -39,6 +40,7 @@ fn pair_by(high: u8, low: u8, s: &[u8]) -> Pair
     Pair::More(value)
 }
 
+#[tactic(auto, using(crate::proofs::Pairing::pair_by_lem), unfolding(crate::specs::Hex::read_pair))]
 fn read_pair(s: &[u8]) -> Pair
     ensures { result ≡ read_pair s.now }
 {

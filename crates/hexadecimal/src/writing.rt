@@ -36,10 +36,8 @@ fn put_rest(out: &mut [u8], at: usize, bytes: &[u8])
     requires { at + 3 * length bytes.now ≤ length out.old }
     ensures { out.new ≡ sets out.old at (hex_rest bytes.now) }
 {
-    let mut i = 0;
-    while i < bytes.len() {
-        put_next(out, at + 3 * i, bytes[i]);
-        i += 1;
+    for (i, b) in bytes.iter().enumerate() {
+        put_next(out, at + 3 * i, *b);
     }
 }
 

@@ -1,24 +1,15 @@
 -- The items of a node by what it shows: their values, and the packet that grows by them.
-use Rattle.std.proofs.Common.{◌≡◌, ℕ, ◌+◌, ◌<◌, List, [], ◌∷◌, length, sym, ap, ◌∙◌}
+use Rattle.std.proofs.Common.{◌≡◌, ℕ, ◌+◌, ◌<◌, List, length, sym, ap, ◌∙◌}
 use Rattle.wire.specs.declared.kind.Kind.{Kind}
-use Rattle.buffer.specs.Wide.{word_of}
 use Rattle.status.specs.Status.{counts}
 use Rattle.status.proofs.Laws.{eight_counts}
 use Rattle.node.specs.declared.state.Shown.{Shown}
-use Rattle.reply.specs.Items.{gate_values, drive_values, values_as, values_of, asked_from, reply_items}
+use Rattle.reply.specs.Items.{values_as, values_of, asked_from, reply_items}
 use Rattle.reply.specs.Grown.{Grown}
 use Rattle.reply.proofs.Counts.{eight_values}
 use Rattle.reply.proofs.Growing.{Passed, passed_none, passed_all}
 
 -- ---- the values
-
-pub gate_made : (x : Shown) (w : ℕ) → w ≡ word_of x.bench.id x.bench.version
-    → x.bench.inputs ∷ x.bench.analog0 ∷ x.bench.analog1 ∷ x.bench.analog2 ∷ x.bench.counter ∷ w ∷ x.captured.inputs ∷ x.captured.counter ∷ [] ≡ gate_values x
-gate_made x w e = rw e
-
-pub drive_made : (x : Shown) (w : ℕ) → w ≡ word_of x.bench.id x.bench.version
-    → x.position ∷ x.bench.ad ∷ x.bench.velocity ∷ x.bench.auxiliary ∷ x.bench.home ∷ w ∷ x.bench.error ∷ 0 ∷ [] ≡ drive_values x
-drive_made x w e = rw e
 
 -- in each arm the kind is known
 pub told_values : (x : Shown) (k : Kind) (l : List ℕ) → x.kind ≡ k → l ≡ values_as k x → l ≡ values_of x

@@ -7,7 +7,6 @@
 ghost use Rattle.std.specs.Prelude.{◌≡◌, ◌+◌, ◌<◌, ◌≤◌, length};
 ghost use Rattle.wire.specs.Numbers.{number_by};
 ghost use Rattle.wire.specs.Promise.{Lending};
-ghost use Rattle.buffer.specs.Wide.{word_of};
 ghost use Rattle.buffer.specs.Buffer.{written};
 ghost use Rattle.reply.specs.Items.{bytes_of, gate_values, drive_values, values_of, item_of, reply_items};
 ghost use Rattle.reply.specs.Grown.{has_room, reply_begin, Grown};
@@ -56,14 +55,7 @@ fn status_byte(message: Message) -> u8
     }
 }
 
-// Two bytes as one number: device ID and version are one item, at either kind.
-fn word(low: u8, high: u8) -> u32
-    ensures { result ≡ word_of low high }
-{
-    low as u32 + high as u32 * 256
-}
-
-// The values of a gate's items, from bit 0 of the mask on; `status::counts` has their byte counts.
+// The values of a gate's items, from bit 0 of the mask on; `status::counts` has their byte counts. Device ID and version are one item, at either kind.
 fn gate_values(x: Shown) -> [u32; 8]
     ensures { result ≡ gate_values x }
 {
@@ -75,7 +67,7 @@ fn gate_values(x: Shown) -> [u32; 8]
         b.analog1 as u32,
         b.analog2 as u32,
         b.counter,
-        word(b.id, b.version),
+        u16::from_le_bytes([b.id, b.version]) as u32,
         k.inputs as u32,
         k.counter,
     ]
@@ -92,7 +84,7 @@ fn drive_values(x: Shown) -> [u32; 8]
         b.velocity as u32,
         b.auxiliary as u32,
         b.home,
-        word(b.id, b.version),
+        u16::from_le_bytes([b.id, b.version]) as u32,
         b.error as u32,
         0,
     ]
@@ -139,13 +131,11 @@ fn put_item(out: &mut [u8], end: usize, wanted: bool, count: usize, value: u32) 
     }
     let mut sum = out[end];
     let mut rest = value;
-    let mut i = 0;
-    while i < count {
+    for i in 0..count {
         let b = (rest % 256) as u8;
         out[end + i] = b;
-        sum = std::num::wrapping_add_u8(sum, b);
+        sum = sum.wrapping_add(b);
         rest /= 256;
-        i += 1;
     }
     out[end + count] = sum;
     end + count
@@ -161,11 +151,9 @@ fn put_items(x: Shown, mask: u8, out: &mut [u8], end: usize) -> usize
     let values = values(x);
     let mut bits = mask;
     let mut at = end;
-    let mut i = 0;
-    while i < 8 {
-        at = put_item(out, at, bits % 2 == 1, counts[i] as usize, values[i]);
+    for (count, value) in counts.iter().zip(&values) {
+        at = put_item(out, at, bits % 2 == 1, *count as usize, *value);
         bits /= 2;
-        i += 1;
     }
     at
 }

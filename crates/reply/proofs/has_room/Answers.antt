@@ -15,6 +15,3 @@ counted k m room n e = ap (λ (j : ℕ). leb j room) e
 
 pub returns-then-room-ge-MOST_REPLY : goal.returns-then-room-ge-MOST_REPLY
 returns-then-room-ge-MOST_REPLY c = search longest
-
-pub returns : goal.returns
-returns c = search counted

@@ -1,18 +1,12 @@
-use Rattle.std.proofs.Common.{refl, ◌∙◌, arith, length-set}
-use Rattle.reply.proofs.Growing.{asked_room, none_yet, byte_more, left_out, all_written}
+use Rattle.std.proofs.Common.{refl, ◌∙◌, arith}
+use Rattle.reply.proofs.Growing.{asked_room, none_yet, byte_more, all_written}
 use Rattle.reply.proofs.put_item.Goals as goal
-
-pub returns-then-not-wanted : goal.returns-then-not-wanted
-returns-then-not-wanted c = left_out _ _ _ _ (c.if-not-wanted.true)
-
-pub bounds-out-end : goal.bounds-out-end
-bounds-out-end c = omega arith
 
 pub loop-i-init : goal.loop-i-init
 loop-i-init c =
     let a = c.args in
     let w = c.if-not-wanted.false in
-    (w, asked_room a.wanted a.count a.value a.end _ w c.requires, omega arith, refl, refl, none_yet a.out.now a.end a.count a.value _)
+    (w, asked_room a.wanted a.count a.value a.end _ w c.requires, refl, none_yet a.out.now a.end a.count a.value _)
 
 pub loop-i-preserved : goal.loop-i-preserved
 loop-i-preserved c =
@@ -20,14 +14,12 @@ loop-i-preserved c =
     let a = c.args in (
       l.invariant.0,
       l.invariant.1,
-      omega arith,
-      simp length-set l.invariant.3,
       refl,
-      rw c.wrapping_add_u8-sum.ensures.value (byte_more l.out a.end l.i a.count l.rest l.sum c.loop-i-test.true ∙ l.invariant.5),
+      byte_more l.out a.end l.i a.count l.rest l.sum c.loop-i-test.true ∙ l.invariant.3,
     )
 
 pub returns : goal.returns
 returns c =
     let l = c.loop-i in
     let a = c.args in
-    all_written a.wanted a.out.now l.out a.end l.i a.count a.value l.rest _ l.sum l.invariant.0 (omega arith) (omega arith) l.invariant.4 l.invariant.5
+    all_written a.wanted a.out.now l.out a.end l.i a.count a.value l.rest _ l.sum l.invariant.0 (omega arith) (omega arith) l.invariant.2 l.invariant.3

@@ -1,12 +1,7 @@
-use mathlib.Core.Path.{refl}
-use borrow.Author.Rules.{rules}
 use native.Mathlib.Omega.{arith}
 use Rattle.hexadecimal.proofs.Storing.{store_long}
 use Rattle.hexadecimal.proofs.Pairing.{pairs_bad, pairs_last, pairs_more, more_fits}
 use Rattle.hexadecimal.proofs.pairs.read_pairs.Goals as goal
-
-pub loop-b-init : goal.loop-b-init
-loop-b-init c = (search rules, (search rules, (refl, refl)))
 
 pub returns-in-Bad : goal.returns-in-Bad
 returns-in-Bad c = search pairs_bad

@@ -1,8 +1,0 @@
--- The leader flag picks the case.
-use Rattle.codec.proofs.building.group_byte.Goals as goal
-
-pub returns-then-p : goal.returns-then-p
-returns-then-p c = simp c.if-p.true
-
-pub returns-else-p : goal.returns-else-p
-returns-else-p c = simp c.if-p.false

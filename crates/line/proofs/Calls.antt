@@ -1,8 +1,6 @@
 -- A table of nodes with records in range: the chain's call does to it what is said of the list.
 use Prim.Native.Nat.{ℕ, suc, ◌+◌, ◌≤◌, ◌<◌}
-use Rattle.wire.specs.declared.refusal.Refusal.{Refusal}
 use Rattle.packet.specs.declared.Framed.{Framed}
-use Rattle.std.specs.Prelude.{Result, Err}
 use Rattle.packet.specs.Packet.{whole}
 use mathlib.Core.Bool.{true}
 use mathlib.Core.List.{List, [], ◌∷◌}
@@ -11,9 +9,11 @@ use native.Mathlib.Omega.{arith}
 use lib.ListN.{length, drop}
 use lib.Seq.{take-append_seam}
 use borrow.Author.Tests.{le-leb, le-ltb}
+use Rattle.std.specs.Prelude.{Result, Err, Ok}
 use Rattle.wire.specs.Promise.{Outcome}
 use Rattle.buffer.specs.Buffer.{written}
 use Rattle.wire.specs.declared.address.Address.{Address}
+use Rattle.wire.specs.declared.refusal.Refusal.{Refusal}
 use Rattle.status.specs.Status.{T}
 use Rattle.node.specs.declared.state.Node.{Node}
 use Rattle.message.specs.declared.Messages.{Messages}
@@ -36,7 +36,7 @@ all_ranged_lem [] f = refl
 all_ranged_lem (n ∷ ns) f = rw (f 0 (omega arith)) (all_ranged_lem ns (λ i l. f (suc i) (omega arith)))
 
 -- what a delivery does, by what is said
-record Does (o : Outcome Delivery Lent) (ns : List Node) (s : Said) : Type 0 where
+record Does (o : Outcome (Result Delivery Refusal) Lent) (ns : List Node) (s : Said) : Type 0 where
   nodes : o.left.nodes ≡ ns
   says : said_in o.answer o.left.reply ≡ s
 
@@ -54,9 +54,9 @@ module _ (ns : List Node) (v : ℕ) (out : List ℕ) (room : T + 2 ≤ length ou
   -- where all nodes get the packet
   does_frame : (f : Result Framed Refusal) (q : List ℕ) → Does (on_frame v f q ns out) (parted (λ i. true) ns (taken_by v f q ns)) (spoken_by (λ i. true) v f q ns)
   unfolding delivered_to
-  does_frame (whole to k n) q =
-      rw (parted_all ns (after v to (messages_as to k q) ns) (length_after v to (messages_as to k q) ns), among_all v to (messages_as to k q) ns)
-      (does to (messages_as to k q) (said v to (messages_as to k q) ns) refl)
+  does_frame (Ok g) q =
+      rw (parted_all ns (after v g.address (messages_as g.address g.command q) ns) (length_after v g.address (messages_as g.address g.command q) ns), among_all v g.address (messages_as g.address g.command q) ns)
+      (does g.address (messages_as g.address g.command q) (said v g.address (messages_as g.address g.command q) ns) refl)
   does_frame (Err why) q = record { nodes = sym (parted_same (λ i. true) ns); says = refl }
 
   pub delivers : 1 ≤ length ns → length ns ≤ 31 → ((i : ℕ) → i < length ns → is_ranged (at ns i).settings.place ≡ true) → (q : List ℕ) → Delivers ns v q out

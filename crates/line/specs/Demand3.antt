@@ -1,13 +1,14 @@
 -- Demand 3, and what else the premises give.
-use Rattle.std.specs.Prelude.{ℕ, ◌+◌, ◌-◌, ◌≤◌, Bool, true, false, List, ◌↔◌, ◌≡◌, length, get_or, take}
+use Rattle.std.specs.Prelude.{ℕ, ◌+◌, ◌-◌, ◌≤◌, Bool, true, false, List, ◌↔◌, ◌≡◌, length, get_or, take, Result, Ok, Err}
 use Rattle.wire.specs.declared.address.Group.{Group}
+use Rattle.wire.specs.declared.refusal.Refusal.{Refusal}
 use Rattle.wire.specs.declared.address.Address.TheVariants as address
 use Rattle.command.specs.declared.Command.TheVariants.{SetBaudRate}
 use Rattle.status.specs.Status.{T}
 use Rattle.node.specs.declared.state.Node.{Node}
 use Rattle.node.specs.Setting.{Setting, get}
 use Rattle.survey.specs.declared.decision.Delivery.{Delivery}
-use Rattle.survey.specs.declared.decision.Delivery.TheVariants.{Silent, Replied, Collision, Refused}
+use Rattle.survey.specs.declared.decision.Delivery.TheVariants.{Silent, Replied, Collision}
 use Rattle.survey.specs.One.{is_answering}
 use Rattle.survey.specs.Chain.{blank_node, Said, silence, reply, collided}
 use Rattle.survey.specs.Delivery.{valid, deliver_of}
@@ -53,11 +54,11 @@ Unanswered = (w : World) → Comes w → w.up ≡ true → (g : Group) (d at : �
     → (gets : ℕ → Bool) → said_after (record { at = at; bytes = p; gets = gets }) w.nodes ≡ silence
 
 -- what a delivery to a table says on the line
-abbrev pub said_in : Delivery → List ℕ → Said
-said_in Silent left = silence
-said_in (Replied n) left = reply (take n left)
-said_in Collision left = collided
-said_in (Refused why) left = silence
+abbrev pub said_in : Result Delivery Refusal → List ℕ → Said
+said_in (Ok Silent) left = silence
+said_in (Ok (Replied n)) left = reply (take n left)
+said_in (Ok Collision) left = collided
+said_in (Err why) left = silence
 
 -- the chain's call over these nodes, with room for a reply, isn't refused for the table, and does to nodes and line what is said of the list where all nodes get the packet
 pub record Delivers (ns : List Node) (at : ℕ) (q out : List ℕ) : Type 0 where

@@ -1,5 +1,5 @@
 -- Demand 3's line, with document 02, requests 4 and 7: what comes to the nodes, what they make of it, what comes back. Nobody else sends on it.
-use Rattle.std.specs.Prelude.{ℕ, zero, suc, Bool, true, cond, List, [], ◌∷◌, Result, Err}
+use Rattle.std.specs.Prelude.{ℕ, zero, suc, Bool, true, cond, List, [], ◌∷◌, Result, Err, Ok}
 use Rattle.wire.specs.declared.refusal.Refusal.{Refusal}
 use Rattle.packet.specs.declared.Framed.{Framed}
 use Rattle.packet.specs.Packet.{whole}
@@ -51,7 +51,7 @@ pub data Arrives (at : ℕ) (p : List ℕ) : Arrival → Type 0 where
 
 -- the nodes after the bytes q, as the chain delivers them
 abbrev pub taken_by : ℕ → Result Framed Refusal → List ℕ → List Node → List Node
-taken_by at (whole to k n) q ns = after at to (messages_as to k q) ns
+taken_by at (Ok g) q ns = after at g.address (messages_as g.address g.command q) ns
 taken_by at (Err why) q ns = ns
 
 -- a node that gets them is as in the second list, one that misses them as in the first
@@ -75,7 +75,7 @@ said_among gets at to m ns = cond (is_answered m.gate) (said_by m ns (search_of 
 
 -- by whoever gets the bytes q
 abbrev pub spoken_by : (ℕ → Bool) → ℕ → Result Framed Refusal → List ℕ → List Node → Said
-spoken_by gets at (whole to k n) q ns = said_among gets at to (messages_as to k q) ns
+spoken_by gets at (Ok g) q ns = said_among gets at g.address (messages_as g.address g.command q) ns
 spoken_by gets at (Err why) q ns = silence
 
 -- what the nodes say to an arrival

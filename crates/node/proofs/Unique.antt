@@ -6,6 +6,7 @@ use denote.Param.Laws.{Laws, IsCopy}
 use Rattle.std.specs.declared.clone.Clone.{Ghosts}
 use Rattle.wire.proofs.OneResult.{OneResult}
 use Rattle.node.proofs.choice.pick.Reads as pick
+use Rattle.node.proofs.state.Bench.blank.Reads as bench-blank
 use Rattle.node.proofs.state.Node.power_up.Reads as node-power-up
 use Rattle.node.proofs.state.Node.take.Reads as take
 use Rattle.node.proofs.state.Node.take_gate.Reads as take-gate
@@ -16,6 +17,9 @@ use Rattle.node.proofs.gate.GateSettings.power_up.Reads as gate-power-up
 use Rattle.node.proofs.drive.DriveSettings.power_up.Reads as drive-power-up
 use Rattle.node.proofs.state.Settings.power_up.Reads as settings-power-up
 use Rattle.node.proofs.state.Settings.after.Reads as after
+
+pub bench_blank_unique : OneResult bench-blank.Post
+bench_blank_unique κs a r r' s s' p q = p ∙ sym q
 
 pub node_power_up_unique : OneResult node-power-up.Post
 node_power_up_unique κs a r r' s s' p q = p ∙ sym q

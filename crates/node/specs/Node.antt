@@ -19,6 +19,10 @@ use Rattle.node.specs.Effect.{settings_power_up, own_after}
 abbrev pub nothing : Captured
 nothing = record { counter = 0; inputs = 0 }
 
+-- bench values 0
+abbrev pub bench_blank : Bench
+bench_blank = record { counter = 0; home = 0; inputs = 0; velocity = 0; error = 0; analog0 = 0; analog1 = 0; analog2 = 0; ad = 0; auxiliary = 0; id = 0; version = 0 }
+
 -- the power-up state; "bench values stay", a drive's position is 0
 abbrev pub power_up : Kind → Bench → Node
 power_up k b = record { settings = settings_power_up; bench = b; captured = nothing; position = 0; addressed = false; kind = k }

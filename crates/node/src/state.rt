@@ -1,7 +1,7 @@
 // What a node holds, its power-up state, and what each command does.
 ghost use Rattle.std.specs.Prelude.{◌≡◌};
 ghost use Rattle.node.specs.Effect.{place_power_up, settings_power_up, settings_after};
-ghost use Rattle.node.specs.Node.{nothing, power_up, does_heed, addressed_after, captured_after, position_after, take_gate, take_drive, take_of, shown_of, mask_after};
+ghost use Rattle.node.specs.Node.{nothing, bench_blank, power_up, does_heed, addressed_after, captured_after, position_after, take_gate, take_drive, take_of, shown_of, mask_after};
 ghost use Rattle.node.specs.Parts.{message_role, heeded_role, place_by, divisor_by, mask_by, mask_take};
 
 use crate::drive::DriveSettings;
@@ -36,6 +36,28 @@ pub struct Bench {
     pub auxiliary: u8,
     pub id: u8,
     pub version: u8,
+}
+
+impl Bench {
+    // A bench on which nothing is set.
+    pub fn blank() -> Bench
+        ensures { result ≡ bench_blank }
+    {
+        Bench {
+            counter: 0,
+            home: 0,
+            inputs: 0,
+            velocity: 0,
+            error: 0,
+            analog0: 0,
+            analog1: 0,
+            analog2: 0,
+            ad: 0,
+            auxiliary: 0,
+            id: 0,
+            version: 0,
+        }
+    }
 }
 
 // The inputs and the counter as Synch Input found them.

@@ -8,9 +8,11 @@ use native.Mathlib.Omega.{arith}
 use lib.Dec.{eqb, ltb}
 use lib.ListN.{length, replicate, take, length-append, length-take}
 use borrow.Author.Tests.{le-ltb, ltb-true, ltb-false}
+use Rattle.std.specs.Prelude.{Result, Ok, Err}
 use Rattle.wire.specs.Promise.{Outcome}
 use Rattle.wire.specs.Numbers.{most_nodes}
 use Rattle.buffer.specs.Buffer.{at_start, written}
+use Rattle.wire.specs.declared.refusal.Refusal.{Refusal}
 use Rattle.wire.specs.declared.refusal.Refusal.TheVariants.{Range}
 use Rattle.text.specs.Lines.{newline, lines_of, grown}
 use Rattle.text.specs.Digits.{decimal_of, read_decimal}
@@ -21,7 +23,7 @@ use Rattle.status.specs.Status.{most_reply}
 use Rattle.node.specs.Effect.{divisor_up}
 use Rattle.table.specs.declared.Table.{Table}
 use Rattle.survey.specs.declared.decision.Delivery.{Delivery}
-use Rattle.survey.specs.declared.decision.Delivery.TheVariants.{Silent, Replied, Collision, Refused}
+use Rattle.survey.specs.declared.decision.Delivery.TheVariants.{Silent, Replied, Collision}
 use Rattle.survey.specs.Delivery.{Lent}
 use Rattle.survey.proofs.Lengths.{deliver_brief, deliver_left}
 use Rattle.table.specs.Table.{nodes_of, kept_by, table_deliver}
@@ -35,11 +37,11 @@ most = 655360
 
 -- ---- a line: ten characters for each one of its input line and its newline
 
-answer_short : (a : Delivery) (b : List ℕ) → length b ≤ most_reply → length (answer_line a b) ≤ 57
-answer_short Silent b h = omega arith
-answer_short (Replied n) b h = line_short (take n b) (omega (arith, length-take n b))
-answer_short Collision b h = omega arith
-answer_short (Refused why) b h = omega (arith, refused_short why)
+answer_short : (a : Result Delivery Refusal) (b : List ℕ) → length b ≤ most_reply → length (answer_line a b) ≤ 57
+answer_short (Ok Silent) b h = omega arith
+answer_short (Ok (Replied n)) b h = line_short (take n b) (omega (arith, length-take n b))
+answer_short (Ok Collision) b h = omega arith
+answer_short (Err why) b h = omega (arith, refused_short why)
 
 -- four bytes have eleven characters
 long_enough : (p : List ℕ) → 4 ≤ length p → 11 ≤ length (hex_text p)
@@ -48,7 +50,7 @@ long_enough p h = omega (arith, length_line p (omega arith), length-append (hex_
 module _ (t : Table) (l : List ℕ) where
   brief : (p : List ℕ) → length p < 4 → length (answer_step (table_deliver t divisor_up p (replicate most_reply 0))).line ≤ 10
   unfolding number_end decimal_of table_deliver
-  brief p h = deliver_brief (nodes_of t) divisor_up p (replicate most_reply 0) h (λ (o : Outcome Delivery Lent). length (answer_step (kept_by t o)).line ≤ 10) (omega arith) (omega arith) (omega arith)
+  brief p h = deliver_brief (nodes_of t) divisor_up p (replicate most_reply 0) h (λ (o : Outcome (Result Delivery Refusal) Lent). length (answer_step (kept_by t o)).line ≤ 10) (omega arith) (omega arith) (omega arith)
 
   any : (p : List ℕ) → length (answer_step (table_deliver t divisor_up p (replicate most_reply 0))).line ≤ 57
   unfolding table_deliver

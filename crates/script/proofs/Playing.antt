@@ -6,7 +6,6 @@ use mathlib.Core.Path.{◌≡◌, refl, sym, ap, ◌∙◌, subst}
 use native.Mathlib.Omega.{arith}
 use lib.ListN.{length, take, drop, replicate, drop_of_length-le}
 use Rattle.wire.specs.Promise.{Outcome, Lending}
-use Rattle.wire.specs.declared.kind.Kind.TheVariants.{Gate}
 use Rattle.wire.proofs.Impossible.{impossible}
 use Rattle.buffer.specs.Change.{AllBytes}
 use Rattle.buffer.proofs.Bytes.{byte_at}
@@ -15,27 +14,18 @@ use Rattle.hexadecimal.specs.Hex.{Content, bytes, malformed, bytes_in, over, rea
 use Rattle.text.proofs.Parts.{lines_next}
 use Rattle.hexadecimal.proofs.Meaning.{read_written}
 use Rattle.status.specs.Status.{most_reply}
-use Rattle.node.specs.declared.state.Node.{Node}
 use Rattle.node.specs.Effect.{divisor_up}
-use Rattle.node.specs.Node.{power_up}
-use Rattle.survey.specs.Chain.{zeros}
 use Rattle.table.specs.declared.Table.{Table}
 use Rattle.table.specs.declared.Delivered.{Delivered}
-use Rattle.table.specs.Table.{table_room, delivered_number, table_deliver}
+use Rattle.table.specs.Table.{delivered_number, table_deliver}
 use Rattle.script.specs.Answers.{answer_line}
 use Rattle.buffer.specs.Wrote.{Wrote}
 use Rattle.script.specs.Line.{WroteLine}
-use Rattle.script.specs.Bench.{start_of, Stepped, answer_step, refuse_step, on_content, play_of, run_of}
+use Rattle.script.specs.Bench.{Stepped, answer_step, refuse_step, on_content, play_of, run_of}
 use Rattle.script.specs.Line.{Played}
 use Rattle.script.specs.declared.rehearsal.Step.{Step}
 use Rattle.script.proofs.Deliveries.{deliver_kept}
 use Rattle.buffer.proofs.Appends.{Going, going_on, going_done}
-
--- ---- the start
-
-pub start_done : (n : Node) (k : ℕ) → n ≡ power_up Gate zeros → record { nodes = replicate table_room n; count = k } ≡ start_of k
-unfolding start_of
-start_done n k e = rw e
 
 -- ---- one line
 

@@ -9,6 +9,7 @@ use lib.Dec.{ltb}
 use lib.ListN.{length, take, drop, replicate, length-append, length-take}
 use lib.Seq.{take_at}
 use borrow.Author.Tests.{lt-ltb, le-ltb}
+use Rattle.std.specs.Prelude.{Result, Ok, Err}
 use Rattle.wire.specs.Promise.{Lending}
 use Rattle.wire.specs.Numbers.{number_of, number_by}
 use Rattle.buffer.specs.Buffer.{at_start, written}
@@ -22,7 +23,7 @@ use Rattle.text.specs.Digits.{decimal_of}
 use Rattle.hexadecimal.specs.Hex.{hex_line}
 use Rattle.hexadecimal.proofs.Puts.{length_line}
 use Rattle.survey.specs.declared.decision.Delivery.{Delivery}
-use Rattle.survey.specs.declared.decision.Delivery.TheVariants.{Silent, Replied, Collision, Refused}
+use Rattle.survey.specs.declared.decision.Delivery.TheVariants.{Silent, Replied, Collision}
 use Rattle.script.specs.Answers.{silent_line, collision_line, refused_word, number_end, refused_line, answer_line}
 use Rattle.buffer.specs.Wrote.{Wrote}
 use Rattle.script.specs.Line.{far, WroteLine}
@@ -93,21 +94,3 @@ module _ (d l : List ℕ) (b : Result ℕ Refusal) (p : Lending number_by b l (w
     reply_refused why at out e =
         let a : Err why ≡ Ok (length (hex_line d)) = sym e ∙ p.answer ∙ ap (λ o. o.answer) (laid d h) in
         impossible cc
-
--- ---- by the answer
-
-pub part_short : (n : ℕ) (d b : List ℕ) → length b ≤ most_reply → d ≡ take n b → length d ≤ most_reply
-part_short n d b k e = rw e (omega (arith, length-take n b))
-
-module _ {at r : ℕ} {out left : List ℕ} (a : Delivery) (b : List ℕ) where
-  pub answer_silent : a ≡ Silent → Wrote silent_line at out r left → WroteLine (answer_line a b) at out r left
-  answer_silent e f = rw e (record { wrote = f; near = omega arith })
-
-  pub answer_collision : a ≡ Collision → Wrote collision_line at out r left → WroteLine (answer_line a b) at out r left
-  answer_collision e f = rw e (record { wrote = f; near = omega arith })
-
-  pub answer_refused : (why : Refusal) → a ≡ Refused why → WroteLine (refused_line why) at out r left → WroteLine (answer_line a b) at out r left
-  answer_refused why e f = rw e f
-
-  pub answer_replied : (n : ℕ) (d : List ℕ) → a ≡ Replied n → d ≡ take n b → WroteLine (hex_line d) at out r left → WroteLine (answer_line a b) at out r left
-  answer_replied n d e g f = rw (e, ← g) f

@@ -1,12 +1,12 @@
 -- Document 01: "Per packet line it writes the reply in the same form, "-" for none, "collision" for 13, or "refused " and the number". Each line with its newline.
-use Rattle.std.specs.Prelude.{ℕ, List, [], ◌∷◌, ◌++◌, take}
+use Rattle.std.specs.Prelude.{ℕ, List, [], ◌∷◌, ◌++◌, take, Result, Ok, Err}
 use Rattle.wire.specs.Numbers.{number_of}
 use Rattle.wire.specs.declared.refusal.Refusal.{Refusal}
 use Rattle.text.specs.Lines.{newline}
 use Rattle.text.specs.Digits.{decimal_of}
 use Rattle.hexadecimal.specs.Hex.{hex_line}
 use Rattle.survey.specs.declared.decision.Delivery.{Delivery}
-use Rattle.survey.specs.declared.decision.Delivery.TheVariants.{Silent, Replied, Collision, Refused}
+use Rattle.survey.specs.declared.decision.Delivery.TheVariants.{Silent, Replied, Collision}
 
 -- "-"
 abbrev pub silent_line : List ℕ
@@ -29,8 +29,8 @@ abbrev pub refused_line : Refusal → List ℕ
 refused_line why = refused_word ++ number_end (number_of why)
 
 -- the line for an answer, where the reply stands at the start of b
-abbrev pub answer_line : Delivery → List ℕ → List ℕ
-answer_line Silent b = silent_line
-answer_line (Replied n) b = hex_line (take n b)
-answer_line Collision b = collision_line
-answer_line (Refused why) b = refused_line why
+abbrev pub answer_line : Result Delivery Refusal → List ℕ → List ℕ
+answer_line (Ok Silent) b = silent_line
+answer_line (Ok (Replied n)) b = hex_line (take n b)
+answer_line (Ok Collision) b = collision_line
+answer_line (Err why) b = refused_line why

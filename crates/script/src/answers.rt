@@ -53,14 +53,19 @@ fn put_hex_line(out: &mut [u8], at: usize, reply: &[u8]) -> usize
 }
 
 // The line for an answer, whose reply stands at the start of `reply`.
-pub(crate) fn put_answer_line(out: &mut [u8], at: usize, answer: Delivery, reply: &[u8]) -> usize
+pub(crate) fn put_answer_line(
+    out: &mut [u8],
+    at: usize,
+    answer: Result<Delivery, Refusal>,
+    reply: &[u8],
+) -> usize
     requires { (at ≤ far) × (length reply.now ≤ most_reply) }
     ensures { WroteLine (answer_line answer reply.now) at out.old result out.new }
 {
     match answer {
-        Delivery::Silent => append(out, at, b"-\n"),
-        Delivery::Replied(n) => put_hex_line(out, at, text::first(reply, n)),
-        Delivery::Collision => append(out, at, b"collision\n"),
-        Delivery::Refused(why) => put_refused_line(out, at, why),
+        Ok(Delivery::Silent) => append(out, at, b"-\n"),
+        Ok(Delivery::Replied(n)) => put_hex_line(out, at, text::first(reply, n)),
+        Ok(Delivery::Collision) => append(out, at, b"collision\n"),
+        Err(why) => put_refused_line(out, at, why),
     }
 }

@@ -31,24 +31,11 @@ pub(crate) struct Step {
 }
 
 // The chain at the start: gates in power-up state, bench values 0.
+#[tactic(auto, unfolding(crate::specs::Bench::start_of))]
 fn start(count: usize) -> Table
     ensures { result ≡ start_of count }
 {
-    let bench = Bench {
-        counter: 0,
-        home: 0,
-        inputs: 0,
-        velocity: 0,
-        error: 0,
-        analog0: 0,
-        analog1: 0,
-        analog2: 0,
-        ad: 0,
-        auxiliary: 0,
-        id: 0,
-        version: 0,
-    };
-    let fresh = Node::power_up(Kind::Gate, bench);
+    let fresh = Node::power_up(Kind::Gate, Bench::blank());
     Table {
         nodes: [fresh; table::ROOM],
         count,

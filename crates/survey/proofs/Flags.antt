@@ -1,11 +1,11 @@
 -- What the look along the chain has seen, as sets of the nodes that act and of those that reply.
-use Rattle.std.proofs.Common.{◌≡◌, ℕ, suc, ◌+◌, ◌*◌, ◌/◌, ◌%◌, ◌^◌, ◌<◌, ◌≤◌, Bool, true, false, cond, ◌&&◌, List, [], ◌∷◌, length, sym, refl, ap, ◌∙◌, pow-suc, arith, pow_mono}
+use Rattle.std.proofs.Common.{◌≡◌, ℕ, suc, ◌+◌, ◌*◌, ◌/◌, ◌%◌, ◌^◌, ◌<◌, ◌≤◌, Bool, true, false, cond, ◌&&◌, List, [], ◌∷◌, length, Result, Ok, Err, sym, refl, ap, ◌∙◌, pow-suc, arith, pow_mono}
 use Rattle.wire.specs.Numbers.{most_nodes}
 use Rattle.wire.specs.declared.address.Address.{Address}
+use Rattle.wire.specs.declared.refusal.Refusal.{Refusal}
 use Rattle.node.specs.declared.state.Node.{Node}
 use Rattle.message.specs.declared.Messages.{Messages}
 use Rattle.survey.specs.declared.plan.Incoming.{Incoming}
-use Rattle.survey.specs.declared.plan.Incoming.TheVariants.{Whole, Unread}
 use Rattle.survey.specs.declared.plan.Seen.{Seen}
 use Rattle.survey.specs.One.{does_act, does_reply, take_for, turned, is_ranged}
 use Rattle.survey.specs.Chain.{turned_from, repliers_from, all_ranged}
@@ -47,11 +47,15 @@ room w i m e h =
 regroup : (a x y z : ℕ) → z ≡ a + x → z + y ≡ a + (x + y)
 regroup a x y z e = omega (arith, e)
 
+-- a packet that was read
+abbrev pub read : ℕ → Address → Messages → Result Incoming Refusal
+read at to h = Ok (record { to = to; at = at; messages = h })
+
 -- one of the sets: it is `of s` when s was seen, and node i joins it if f says so
 module _ (at : ℕ) (to : Address) (h : Messages) (f : Bool → Node → Bool) (of : Seen → ℕ)
     (joins : (s : Seen) (n : Node) → of (glance_for at to s n) ≡ join_of (of s) s.weight (f s.near n)) where
   seen_from : (s : Seen) (ns : List Node) (i : ℕ) → s.weight ≡ 2 ^ i → of s < s.weight → i + length ns ≤ most_nodes
-      → of (glances_of (Whole to at h) s ns) ≡ of s + set_from s.weight (flags_from f s.near ns)
+      → of (glances_of (read at to h) s ns) ≡ of s + set_from s.weight (flags_from f s.near ns)
   unfolding glance_for
   seen_from s [] i d a b = omega arith
   seen_from s (n ∷ ns) i d a b =
@@ -66,17 +70,17 @@ module _ (at : ℕ) (to : Address) (h : Messages) (f : Bool → Node → Bool) (
       ∙ ap (λ (v : ℕ). of (glance_for at to s n) + set_from v bs) e
       ∙ regroup (of s) (cond t w 0) (set_from (w + w) bs) (of (glance_for at to s n)) (joins s n ∙ p.0)
 
-  pub seen_set : (ns : List Node) → of chain_start ≡ 0 → length ns ≤ most_nodes → of (glances_of (Whole to at h) chain_start ns) ≡ set_of (flags_from f true ns)
+  pub seen_set : (ns : List Node) → of chain_start ≡ 0 → length ns ≤ most_nodes → of (glances_of (read at to h) chain_start ns) ≡ set_of (flags_from f true ns)
   seen_set ns e b =
       let z : of chain_start < 1 = omega (arith, e) in
       let g = seen_from chain_start ns 0 refl z (omega (arith, b)) in
       omega (arith, g, e)
 
-pub seen_acting : (at : ℕ) (to : Address) (h : Messages) (ns : List Node) → length ns ≤ most_nodes → (glances_of (Whole to at h) chain_start ns).acting ≡ set_of (flags_from (does_act at to) true ns)
+pub seen_acting : (at : ℕ) (to : Address) (h : Messages) (ns : List Node) → length ns ≤ most_nodes → (glances_of (read at to h) chain_start ns).acting ≡ set_of (flags_from (does_act at to) true ns)
 unfolding glance_for
 seen_acting at to h ns b = seen_set at to h (does_act at to) (λ (s : Seen). s.acting) (λ s n. refl) ns refl b
 
-pub seen_replying : (at : ℕ) (to : Address) (h : Messages) (ns : List Node) → length ns ≤ most_nodes → (glances_of (Whole to at h) chain_start ns).replying ≡ set_of (flags_from (does_reply at to) true ns)
+pub seen_replying : (at : ℕ) (to : Address) (h : Messages) (ns : List Node) → length ns ≤ most_nodes → (glances_of (read at to h) chain_start ns).replying ≡ set_of (flags_from (does_reply at to) true ns)
 unfolding glance_for
 seen_replying at to h ns b = seen_set at to h (does_reply at to) (λ (s : Seen). s.replying) (λ s n. refl) ns refl b
 
@@ -85,15 +89,15 @@ and_assoc true b c = refl
 and_assoc false b c = refl
 
 -- every record, whether the packet can be read or not
-pub seen_ranged : (c : Incoming) (s : Seen) (ns : List Node) → (glances_of c s ns).ranged ≡ (s.ranged && all_ranged ns)
+pub seen_ranged : (c : Result Incoming Refusal) (s : Seen) (ns : List Node) → (glances_of c s ns).ranged ≡ (s.ranged && all_ranged ns)
 unfolding glance_for glance_past
 seen_ranged c s [] = and_true s.ranged
   where
     and_true : (b : Bool) → b ≡ (b && true)
     and_true true = refl
     and_true false = refl
-seen_ranged (Whole to at h) s (n ∷ ns) = seen_ranged (Whole to at h) (glance_for at to s n) ns ∙ and_assoc s.ranged (is_ranged n.settings.place) (all_ranged ns)
-seen_ranged (Unread why) s (n ∷ ns) = seen_ranged (Unread why) (glance_past s n) ns ∙ and_assoc s.ranged (is_ranged n.settings.place) (all_ranged ns)
+seen_ranged (Ok c) s (n ∷ ns) = seen_ranged (Ok c) (glance_for c.at c.to s n) ns ∙ and_assoc s.ranged (is_ranged n.settings.place) (all_ranged ns)
+seen_ranged (Err why) s (n ∷ ns) = seen_ranged (Err why) (glance_past s n) ns ∙ and_assoc s.ranged (is_ranged n.settings.place) (all_ranged ns)
 
 -- ---- the first node and the others
 

@@ -1,5 +1,5 @@
 -- "A node hears only commands at its own" divisor: one that hears has the divisor that was sent at, and one with another neither acts nor replies.
-use Rattle.std.proofs.Common.{◌≡◌, ℕ, suc, Bool, true, false, ◌&&◌, ◌||◌, eqb, List, [], ◌∷◌, refl, ap, ap₂, ne_eqb, eqb-true, Err}
+use Rattle.std.proofs.Common.{◌≡◌, ℕ, suc, Bool, true, false, ◌&&◌, ◌||◌, eqb, List, [], ◌∷◌, Ok, refl, ap, ap₂, ne_eqb, eqb-true, Err}
 use Rattle.packet.specs.Packet.{whole}
 use Rattle.wire.specs.declared.address.Address.{Address}
 use Rattle.wire.proofs.Choice.{same, both}
@@ -65,7 +65,7 @@ module _ (at : ℕ) (to : Address) (h : Messages) where
 
 -- a packet at a divisor that no node has: nobody replies, and all stays as it stood
 pub nobody_hears : (ns : List Node) (at : ℕ) (p out : List ℕ) (to : Address) (k n : ℕ) → valid ns ≡ true → frame_alone p ≡ whole to k n → NobodyAt at ns
-    → deliver_of ns at p out ≡ record { answer = Silent; left = record { nodes = ns; reply = out } }
+    → deliver_of ns at p out ≡ record { answer = Ok Silent; left = record { nodes = ns; reply = out } }
 unfolding deliver_of delivered_to after
 nobody_hears ns at p out to k n v f u =
-    rw (v, f, silent at to (messages_as to k p) ns u) (ap (λ (l : List Node). record { answer = Silent; left = record { nodes = l; reply = out } }) (stay_from at to (messages_as to k p) true ns u))
+    rw (v, f, silent at to (messages_as to k p) ns u) (ap (λ (l : List Node). record { answer = Ok Silent; left = record { nodes = l; reply = out } }) (stay_from at to (messages_as to k p) true ns u))

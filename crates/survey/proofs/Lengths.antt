@@ -1,5 +1,5 @@
 -- What a delivery tells of packets that stand alone, of those with bytes left over, of long and of brief ones, and of the reply buffer.
-use Rattle.std.proofs.Common.{◌≡◌, ℕ, ◌<◌, ◌≤◌, Bool, true, false, cond, not, eqb, ltb, List, length, get_or, take, refl, ap, ◌∙◌, arith, length-take-le, get_or-take, le-ltb, lt-ltb, Result, Ok, Err}
+use Rattle.std.proofs.Common.{◌≡◌, ℕ, ◌<◌, ◌≤◌, Bool, true, false, cond, not, eqb, ltb, List, length, get_or, take, Result, Ok, Err, refl, ap, ◌∙◌, arith, length-take-le, get_or-take, le-ltb, lt-ltb}
 use Rattle.packet.specs.declared.Framed.{Framed}
 use Rattle.wire.specs.Promise.{Outcome}
 use Rattle.buffer.specs.Buffer.{written}
@@ -19,7 +19,7 @@ use Rattle.reply.specs.Reply.{mask_for}
 use Rattle.mask.proofs.Counts.{size_range}
 use Rattle.reply.proofs.Replies.{reply_length_lem}
 use Rattle.survey.specs.declared.decision.Delivery.{Delivery}
-use Rattle.survey.specs.declared.decision.Delivery.TheVariants.{Replied, Refused}
+use Rattle.survey.specs.declared.decision.Delivery.TheVariants.{Replied}
 use Rattle.survey.specs.One.{messages_as}
 use Rattle.survey.specs.Chain.{Said, silence, reply, collided, said, blank_node}
 use Rattle.survey.specs.Delivery.{Lent, valid, on_built, on_said, alone, frame_alone, on_frame, delivered_to, deliver_of, refused_delivery}
@@ -68,7 +68,7 @@ deliver_long ns at p out h b =
 -- ---- fewer than 4 bytes are never replied to
 
 -- what holds of the three refusals holds of such a delivery
-pub deliver_brief : (ns : List Node) (at : ℕ) (p out : List ℕ) → length p < 4 → (Q : Outcome Delivery Lent → Type 0)
+pub deliver_brief : (ns : List Node) (at : ℕ) (p out : List ℕ) → length p < 4 → (Q : Outcome (Result Delivery Refusal) Lent → Type 0)
     → Q (refused_delivery Short ns out) → Q (refused_delivery Header ns out) → Q (refused_delivery Range ns out) → Q (deliver_of ns at p out)
 unfolding deliver_of frame_of frame_alone
 deliver_brief ns at p out h Q short header range =
@@ -93,7 +93,7 @@ said_left collided at to h ns out = refl
 
 frame_left : (at : ℕ) (f : Result Framed Refusal) (p : List ℕ) (ns : List Node) (out : List ℕ) → length (on_frame at f p ns out).left.reply ≡ length out
 unfolding delivered_to
-frame_left at (whole to k n) p ns out = said_left (said at to (messages_as to k p) ns) at to (messages_as to k p) ns out
+frame_left at (Ok g) p ns out = said_left (said at g.address (messages_as g.address g.command p) ns) at g.address (messages_as g.address g.command p) ns out
 frame_left at (Err why) p ns out = refl
 
 pub deliver_left : (ns : List Node) (at : ℕ) (p out : List ℕ) → length (deliver_of ns at p out).left.reply ≡ length out
@@ -121,7 +121,7 @@ frame_whys p e = by_frame (frame_of p) refl e
     ends false to k n e = impossible cc
 
     by_frame : (f : Result Framed Refusal) → frame_of p ≡ f → alone p f ≡ Err Room → ⊥
-    by_frame (whole to k n) r e = ends (ltb n (length p)) to k n e
+    by_frame (Ok g) r e = ends (ltb g.end (length p)) g.address g.command g.end e
     by_frame (Err why) r e = let z : why ≡ Room = cc in not_room (frame_refuses p why r) z
 
 module _ (ns : List Node) (out : List ℕ) (room : most_reply ≤ length out) where
@@ -132,25 +132,25 @@ module _ (ns : List Node) (out : List ℕ) (room : most_reply ≤ length out) wh
       let own = message_to n.kind h in
       rw q.bytes (omega (arith, reply_length_lem own n, (size_range n.kind (mask_for own n)).1))
 
-  said_roomy : (s : Said) (at : ℕ) (to : Address) (h : Messages) → said at to h ns ≡ s → (on_said s at to h ns out).answer ≡ Refused Room → ⊥
+  said_roomy : (s : Said) (at : ℕ) (to : Address) (h : Messages) → said at to h ns ≡ s → (on_said s at to h ns out).answer ≡ Err Room → ⊥
   unfolding written
   said_roomy silence at to h e x = impossible cc
   said_roomy (reply r) at to h e x =
-      let y : Replied (length r) ≡ Refused Room = rw (le-ltb (length out) (length r) (reply_fits at to h r e)) at x in
+      let y : ◌≡◌ {A = Result Delivery Refusal} (Ok (Replied (length r))) (Err Room) = rw (le-ltb (length out) (length r) (reply_fits at to h r e)) at x in
       impossible cc
   said_roomy collided at to h e x = impossible cc
 
-  frame_roomy : (at : ℕ) (f : Result Framed Refusal) (p : List ℕ) → frame_alone p ≡ f → (on_frame at f p ns out).answer ≡ Refused Room → ⊥
+  frame_roomy : (at : ℕ) (f : Result Framed Refusal) (p : List ℕ) → frame_alone p ≡ f → (on_frame at f p ns out).answer ≡ Err Room → ⊥
   unfolding delivered_to
-  frame_roomy at (whole to k n) p e x = said_roomy (said at to (messages_as to k p) ns) at to (messages_as to k p) refl x
+  frame_roomy at (Ok g) p e x = said_roomy (said at g.address (messages_as g.address g.command p) ns) at g.address (messages_as g.address g.command p) refl x
   frame_roomy at (Err why) p e x =
       let y : why ≡ Room = cc in
       frame_whys p (e ∙ ap Err y)
 
-  pub never_five : (at : ℕ) (p : List ℕ) → (deliver_of ns at p out).answer ≡ Refused Room → ⊥
+  pub never_five : (at : ℕ) (p : List ℕ) → (deliver_of ns at p out).answer ≡ Err Room → ⊥
   unfolding deliver_of
   never_five at p = go (valid ns)
     where
-      go : (v : Bool) → (cond v (on_frame at (frame_alone p) p ns out) (refused_delivery Range ns out)).answer ≡ Refused Room → ⊥
+      go : (v : Bool) → (cond v (on_frame at (frame_alone p) p ns out) (refused_delivery Range ns out)).answer ≡ Err Room → ⊥
       go true x = frame_roomy at (frame_alone p) p refl x
       go false x = impossible cc

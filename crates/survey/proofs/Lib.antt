@@ -1,9 +1,7 @@
-mod Ones
 pub mod Members
 mod Searching
 pub mod Visiting
 pub mod Touching
-mod Deciding
 pub mod Repliers
 pub mod Meaning
 pub mod Collisions
@@ -12,5 +10,4 @@ pub mod Flags
 pub mod Joining
 pub mod Refusals
 pub mod Lengths
-mod Surveying
 pub mod Unique

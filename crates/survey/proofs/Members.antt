@@ -1,7 +1,7 @@
 -- The first node of a set, and the set without it.
-use Rattle.std.proofs.Common.{◌≡◌, ℕ, zero, suc, ◌+◌, ◌-◌, ◌*◌, ◌/◌, ◌%◌, ◌^◌, ◌<◌, ◌≤◌, Bool, true, sym, refl, ap, ◌∙◌, subst, pow-suc, arith}
-use lib.Count.{count_trailing_zeros, under, trailing_le}
-use Rattle.survey.specs.Sets.{join_of, first_of, without_first}
+use Rattle.std.proofs.Common.{◌≡◌, ℕ, zero, suc, ◌-◌, ◌*◌, ◌/◌, ◌%◌, ◌^◌, ◌<◌, ◌≤◌, sym, refl, ap, ◌∙◌, subst, pow-suc, arith}
+use lib.Count.{count_trailing_zeros, under}
+use Rattle.survey.specs.Sets.{lowest_of}
 
 -- ---- halving, which takes one digit off
 
@@ -24,17 +24,6 @@ even_less j n e = ap (λ (x : ℕ). (n - x) % 2) (pow-suc 2 j) ∙ twice_even (2
 
 -- ---- the first node
 
-first_lt_step : (k n d : ℕ) → n % 2 ≡ d → 0 < n → (0 < n / 2 → count_trailing_zeros k (n / 2) < k) → under d (count_trailing_zeros k (n / 2)) < suc k
-first_lt_step k n zero e p ih =
-    let g : count_trailing_zeros k (n / 2) < k = ih (omega (arith, e, p)) in
-    omega (arith, g)
-first_lt_step k n (suc d) e p ih = omega arith
-
-first_lt : (k n : ℕ) → 0 < n → n < 2 ^ k → count_trailing_zeros k n < k
-unfolding count_trailing_zeros
-first_lt zero n p h = omega (arith, p, h)
-first_lt (suc k) n p h = first_lt_step k n (n % 2) refl p (λ q. first_lt k (n / 2) q (half_below k n h))
-
 first_in_step : (k n d : ℕ) → n % 2 ≡ d → 0 < n → (0 < n / 2 → 2 ^ count_trailing_zeros k (n / 2) ≤ n / 2) → 2 ^ under d (count_trailing_zeros k (n / 2)) ≤ n
 first_in_step k n zero e p ih =
     let g : 2 ^ count_trailing_zeros k (n / 2) ≤ n / 2 = ih (omega (arith, e, p)) in
@@ -47,28 +36,14 @@ unfolding count_trailing_zeros
 first_in zero n p h = omega (arith, p, h)
 first_in (suc k) n p h = first_in_step k n (n % 2) refl p (λ q. first_in k (n / 2) q (half_below k n h))
 
-pub first_fits : (s : ℕ) → first_of s < 2 ^ 64
-first_fits s = omega (arith, trailing_le 32 s)
-
--- of a set that isn't empty, it is below 32, and its digit no larger than the set
+-- of a set that isn't empty, its digit is no larger than the set
 module _ (s : ℕ) (some : s ≡ 0 → ⊥) (fits : s < 2 ^ 32) where
-  pub first_below : first_of s < 32
-  first_below = first_lt 32 s (omega (arith, some)) fits
-
-  first_inside : 2 ^ first_of s ≤ s
+  first_inside : 2 ^ lowest_of s ≤ s
   first_inside = first_in 32 s (omega (arith, some)) fits
 
   -- as the code has it
-  shifted : 1 * 2 ^ first_of s % 2 ^ 32 ≡ 2 ^ first_of s
+  shifted : 1 * 2 ^ lowest_of s % 2 ^ 32 ≡ 2 ^ lowest_of s
   shifted = let g = first_inside in omega (arith, g, fits)
 
-  pub first_taken : 1 * 2 ^ first_of s % 2 ^ 32 ≤ s
+  pub first_taken : 1 * 2 ^ lowest_of s % 2 ^ 32 ≤ s
   first_taken = let g = first_inside in let e = shifted in omega (arith, g, e)
-
-  pub first_gone : s - 1 * 2 ^ first_of s % 2 ^ 32 ≡ without_first s
-  first_gone = ap (λ (x : ℕ). s - x) shifted
-
--- ---- joining
-
-pub joined_yes : (s w r : ℕ) (b : Bool) → r ≡ (s + w) % 2 ^ 32 → b ≡ true → r ≡ join_of s w b
-joined_yes s w r b e f = rw f e

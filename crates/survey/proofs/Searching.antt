@@ -1,13 +1,9 @@
 -- The search along the nodes: what was found, then those that reply from node i on, is who replies.
-use Rattle.std.proofs.Common.{◌≡◌, ℕ, zero, suc, ◌+◌, ◌-◌, ◌/◌, ◌%◌, ◌<◌, ◌≤◌, List, [], ◌∷◌, ◌++◌, refl, ap, ◌∙◌, ⊎_elim, add-one, arith}
-use native.Mathlib.Nat.{sub-zero}
-use types.Run.{OneOf}
-use denote.Enum.Declared.{tag_of}
+use Rattle.std.proofs.Common.{◌≡◌, ℕ, zero, suc, ◌+◌, ◌-◌, ◌/◌, ◌%◌, ◌<◌, List, [], ◌∷◌, ◌++◌, refl, add-one, arith}
 use Rattle.survey.specs.declared.sets.Replier.{Replier}
 use Rattle.survey.specs.declared.sets.Replier.TheVariants.{None, One, Several}
 use Rattle.survey.specs.Sets.{members_from, members}
 use Rattle.survey.specs.Chain.{search_of}
-use Rattle.survey.specs.contracts.sets.Replier.{the_type}
 
 none_from : (k i : ℕ) → members_from k i 0 ≡ []
 none_from zero i = refl
@@ -19,35 +15,11 @@ kept None = []
 kept (One i) = i ∷ []
 kept Several = 0 ∷ 0 ∷ []
 
-kept_is : (r : Replier) → r ≡ search_of (kept r ++ [])
-kept_is None = refl
-kept_is (One i) = refl
-kept_is Several = refl
-
-second : (r : Replier) (x : ℕ) (xs : List ℕ) → (r ≡ None → ⊥) → Several ≡ search_of (kept r ++ (x ∷ xs))
-second None x xs h = absurd (h refl)
-second (One i) x xs h = refl
-second Several x xs h = refl
-
--- in the arm `_` of a match on a replier, whose first arm is None
-pub not_none : (r : Replier) → OneOf (1 ∷ 2 ∷ []) (tag_of the_type r) → r ≡ None → ⊥
-not_none r w n =
-    let h : tag_of the_type r ≡ 0 = ap (λ (x : Replier). tag_of the_type x) n in
-    ⊎_elim (λ e. omega arith) (λ e. omega arith) w
-
 -- found so far, before node i of n, with `rest` the repliers from there on, of those in s
 abbrev pub Searched : ℕ → ℕ → ℕ → ℕ → Replier → Type 0
 Searched s n rest i found = search_of (kept found ++ members_from (n - i) i rest) ≡ search_of (members n s)
 
-pub search_start : (s n : ℕ) → Searched s n s 0 None
-search_start s n = rw sub-zero
-
 module _ (s n rest i : ℕ) (r : Replier) (inv : Searched s n rest i r) where
-  pub search_end : n ≤ i → r ≡ search_of (members n s)
-  search_end h =
-      let e : n - i ≡ 0 = omega arith in
-      kept_is r ∙ (rw e at inv)
-
   module _ (below : i < n) where
     one_less : n - i ≡ suc (n - suc i)
     one_less = omega arith
@@ -64,6 +36,3 @@ module _ (s n rest i : ℕ) (r : Replier) (inv : Searched s n rest i r) where
       -- nobody behind node i replies
       pub search_last : r ≡ None → rest ≡ 1 → One i ≡ search_of (members n s)
       search_last e f = rw (none_from (n - suc i) (suc i)) at (rw (e, one_less, f) at inv)
-
-      pub search_second : (r ≡ None → ⊥) → Several ≡ search_of (members n s)
-      search_second h = second r i (members_from (n - suc i) (suc i) (rest / 2)) h ∙ (rw (one_less, replying) at inv)

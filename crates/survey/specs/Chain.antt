@@ -5,7 +5,7 @@ use Rattle.wire.specs.declared.kind.Kind.TheVariants.{Gate}
 use Rattle.node.specs.declared.state.Bench.{Bench}
 use Rattle.node.specs.declared.state.Node.{Node}
 use Rattle.node.specs.Setting.{zeroed}
-use Rattle.node.specs.Node.{nothing}
+use Rattle.node.specs.Node.{nothing, bench_blank}
 use Rattle.message.specs.declared.Messages.{Messages}
 use Rattle.message.specs.Message.{is_answered, message_to}
 use Rattle.reply.specs.Reply.{reply_of}
@@ -46,7 +46,7 @@ pub data Said : Type 0 where
 
 -- bench values 0
 abbrev pub zeros : Bench
-zeros = record { counter = 0; home = 0; inputs = 0; velocity = 0; error = 0; analog0 = 0; analog1 = 0; analog2 = 0; ad = 0; auxiliary = 0; id = 0; version = 0 }
+zeros = bench_blank
 
 -- what an index past a list's end reads as: all zero
 abbrev pub blank_node : Node

@@ -10,25 +10,23 @@ use message::{Message, Messages};
 use node::Node;
 use wire::Refusal;
 
-// What a packet to the chain comes to: nobody replied; one node did, with so many bytes; several did at once; or the refusal.
+// What a packet to the chain comes to, where it is not refused: nobody replied; one node did, with so many bytes; several did at once.
 #[derive(Clone, Copy)]
 pub enum Delivery {
     Silent,
     Replied(usize),
     Collision,
-    Refused(Refusal),
 }
 
 impl Delivery {
-    // The paper's number.
-    pub fn number(self) -> u8
-        ensures { result ≡ delivery_number self }
+    // The paper's number of what a packet comes to, or of its refusal.
+    pub fn number(answer: Result<Delivery, Refusal>) -> u8
+        ensures { result ≡ delivery_number answer }
     {
-        match self {
-            Delivery::Silent => wire::DONE,
-            Delivery::Replied(_) => wire::DONE,
-            Delivery::Collision => wire::COLLISION,
-            Delivery::Refused(why) => why.number(),
+        match answer {
+            Ok(Delivery::Silent | Delivery::Replied(_)) => wire::DONE,
+            Ok(Delivery::Collision) => wire::COLLISION,
+            Err(why) => why.number(),
         }
     }
 }
@@ -36,7 +34,7 @@ impl Delivery {
 // The answer, who is to be gone through, and what the packet says to either kind.
 #[derive(Clone, Copy)]
 pub struct Decided {
-    pub answer: Delivery,
+    pub answer: Result<Delivery, Refusal>,
     pub acting: u32,
     pub messages: Messages,
 }
@@ -45,16 +43,7 @@ pub struct Decided {
 fn is_idle(role: Role) -> bool
     ensures { result ≡ is_idle role }
 {
-    match role {
-        Role::Masks(_) => true,
-        Role::Idles => true,
-        Role::Plain => false,
-        Role::Places(_) => false,
-        Role::Paces(_) => false,
-        Role::Captures => false,
-        Role::Zeroes => false,
-        Role::Resets => false,
-    }
+    matches!(role, Role::Masks(_) | Role::Idles)
 }
 
 // Whether a packet may change a node of the kind that it says this to.
@@ -63,21 +52,16 @@ fn does_touch(message: Message) -> bool
 {
     match message {
         Message::Intact(c) => !is_idle(c.role()),
-        Message::Other => false,
-        Message::Spoilt => false,
+        Message::Other | Message::Spoilt => false,
     }
 }
 
 // Of those that act, those that are to be gone through: none, where the packet changes no node.
+#[tactic(auto, unfolding(crate::specs::Decision::touched_of))]
 fn touched(messages: Messages, acting: u32) -> u32
     ensures { result ≡ touched_of messages acting }
 {
-    let gate = messages.gate;
-    if does_touch(gate) {
-        return acting;
-    }
-    let drive = messages.drive;
-    if does_touch(drive) {
+    if does_touch(messages.gate) || does_touch(messages.drive) {
         return acting;
     }
     0
@@ -88,7 +72,7 @@ fn decide_refusal(why: Refusal) -> Decided
     ensures { result ≡ decide_refusal why }
 {
     Decided {
-        answer: Delivery::Refused(why),
+        answer: Err(why),
         acting: 0,
         messages: Messages {
             gate: Message::Other,
@@ -98,41 +82,35 @@ fn decide_refusal(why: Refusal) -> Decided
 }
 
 // No refusal: those that are to act do.
-fn decide_answer(answer: Delivery, acting: u32, messages: Messages) -> Decided
-    ensures { result ≡ decide_answer answer acting messages }
+fn decide_answer(answer: Delivery, plan: Plan) -> Decided
+    ensures { result ≡ decide_answer answer plan }
 {
     Decided {
-        answer,
-        acting: touched(messages, acting),
-        messages,
+        answer: Ok(answer),
+        acting: touched(plan.messages, plan.acting),
+        messages: plan.messages,
     }
 }
 
 // One node replies, to what the packet says to its kind: 5 where its reply has no room, before any node acts.
-fn decide_one(speaker: Node, acting: u32, messages: Messages, reply: &mut [u8]) -> Decided
-    ensures { record { answer = result; left = reply.new } ≡ decide_one speaker acting messages reply.old }
+#[tactic(auto, unfolding(crate::specs::Decision::decide_one))]
+fn decide_one(speaker: Node, plan: Plan, reply: &mut [u8]) -> Decided
+    ensures { record { answer = result; left = reply.new } ≡ decide_one speaker plan reply.old }
 {
-    let kind = speaker.kind;
-    match reply::reply(speaker, messages.to(kind), reply) {
-        Ok(n) => decide_answer(Delivery::Replied(n), acting, messages),
+    match reply::reply(speaker, plan.messages.to(speaker.kind), reply) {
+        Ok(n) => decide_answer(Delivery::Replied(n), plan),
         Err(why) => decide_refusal(why),
     }
 }
 
 // By who replies.
-fn decide_by(
-    replier: Replier,
-    speaker: Node,
-    acting: u32,
-    messages: Messages,
-    reply: &mut [u8],
-) -> Decided
-    ensures { record { answer = result; left = reply.new } ≡ decide_by replier speaker acting messages reply.old }
+fn decide_by(plan: Plan, speaker: Option<Node>, reply: &mut [u8]) -> Decided
+    ensures { record { answer = result; left = reply.new } ≡ decide_by plan.replier speaker plan reply.old }
 {
-    match replier {
-        Replier::None => decide_answer(Delivery::Silent, acting, messages),
-        Replier::One(_) => decide_one(speaker, acting, messages, reply),
-        Replier::Several => decide_answer(Delivery::Collision, acting, messages),
+    match (plan.replier, speaker) {
+        (Replier::Several, _) => decide_answer(Delivery::Collision, plan),
+        (Replier::One(_), Some(node)) => decide_one(node, plan, reply),
+        _ => decide_answer(Delivery::Silent, plan),
     }
 }
 
@@ -140,14 +118,8 @@ fn decide_by(
 pub fn decide(survey: Survey, reply: &mut [u8]) -> Decided
     ensures { record { answer = result; left = reply.new } ≡ decide_of survey reply.old }
 {
-    let plan = survey.plan;
-    let speaker = survey.speaker;
-    match plan {
-        Plan::Refuse(why) => decide_refusal(why),
-        Plan::Deliver {
-            replier,
-            acting,
-            messages,
-        } => decide_by(replier, speaker, acting, messages, reply),
+    match survey.plan {
+        Ok(plan) => decide_by(plan, survey.speaker, reply),
+        Err(why) => decide_refusal(why),
     }
 }

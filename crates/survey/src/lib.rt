@@ -10,4 +10,4 @@ mod sets;
 
 pub use decision::{Decided, Delivery, decide};
 pub use plan::{Incoming, Plan, Seen, Survey, glance, plan_for, plan_of, receive, speaker};
-pub use sets::{Replier, SET_WIDTH, first, without_first};
+pub use sets::{Replier, first, without_first};

@@ -35,15 +35,15 @@ fn is_answering(place: Place, to: Address) -> bool
 }
 
 // The record's addresses are of their ranges.
+#[tactic(auto, unfolding(crate::specs::One::is_ranged))]
 pub(crate) fn is_ranged(place: Place) -> bool
     ensures { result ≡ is_ranged place }
 {
-    let address = place.address;
-    let group = place.group;
-    address.in_range() & group.in_range()
+    place.address.in_range() & place.group.in_range()
 }
 
 // Whether the node acts on a packet.
+#[tactic(auto, unfolding(crate::specs::One::does_act))]
 pub(crate) fn does_act(n: Node, near: bool, at: u8, to: Address) -> bool
     ensures { result ≡ does_act at to near n }
 {
@@ -51,6 +51,7 @@ pub(crate) fn does_act(n: Node, near: bool, at: u8, to: Address) -> bool
 }
 
 // Whether the node replies to a packet that is answered.
+#[tactic(auto, unfolding(crate::specs::One::does_reply))]
 pub(crate) fn does_reply(n: Node, near: bool, at: u8, to: Address) -> bool
     ensures { result ≡ does_reply at to near n }
 {

@@ -3,10 +3,7 @@ ghost use Rattle.std.specs.Prelude.{◌≡◌};
 ghost use Rattle.survey.specs.Sets.{join_of, first_of, without_first, members};
 ghost use Rattle.survey.specs.Chain.{search_of};
 
-// How many nodes a set has digits for. More than any chain has, so that as an index it is nobody's.
-pub const SET_WIDTH: usize = 32;
-
-// Who replies: nobody, the node of an index, or several.
+// Who replies: nobody, the node of an index, or several. The paper names this form: "a loop over nodes yielding by break none, one index or collision".
 #[derive(Clone, Copy)]
 pub enum Replier {
     None,
@@ -19,16 +16,19 @@ pub(crate) fn join(set: u32, weight: u32, joins: bool) -> u32
     ensures { result ≡ join_of set weight joins }
 {
     if joins {
-        return std::num::wrapping_add_u32(set, weight);
+        return set.wrapping_add(weight);
     }
     set
 }
 
-// The first node of the set; `SET_WIDTH` if it has none, which is past every chain, so that the walk over the lent table needs no second test.
-pub fn first(set: u32) -> usize
+// The first node of the set, if it has one.
+pub fn first(set: u32) -> Option<usize>
     ensures { result ≡ first_of set }
 {
-    u32::trailing_zeros(set) as usize
+    if set == 0 {
+        return None;
+    }
+    Some(set.trailing_zeros() as usize)
 }
 
 // The set without its first node.
@@ -38,11 +38,11 @@ pub fn without_first(set: u32) -> u32
     if set == 0 {
         return 0;
     }
-    set - (1u32 << u32::trailing_zeros(set))
+    set - (1 << set.trailing_zeros())
 }
 
 // The chain is searched in order, node 0 to n - 1, and left at the second replier; at the first, where nobody behind it replies.
-// Whether node i replies was seen before: it is bit i of `replying`.
+// Whether node i replies was seen before: it is bit i of `replying`. The paper names the loop with `break`, so it is no iterator's method.
 pub(crate) fn search(replying: u32, n: usize) -> Replier
     ensures { result ≡ search_of (members n replying) }
 {
@@ -66,7 +66,7 @@ pub(crate) fn search(replying: u32, n: usize) -> Replier
                 break found;
             }
         }
-        rest = rest / 2;
+        rest /= 2;
         i += 1;
     }
 }

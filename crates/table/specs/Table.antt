@@ -1,7 +1,8 @@
 -- The chain's table as its owner keeps it: "an array with a count", of which the first `count` nodes are the chain.
-use Rattle.std.specs.Prelude.{ℕ, ◌+◌, List, ◌++◌, take, drop}
+use Rattle.std.specs.Prelude.{ℕ, ◌+◌, List, ◌++◌, take, drop, Result}
 use Rattle.wire.specs.Promise.{Outcome}
 use Rattle.wire.specs.Numbers.{most_nodes}
+use Rattle.wire.specs.declared.refusal.Refusal.{Refusal}
 use Rattle.node.specs.declared.state.Node.{Node}
 use Rattle.survey.specs.declared.decision.Delivery.{Delivery}
 use Rattle.survey.specs.Delivery.{Lent, deliver_of, delivery_number}
@@ -21,7 +22,7 @@ abbrev pub with_nodes : Table → List Node → Table
 with_nodes t ns = record { nodes = ns ++ drop t.count t.nodes; count = t.count }
 
 -- the answer with its table, and what the reply buffer holds
-abbrev pub kept_by : Table → Outcome Delivery Lent → Outcome Delivered (List ℕ)
+abbrev pub kept_by : Table → Outcome (Result Delivery Refusal) Lent → Outcome Delivered (List ℕ)
 kept_by t o = record { answer = record { answer = o.answer; table = with_nodes t o.left.nodes }; left = o.left.reply }
 
 -- a packet to the chain that the table holds, sent at a divisor

@@ -6,7 +6,9 @@ use mathlib.Core.Path.{◌≡◌, ap, ◌∙◌}
 use native.Mathlib.Nat.{sub-zero}
 use lib.ListN.{take, drop}
 use borrow.Author.Tests.{not-true, not-false, lt-ltb, le-ltb}
+use Rattle.std.specs.Prelude.{Result, Ok}
 use Rattle.wire.specs.Promise.{Lending}
+use Rattle.wire.specs.declared.refusal.Refusal.{Refusal}
 use Rattle.fields.specs.declared.answer.Answer.{Answer}
 use Rattle.fields.specs.Answer.{fields_nothing, answer_put, answer_put_all, malformed_of}
 use Rattle.fields.specs.Field.{fields_byte}
@@ -21,10 +23,10 @@ use Rattle.table.specs.Table.{delivered_number, table_deliver}
 use Rattle.trychain.specs.Delivering.{reply_length, put_delivered, put_outcome, deliver_to, trychain_deliver}
 
 -- a reply whose length fits a byte, and one whose length does not
-pub reply_short : (d : Delivery) (n : ℕ) → d ≡ Replied n → n < 256 → n ≡ reply_length d
+pub reply_short : (d : Result Delivery Refusal) (n : ℕ) → d ≡ Ok (Replied n) → n < 256 → n ≡ reply_length d
 reply_short d n e h = rw (e, lt-ltb n 256 h)
 
-pub reply_long : (d : Delivery) (n : ℕ) → d ≡ Replied n → 256 ≤ n → 0 ≡ reply_length d
+pub reply_long : (d : Result Delivery Refusal) (n : ℕ) → d ≡ Ok (Replied n) → 256 ≤ n → 0 ≡ reply_length d
 reply_long d n e h = rw (e, le-ltb n 256 h)
 
 -- part by part

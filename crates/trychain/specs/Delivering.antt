@@ -1,23 +1,24 @@
 -- The line `20 room divisor n NODE*n packet..` of the program `trials`: "deliver a packet: `NN len buffer NODE*n`".
-use Rattle.std.specs.Prelude.{ℕ, cond, ◌&&◌, List, ltb, take, drop}
+use Rattle.std.specs.Prelude.{ℕ, cond, ◌&&◌, List, ltb, take, drop, Result, Ok, Err}
 use Rattle.wire.specs.Promise.{Outcome}
+use Rattle.wire.specs.declared.refusal.Refusal.{Refusal}
 use Rattle.fields.specs.declared.answer.Answer.{Answer}
 use Rattle.fields.specs.Answer.{fields_nothing, answer_put, answer_put_all, malformed_of}
 use Rattle.fields.specs.Field.{fields_byte}
 use Rattle.fields.specs.Lending.{most_room, filled_of, room_of, is_lending}
 use Rattle.layout.specs.Nodes.{are_nodes, nodes_length, read_nodes, put_nodes}
 use Rattle.survey.specs.declared.decision.Delivery.{Delivery}
-use Rattle.survey.specs.declared.decision.Delivery.TheVariants.{Silent, Replied, Collision, Refused}
+use Rattle.survey.specs.declared.decision.Delivery.TheVariants.{Silent, Replied, Collision}
 use Rattle.survey.specs.Delivery.{delivery_number}
 use Rattle.table.specs.declared.Delivered.{Delivered}
 use Rattle.table.specs.Table.{table_deliver}
 
 -- "len is the length of the reply, 00 for none, a collision or a refusal"
-abbrev pub reply_length : Delivery → ℕ
-reply_length Silent = 0
-reply_length (Replied n) = cond (ltb n 256) n 0
-reply_length Collision = 0
-reply_length (Refused why) = 0
+abbrev pub reply_length : Result Delivery Refusal → ℕ
+reply_length (Ok Silent) = 0
+reply_length (Ok (Replied n)) = cond (ltb n 256) n 0
+reply_length (Ok Collision) = 0
+reply_length (Err why) = 0
 
 -- "NN len buffer NODE*n"
 unfoldable pub put_delivered : Delivered → List ℕ → ℕ → Answer

@@ -13,16 +13,15 @@ use fields::{Answer, MOST_ROOM, byte, filled, is_lending, malformed, nothing, ro
 use layout::{are_nodes, nodes_length, put_nodes, read_nodes};
 use table::{Delivered, Table};
 use text::rest;
+use wire::Refusal;
 
 // The length of the reply: 0 for none, a collision or a refusal.
-fn reply_length(d: Delivery) -> u8
-    ensures { result ≡ reply_length d }
+fn reply_length(answer: Result<Delivery, Refusal>) -> u8
+    ensures { result ≡ reply_length answer }
 {
-    match d {
-        Delivery::Silent => 0,
-        Delivery::Replied(n) => { if n < 256 { n as u8 } else { 0 } }
-        Delivery::Collision => 0,
-        Delivery::Refused(_) => 0,
+    match answer {
+        Ok(Delivery::Replied(n)) if n < 256 => n as u8,
+        _ => 0,
     }
 }
 
@@ -33,7 +32,7 @@ fn put_delivered(d: Delivered, lent: &[u8], count: usize) -> Answer
     let answer = d.answer;
     let table = d.table;
     let a = nothing()
-        .put(answer.number())
+        .put(Delivery::number(answer))
         .put(reply_length(answer))
         .put_all(lent);
     let nodes = table.nodes;

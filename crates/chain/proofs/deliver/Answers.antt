@@ -4,4 +4,4 @@ use Rattle.chain.proofs.deliver.Goals as goal
 
 pub returns : goal.returns
 returns c =
-    rw c.answer_of.ensures (joined c.args.table.now c.args.at c.args.packet.now c.args.reply.now _ _ _ _ _ c.receive-incoming.ensures c.survey_all-surveyed.ensures c.decide-decided.ensures c.act_all.ensures)
+    joined c.args.table.now c.args.at c.args.packet.now c.args.reply.now _ _ _ _ _ c.receive-incoming.ensures c.survey_all.ensures c.decide-decided.ensures c.act_all.ensures

@@ -1,9 +1,6 @@
--- The records that the count counts are lent, and the count is handed back.
-use Rattle.table.proofs.Owner.{least_small, long, recounted}
+-- The records that the count counts are lent, and the count stays.
+use Rattle.table.proofs.Owner.{owned}
 use Rattle.table.proofs.deliver.Goals as goal
 
-pub lend-lent-requires : goal.lend-lent-requires
-lend-lent-requires c = search least_small
-
 pub returns : goal.returns
-returns c = search (recounted, long)
+returns c = owned c.args.t c.min-n.result c.args.at c.args.packet.now c.args.reply.now _ _ _ c.well_formed.0.1.1.0.1.0.1 c.min-n.ensures c.deliver-answer.ensures

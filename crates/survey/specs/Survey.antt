@@ -23,7 +23,7 @@ use Rattle.survey.specs.Sets.{set_width, join_of, members}
 
 -- a packet as it comes in, at a divisor, or why it is refused
 abbrev pub receive_by : ℕ → Result Framed Refusal → List ℕ → Result Incoming Refusal
-receive_by at (Ok g) p = Ok (record { g.address = g.address; at = at; messages = messages_as g.address g.command p })
+receive_by at (Ok g) p = Ok (record { to = g.address; at = at; messages = messages_as g.address g.command p })
 receive_by at (Err why) p = Err why
 
 unfoldable pub receive_of : ℕ → List ℕ → Result Incoming Refusal

@@ -9,7 +9,6 @@ use lib.Dec.{ltb}
 use lib.ListN.{length, take, drop, replicate, length-append, length-take}
 use lib.Seq.{take_at}
 use borrow.Author.Tests.{lt-ltb, le-ltb}
-use Rattle.std.specs.Prelude.{Result, Ok, Err}
 use Rattle.wire.specs.Promise.{Lending}
 use Rattle.wire.specs.Numbers.{number_of, number_by}
 use Rattle.buffer.specs.Buffer.{at_start, written}
@@ -22,9 +21,7 @@ use Rattle.text.specs.Lines.{newline}
 use Rattle.text.specs.Digits.{decimal_of}
 use Rattle.hexadecimal.specs.Hex.{hex_line}
 use Rattle.hexadecimal.proofs.Puts.{length_line}
-use Rattle.survey.specs.declared.decision.Delivery.{Delivery}
-use Rattle.survey.specs.declared.decision.Delivery.TheVariants.{Silent, Replied, Collision}
-use Rattle.script.specs.Answers.{silent_line, collision_line, refused_word, number_end, refused_line, answer_line}
+use Rattle.script.specs.Answers.{refused_word, number_end, refused_line}
 use Rattle.buffer.specs.Wrote.{Wrote}
 use Rattle.script.specs.Line.{far, WroteLine}
 use Rattle.buffer.proofs.Appends.{wrote_then}

@@ -6,8 +6,8 @@ use Rattle.script.proofs.answers.put_hex_line.Goals as goal
 pub append-requires : goal.append-requires
 append-requires c = (omega arith, search reply_room)
 
-pub returns-in-Bytes : goal.returns-in-Bytes
-returns-in-Bytes c = search reply_done
+pub returns-in-Ok : goal.returns-in-Ok
+returns-in-Ok c = search reply_done
 
-pub returns-in-Refused : goal.returns-in-Refused
-returns-in-Refused c = search reply_refused
+pub returns-in-Err : goal.returns-in-Err
+returns-in-Err c = search reply_refused

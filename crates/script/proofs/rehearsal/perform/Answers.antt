@@ -8,8 +8,8 @@ returns-then-input-gt-MOST c = search bench_long
 pub run_with-requires : goal.run_with-requires
 run_with-requires c = search rest_short
 
-pub returns-in-Value : goal.returns-in-Value
-returns-in-Value c = search bench_runs
+pub returns-in-Some : goal.returns-in-Some
+returns-in-Some c = search bench_runs
 
-pub returns-in-Malformed : goal.returns-in-Malformed
-returns-in-Malformed c = search bench_wrong
+pub returns-in-None : goal.returns-in-None
+returns-in-None c = search bench_wrong

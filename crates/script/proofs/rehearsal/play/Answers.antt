@@ -2,8 +2,8 @@
 use Rattle.script.proofs.Playing.{play_good, play_bad}
 use Rattle.script.proofs.rehearsal.play.Goals as goal
 
-pub returns-in-Bytes : goal.returns-in-Bytes
-returns-in-Bytes c = search play_good
+pub returns-in-Some : goal.returns-in-Some
+returns-in-Some c = search play_good
 
-pub returns-in-Malformed : goal.returns-in-Malformed
-returns-in-Malformed c = search play_bad
+pub returns-in-None : goal.returns-in-None
+returns-in-None c = search play_bad

@@ -9,34 +9,27 @@ use session::Session;
 use std::io;
 use wire::{Address, Group, Individual, Refusal};
 
-fn show(
-    rt: &impl Print,
-    what: &[u8],
+// What is tried, and its two arguments.
+#[derive(Clone, Copy)]
+struct Case<'a> {
+    what: &'a str,
     a: u8,
     b: u8,
+}
+
+fn show(
+    rt: &impl Print,
+    case: Case<'_>,
     number: u8,
     length: usize,
     lent: &[u8; 5],
 ) -> io::Result<()> {
-    let mut line = [0; 27];
-    hexadecimal::write_line(
-        &[
-            a,
-            b,
-            number,
-            (length % 256) as u8,
-            lent[0],
-            lent[1],
-            lent[2],
-            lent[3],
-            lent[4],
-        ],
-        &mut line,
-    );
-    // Between the arguments and the answer.
-    line[5] = b':';
-    rt.write_all(what)?;
-    rt.write_all(&line)
+    let Case { what, a, b } = case;
+    print!(rt; "{what} {a:02X} {b:02X}:{number:02X} {length:02X}")?;
+    for byte in lent {
+        print!(rt; " {byte:02X}")?;
+    }
+    rt.println("")
 }
 
 // A session made by hand: it counts as closed if n is above 31 or the walk past n.
@@ -64,20 +57,10 @@ fn set_address(number: u8, group: u8) -> Command {
     })
 }
 
-// How many bytes were built.
-fn length(b: Result<usize, Refusal>) -> usize {
-    match b {
-        Ok(n) => n,
-        Err(_) => 0,
-    }
-}
-
 // A command of a session of two nodes, which no other call sends.
 fn order(
     rt: &impl Print,
-    what: &[u8],
-    a: u8,
-    b: u8,
+    case: Case<'_>,
     walk: u8,
     at: u8,
     to: Address,
@@ -85,22 +68,22 @@ fn order(
 ) -> io::Result<()> {
     let mut lent = [0x55; 5];
     let step = host::order(session(2, walk), at, to, c, &mut lent);
-    let end = step.end;
-    let sent = match end {
-        Ok(None) => 0,
+    let sent = match step.end {
         Ok(Some(n)) => n,
-        Err(_) => 0,
+        _ => 0,
     };
-    show(rt, what, a, b, end.number(), sent, &lent)
+    show(rt, case, wire::number(step.end), sent, &lent)
 }
 
 // A Set Address to a node.
 fn order_place(rt: &impl Print, walk: u8, node: u8) -> io::Result<()> {
     order(
         rt,
-        b"order Set Address, walk and node ",
-        walk,
-        node,
+        Case {
+            what: "order Set Address, walk and node",
+            a: walk,
+            b: node,
+        },
         walk,
         Node::DIVISOR,
         address(0, node),
@@ -112,9 +95,11 @@ fn order_place(rt: &impl Print, walk: u8, node: u8) -> io::Result<()> {
 fn order_baud_rate(rt: &impl Print, walk: u8, to: u8) -> io::Result<()> {
     order(
         rt,
-        b"order Set Baud Rate, walk and address ",
-        walk,
-        to,
+        Case {
+            what: "order Set Baud Rate, walk and address",
+            a: walk,
+            b: to,
+        },
         walk,
         Node::DIVISOR,
         address(to / 0x80, to),
@@ -126,9 +111,11 @@ fn order_baud_rate(rt: &impl Print, walk: u8, to: u8) -> io::Result<()> {
 fn order_baud_rate_at(rt: &impl Print, at: u8, divisor: u8) -> io::Result<()> {
     order(
         rt,
-        b"order Set Baud Rate, divisor and data ",
-        at,
-        divisor,
+        Case {
+            what: "order Set Baud Rate, divisor and data",
+            a: at,
+            b: divisor,
+        },
         2,
         at,
         address(1, 0xFF),
@@ -137,19 +124,21 @@ fn order_baud_rate_at(rt: &impl Print, at: u8, divisor: u8) -> io::Result<()> {
 }
 
 // A command's packet.
-fn build(rt: &impl Print, what: &[u8], a: u8, b: u8, to: Address, c: Command) -> io::Result<()> {
+fn build(rt: &impl Print, case: Case<'_>, to: Address, c: Command) -> io::Result<()> {
     let mut lent = [0x55; 5];
     let answer = codec::build(to, c, &mut lent);
-    show(rt, what, a, b, answer.number(), length(answer), &lent)
+    show(rt, case, wire::number(answer), answer.unwrap_or(0), &lent)
 }
 
 // A Nop to an address of kind 0, individual, or 1, group.
 fn build_nop(rt: &impl Print, kind: u8, number: u8) -> io::Result<()> {
     build(
         rt,
-        b"build Nop, kind and address ",
-        kind,
-        number,
+        Case {
+            what: "build Nop, kind and address",
+            a: kind,
+            b: number,
+        },
         address(kind, number),
         Command::Nop,
     )
@@ -159,9 +148,11 @@ fn build_nop(rt: &impl Print, kind: u8, number: u8) -> io::Result<()> {
 fn build_place(rt: &impl Print, number: u8, group: u8) -> io::Result<()> {
     build(
         rt,
-        b"build Set Address, address and group ",
-        number,
-        group,
+        Case {
+            what: "build Set Address, address and group",
+            a: number,
+            b: group,
+        },
         address(0, 1),
         set_address(number, group),
     )
@@ -171,9 +162,11 @@ fn build_place(rt: &impl Print, number: u8, group: u8) -> io::Result<()> {
 fn build_baud_rate(rt: &impl Print, kind: u8, number: u8) -> io::Result<()> {
     build(
         rt,
-        b"build Set Baud Rate, kind and address ",
-        kind,
-        number,
+        Case {
+            what: "build Set Baud Rate, kind and address",
+            a: kind,
+            b: number,
+        },
         address(kind, number),
         Command::SetBaudRate(0x0A),
     )
@@ -190,9 +183,11 @@ fn build_load(rt: &impl Print, control: u8, velocity: u8) -> io::Result<()> {
     });
     build(
         rt,
-        b"build Load Trajectory, control byte and velocity ",
-        control,
-        velocity,
+        Case {
+            what: "build Load Trajectory, control byte and velocity",
+            a: control,
+            b: velocity,
+        },
         address(0, 1),
         load,
     )
@@ -206,9 +201,11 @@ fn build_stop(rt: &impl Print, stop: u8, position: u8) -> io::Result<()> {
     });
     build(
         rt,
-        b"build Stop Motor, stop byte and position ",
-        stop,
-        position,
+        Case {
+            what: "build Stop Motor, stop byte and position",
+            a: stop,
+            b: position,
+        },
         address(0, 1),
         stopped,
     )
@@ -218,19 +215,17 @@ fn build_stop(rt: &impl Print, stop: u8, position: u8) -> io::Result<()> {
 fn read(rt: &impl Print, from: u8, count: u8) -> io::Result<()> {
     let mut lent = [0x55; 5];
     let line = text::rest(b"01 02 03 04 05 06 07 0", from as usize);
-    let mut number = wire::DONE;
-    let mut bytes = 0;
-    match hexadecimal::read_bytes(text::first(line, count as usize), &mut lent) {
-        Some(n) => bytes = n,
-        None => number = Refusal::Range.number(),
-    }
+    let found = hexadecimal::read_bytes(text::first(line, count as usize), &mut lent);
+    let answer = found.ok_or(Refusal::Range);
     show(
         rt,
-        b"read a line, from and characters ",
-        from,
-        count,
-        number,
-        bytes,
+        Case {
+            what: "read a line, from and characters",
+            a: from,
+            b: count,
+        },
+        wire::number(answer),
+        answer.unwrap_or(0),
         &lent,
     )
 }
@@ -240,10 +235,12 @@ fn look(rt: &impl Print, n: u8, node: u8) -> io::Result<()> {
     let shown = session::look(session(n, 0), Individual(node));
     show(
         rt,
-        b"look, n and node ",
-        n,
-        node,
-        shown.number(),
+        Case {
+            what: "look, n and node",
+            a: n,
+            b: node,
+        },
+        wire::number(shown),
         0,
         &[0x55; 5],
     )

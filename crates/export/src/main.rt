@@ -28,37 +28,24 @@ fn first_fault(packets: &[u8]) -> usize {
     let mut at = 0;
     let mut passed = 0;
     while at < packets.len() {
-        match packet::read(text::rest(packets, at)) {
-            Err(_) => {
-                return passed + 1;
-            }
-            whole {
-                address: _,
-                command: _,
-                end,
-            } => {
-                passed += 1;
-                at += end;
-            }
-        }
+        let Ok(framed) = packet::read(text::rest(packets, at)) else {
+            return passed + 1;
+        };
+        passed += 1;
+        at += framed.end;
     }
     passed + 1
-}
-
-fn say(rt: &impl Eprint, words: &str) -> io::Result<()> {
-    rt.eprint(words)
 }
 
 // The refusal has no packet's number with it: it is looked for here.
 fn say_fault(rt: &impl Eprint, packets: &[u8], why: Refusal) -> io::Result<()> {
     let number = first_fault(packets);
-    eprint!(rt; "packet {number}")?;
     match why {
-        Refusal::Short => say(rt, ": cut short\n"),
-        Refusal::Header => say(rt, ": no header\n"),
-        Refusal::Sum => say(rt, ": wrong sum\n"),
+        Refusal::Short => eprintln!(rt; "packet {number}: cut short"),
+        Refusal::Header => eprintln!(rt; "packet {number}: no header"),
+        Refusal::Sum => eprintln!(rt; "packet {number}: wrong sum"),
         // It never comes to this: export has no other refusal but 5, and the sheet has room.
-        _ => say(rt, "\n"),
+        _ => eprintln!(rt; "packet {number}"),
     }
 }
 
@@ -67,7 +54,7 @@ fn main(rt: HostRuntime) -> io::Result<()> {
     let mut sheet = sheet_room();
     let n = reading::read_full(&mut rt.stdin(), &mut input)?;
     if MOST_PACKETS < n {
-        return say(&rt, "more than 64 KiB of packets\n");
+        return rt.eprintln("more than 64 KiB of packets");
     }
     let packets = &input[..n];
     match sheet::export(packets, &mut sheet) {

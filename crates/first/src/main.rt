@@ -15,10 +15,9 @@ fn print(rt: &impl Print, s: Session, node: u8) -> io::Result<()> {
     if let Ok(entry) = session::look(s, Individual(node)) {
         let known = if entry.known.gate.outputs { 1 } else { 0 };
         let outputs = entry.settings.gate.outputs;
-        let low = (outputs % 256) as u8;
-        let high = (outputs / 256) as u8;
+        let [low, high] = outputs.to_le_bytes();
         let mut line = [0; 12];
-        hexadecimal::write_line(&[node, known, low, high], &mut line);
+        let _ = hexadecimal::write_line(&[node, known, low, high], &mut line);
         rt.write_all(b"node, known, outputs: ")?;
         rt.write_all(&line)?;
     }

@@ -3,7 +3,7 @@
 
 ghost use Rattle.std.specs.Prelude.{◌≡◌, length};
 
-use sheet::Imported;
+use sheet::ImportError;
 use std::io;
 
 // Room for the longest sheet, and one byte more, which tells that it is longer.
@@ -20,22 +20,14 @@ fn packets_room() -> [u8; sheet::MOST]
     [0; sheet::MOST]
 }
 
-fn say(rt: &impl Eprint, words: &str) -> io::Result<()> {
-    rt.eprint(words)
-}
-
-fn say_fault(rt: &impl Eprint, line: usize) -> io::Result<()> {
-    eprintln!(rt; "line {line}: not a HEX line")
-}
-
 fn main(rt: HostRuntime) -> io::Result<()> {
     let mut input = sheet_room();
     let mut packets = packets_room();
     let n = reading::read_full(&mut rt.stdin(), &mut input)?;
     match sheet::import(&input[..n], &mut packets) {
-        Imported::Bytes(m) => rt.write_all(text::first(&packets, m)),
-        Imported::Fault(line) => say_fault(&rt, line),
+        Ok(m) => rt.write_all(text::first(&packets, m)),
+        Err(ImportError::Line(line)) => eprintln!(rt; "line {line}: not a HEX line"),
         // 6. It never comes to 5: the packets have room.
-        Imported::Refused(_) => say(&rt, "the sheet is longer than 64 KiB\n"),
+        Err(ImportError::Refused(_)) => rt.eprintln("the sheet is longer than 64 KiB"),
     }
 }

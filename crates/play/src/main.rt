@@ -4,7 +4,7 @@
 
 ghost use Rattle.std.specs.Prelude.{◌≡◌, ◌≤◌, ◌<◌, length};
 
-use sheet::Imported;
+use sheet::ImportError;
 use std::io;
 use wire::MOST_NODES;
 
@@ -42,14 +42,6 @@ fn output_room() -> [u8; 655360]
     [0; 655360]
 }
 
-fn say(rt: &impl Eprint, words: &str) -> io::Result<()> {
-    rt.eprint(words)
-}
-
-fn say_fault(rt: &impl Eprint, line: usize) -> io::Result<()> {
-    eprintln!(rt; "line {line}: not a HEX line")
-}
-
 // Whether a line is a node count as the bench takes it.
 fn is_count(line: &[u8]) -> bool {
     match text::read_decimal(line) {
@@ -73,13 +65,13 @@ fn put_next(script: &mut [u8], count: &[u8], packets: &[u8], at: usize) -> usize
 {
     let tail = text::rest(packets, at);
     match packet::frame(tail) {
-        whole {
-            address: _,
-            command: _,
-            end,
-        } => {
-            put_line(script, count.len() + 3 * at, text::first(tail, end));
-            at + end
+        Ok(framed) => {
+            put_line(
+                script,
+                count.len() + 3 * at,
+                text::first(tail, framed.end),
+            );
+            at + framed.end
         }
         // It never comes to this: what was imported are packets.
         Err(_) => packets.len(),
@@ -101,7 +93,7 @@ fn put_script(script: &mut [u8], count: &[u8], packets: &[u8]) -> usize
 // Rehearses packets, with the count's line.
 fn rehearse(rt: &(impl Print + Eprint), count: &[u8], packets: &[u8]) -> io::Result<()> {
     if MOST_BYTES < packets.len() {
-        return say(rt, "more than 64 KiB in the bench's form\n");
+        return rt.eprintln("more than 64 KiB in the bench's form");
     }
     let mut script = script_room();
     let mut output = output_room();
@@ -117,10 +109,10 @@ fn rehearse(rt: &(impl Print + Eprint), count: &[u8], packets: &[u8]) -> io::Res
 fn play(rt: &(impl Print + Eprint), count: &[u8], sheet: &[u8]) -> io::Result<()> {
     let mut packets = packets_room();
     match sheet::import(sheet, &mut packets) {
-        Imported::Bytes(n) => rehearse(rt, count, text::first(&packets, n)),
-        Imported::Fault(line) => say_fault(rt, line),
+        Ok(n) => rehearse(rt, count, text::first(&packets, n)),
+        Err(ImportError::Line(line)) => eprintln!(rt; "line {line}: not a HEX line"),
         // 6. It never comes to 5: the packets have room.
-        Imported::Refused(_) => say(rt, "the sheet is longer than 64 KiB\n"),
+        Err(ImportError::Refused(_)) => rt.eprintln("the sheet is longer than 64 KiB"),
     }
 }
 
@@ -133,6 +125,6 @@ fn main(rt: HostRuntime) -> io::Result<()> {
         let end = line.len() + 1;
         play(&rt, text::first(input, end), text::rest(input, end))
     } else {
-        say(&rt, "the first line is not a node count, 1 to 31\n")
+        rt.eprintln("the first line is not a node count, 1 to 31")
     }
 }

@@ -99,7 +99,7 @@ fn decide_one(speaker: Node, plan: Plan, reply: &mut [u8]) -> Decided
 {
     match reply::reply(speaker, plan.messages.to(speaker.kind), reply) {
         Ok(n) => decide_answer(Delivery::Replied(n), plan),
-        Err(why) => decide_refusal(why),
+        Err(no_room) => decide_refusal(no_room),
     }
 }
 

@@ -1,31 +1,29 @@
--- One law for each exit of `check`, and what a good recording is.
-use Prim.Native.Nat.{ℕ}
-use mathlib.Core.Path.{◌≡◌, sym, ◌∙◌}
-use mathlib.Core.Bool.{Bool, true, false}
+-- One law for each exit of `check`.
+use mathlib.Core.Path.{◌≡◌, refl}
+use mathlib.Core.Bool.{Bool, true, false, cond, ◌&&◌}
 use mathlib.Core.List.{List}
-use lib.ListN.{length}
-use borrow.Author.Tests.{eq-eqb, ne_eqb}
-use Rattle.capture.specs.Checks.{is_rising, is_even, check_of}
+use Prim.Native.Nat.{ℕ}
+use Rattle.std.specs.Prelude.{Ok, Err}
 use Rattle.wire.specs.declared.refusal.Refusal.TheVariants.{Uneven, Backward}
-use Rattle.capture.specs.declared.Checked.TheVariants.{Good, Refused}
+use Rattle.capture.specs.Checks.{is_rising, is_even, check_of}
 
-module _ (cs cts rs rts : List ℕ) where
-  pub uneven_command : (length cs ≡ length cts → ⊥) → Refused Uneven ≡ check_of cs cts rs rts
-  unfolding check_of is_even
-  uneven_command h = rw (ne_eqb _ _ h)
+-- the checks of both captures at once
+both_at_once : {A : Type 0} (a b c d : Bool) (x y z : A) → cond a (cond b (cond c (cond d x y) y) z) z ≡ cond (a && b) (cond (c && d) x y) z
+both_at_once true true true d x y z = refl
+both_at_once true true false d x y z = refl
+both_at_once true false c d x y z = refl
+both_at_once false b c d x y z = refl
 
-  pub uneven_reply : length cs ≡ length cts → (length rs ≡ length rts → ⊥) → Refused Uneven ≡ check_of cs cts rs rts
-  unfolding check_of is_even
-  uneven_reply e h = rw (eq-eqb _ _ e, ne_eqb _ _ h)
+module _ (cs cts rs rts : List ℕ) (a b : Bool) (e : a ≡ is_even cs cts) (f : b ≡ is_even rs rts) where
+  pub uneven : (a && b) ≡ false → Err Uneven ≡ check_of cs cts rs rts
+  unfolding check_of
+  uneven h = rw (both_at_once (is_even cs cts), ← e, ← f, h)
 
-  pub good : (a b : Bool) → length cs ≡ length cts → length rs ≡ length rts → a ≡ is_rising cts → a ≡ true → b ≡ is_rising rts → b ≡ true → Good ≡ check_of cs cts rs rts
-  unfolding check_of is_even
-  good a b d e f g h i = rw (eq-eqb _ _ d, eq-eqb _ _ e, sym f ∙ g, sym h ∙ i)
+  module _ (c d : Bool) (i : c ≡ is_rising cts) (j : d ≡ is_rising rts) (h : (a && b) ≡ true) where
+    pub backward : (c && d) ≡ false → Err Backward ≡ check_of cs cts rs rts
+    unfolding check_of
+    backward k = rw (both_at_once (is_even cs cts), ← e, ← f, ← i, ← j, h, k)
 
-  pub backward_reply : (a b : Bool) → length cs ≡ length cts → length rs ≡ length rts → a ≡ is_rising cts → a ≡ true → b ≡ is_rising rts → b ≡ false → Refused Backward ≡ check_of cs cts rs rts
-  unfolding check_of is_even
-  backward_reply a b d e f g h i = rw (eq-eqb _ _ d, eq-eqb _ _ e, sym f ∙ g, sym h ∙ i)
-
-  pub backward_command : (a : Bool) → length cs ≡ length cts → length rs ≡ length rts → a ≡ is_rising cts → a ≡ false → Refused Backward ≡ check_of cs cts rs rts
-  unfolding check_of is_even
-  backward_command a d e f g = rw (eq-eqb _ _ d, eq-eqb _ _ e, sym f ∙ g)
+    pub good : (c && d) ≡ true → Ok tt ≡ check_of cs cts rs rts
+    unfolding check_of
+    good k = rw (both_at_once (is_even cs cts), ← e, ← f, ← i, ← j, h, k)

@@ -7,11 +7,11 @@ use mathlib.Core.Path.{◌≡◌, refl, ap}
 use lib.ListN.{length, length-append}
 use borrow.Author.Tests.{le-leb, lt-leb, le-ltb, eq-eqb}
 use Rattle.capture.specs.Packets.{is_gap, Packet, onto, packets}
-use Rattle.capture.specs.Checks.{rises_from, is_rising, is_even, check_of}
+use Rattle.capture.specs.Checks.{rises_from, is_rising, check_of}
 use Rattle.capture.specs.Steps.{sent, got, merge, outset, left_at}
 use Rattle.capture.specs.Traces.{Traced, commanded, replied, traced_of}
 use Rattle.capture.specs.Laying.{OnFirst, Close, Laid, nothing, command, reply, Laying, NoneEmpty}
-use Rattle.capture.specs.declared.Checked.TheVariants.{Good}
+use Rattle.std.specs.Prelude.{Ok}
 
 -- ---- the packets
 
@@ -105,8 +105,8 @@ any_first : (ts : List ℕ) → OnFirst (λ u. 0 ≤ u) ts
 any_first [] = tt
 any_first (t ∷ ts) = omega arith
 
-pub laid_good : {xs : List Traced} {cs cts rs rts : List ℕ} → Laid xs cs cts rs rts → check_of cs cts rs rts ≡ Good
-unfolding check_of is_even is_rising
+pub laid_good : {xs : List Traced} {cs cts rs rts : List ℕ} → Laid xs cs cts rs rts → check_of cs cts rs rts ≡ Ok tt
+unfolding check_of is_rising
 laid_good {cs = cs} {cts = cts} {rs = rs} {rts = rts} l =
     let s = laid_sound l in
     rw (eq-eqb _ _ s.commands.even, eq-eqb _ _ s.replies.even, s.commands.rises 0 (any_first cts), s.replies.rises 0 (any_first rts))

@@ -8,9 +8,9 @@ use lib.ListN.{length, get_or}
 use lib.Dec.{T, ltb}
 use borrow.Author.Tests.{ltb-false, le-ltb, eqb-true}
 use Rattle.capture.specs.Checks.{rises_from, is_rising, is_even, check_of}
-use Rattle.capture.specs.declared.Checked.{Checked}
+use Rattle.std.specs.Prelude.{Result, Ok, Err}
+use Rattle.wire.specs.declared.refusal.Refusal.{Refusal}
 use Rattle.wire.specs.declared.refusal.Refusal.TheVariants.{Uneven, Backward}
-use Rattle.capture.specs.declared.Checked.TheVariants.{Good, Refused}
 
 -- "a time is less than the one before" nowhere
 abbrev pub Ordered : List ℕ → Type 0
@@ -50,19 +50,19 @@ pub record Sound (cs cts rs rts : List ℕ) : Type 0 where
   pub command_order : Ordered cts
   pub reply_order : Ordered rts
 
-abbrev IsGood : Checked → Type 0
-IsGood Good = Unit
-IsGood (Refused why) = ⊥
+abbrev IsGood : Result (Unit {0}) Refusal → Type 0
+IsGood (Ok u) = Unit
+IsGood (Err why) = ⊥
 
-peel : (a b c d : Bool) → IsGood (cond a (cond b (cond c (cond d Good (Refused Backward)) (Refused Backward)) (Refused Uneven)) (Refused Uneven)) → (a ≡ true) × (b ≡ true) × (c ≡ true) × (d ≡ true)
+peel : (a b c d : Bool) → IsGood (cond a (cond b (cond c (cond d (Ok tt) (Err Backward)) (Err Backward)) (Err Uneven)) (Err Uneven)) → (a ≡ true) × (b ≡ true) × (c ≡ true) × (d ≡ true)
 peel true true true true h = (refl, refl, refl, refl)
 peel true true true false h = absurd h
 peel true true false d h = absurd h
 peel true false c d h = absurd h
 peel false b c d h = absurd h
 
-pub good_sound : (cs cts rs rts : List ℕ) → check_of cs cts rs rts ≡ Good → Sound cs cts rs rts
-unfolding check_of is_even
+pub good_sound : (cs cts rs rts : List ℕ) → check_of cs cts rs rts ≡ Ok tt → Sound cs cts rs rts
+unfolding check_of
 good_sound cs cts rs rts e =
     let p = peel (is_even cs cts) (is_even rs rts) (is_rising cts) (is_rising rts) (subst IsGood (sym e) tt) in
     record {

@@ -2,13 +2,9 @@
 use mathlib.Core.Path.{sym, ◌∙◌}
 use Rattle.wire.proofs.OneResult.{OneResult}
 use Rattle.wire.proofs.Parts.{OnePart, one_part_lem}
-use Rattle.capture.proofs.Checked.number.Reads as number
 use Rattle.capture.proofs.check.Reads as check
 use Rattle.capture.proofs.step.Reads as step
 use Rattle.capture.proofs.packet_at.Reads as packet-at
-
-pub checked_number_unique : OneResult number.Post
-checked_number_unique κs a r r' s s' p q = p ∙ sym q
 
 pub check_unique : OneResult check.Post
 check_unique κs a r r' s s' p q = p.answer ∙ sym q.answer

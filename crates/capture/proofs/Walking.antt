@@ -12,9 +12,9 @@ use Rattle.capture.specs.Packets.{is_gap, Packet, packets, run_on, first_count, 
 use Rattle.capture.specs.Steps.{earlier, by_line, due_of, capture_step, Recorded, sent, got, replies, merge, left_at, packet_from, recorded_by, sent_bytes, got_bytes}
 use Rattle.capture.specs.declared.Cursor.{Cursor}
 use Rattle.capture.specs.declared.Line.{Line}
-use Rattle.capture.specs.declared.Line.TheVariants.{Command, Reply, Neither}
+use Rattle.capture.specs.declared.Line.TheVariants.{Command, Reply}
 use Rattle.capture.specs.declared.Stepped.{Stepped}
-use Rattle.capture.specs.declared.Stepped.TheVariants.{FromCommand, FromReply, End}
+use Rattle.std.specs.Prelude.{Option, Some, None}
 use Rattle.capture.proofs.Listing.{first_packet, joined_packets}
 
 -- the first packet of lists, and the packets of the rest
@@ -24,7 +24,7 @@ front ts bs = record { start = get_or ts 0 0; bytes = take (first_count ts) bs }
 abbrev rest : List ℕ → List ℕ → List Packet
 rest ts bs = packets (drop (first_count ts) ts) (drop (first_count ts) bs)
 
-by_test : {A : Type 0} (g : Bool) (a b n : A) → cond g a b ≡ by_line (cond g Command Reply) a b n
+by_test : {A : Type 0} (g : Bool) (a b n : A) → cond g a b ≡ by_line (cond g (Some Command) (Some Reply)) a b n
 by_test true a b n = refl
 by_test false a b n = refl
 
@@ -59,10 +59,10 @@ rest_at : (i : ℕ) (ts bs : List ℕ) → rest (drop i ts) (drop i bs) ≡ pack
 unfolding packet_end
 rest_at i ts bs = rw (drop-drop _ _ ts, drop-drop _ _ bs)
 
-by_step : {A : Type 0} (f : Stepped → A) (l : Line) (x y z : Stepped) → by_line l (f x) (f y) (f z) ≡ f (by_line l x y z)
-by_step f Command x y z = refl
-by_step f Reply x y z = refl
-by_step f Neither x y z = refl
+by_step : {A : Type 0} (f : Option Stepped → A) (l : Option Line) (x y z : Option Stepped) → by_line l (f x) (f y) (f z) ≡ f (by_line l x y z)
+by_step f (Some Command) x y z = refl
+by_step f (Some Reply) x y z = refl
+by_step f None x y z = refl
 
 -- what is left is what the step shows, then what is left behind it
 pub step_shows : (cs cts rs rts : List ℕ) (at : Cursor) → length cts ≡ length cs → length rts ≡ length rs
@@ -71,7 +71,7 @@ unfolding left_at due_of capture_step
 step_shows cs cts rs rts at h k =
     merge_head (drop at.command cts) (drop at.command cs) (drop at.reply rts) (drop at.reply rs) (same_drop at.command cts cs h) (same_drop at.reply rts rs k)
     ∙ (rw (front_at at.command cts cs, front_at at.reply rts rs, rest_at at.command cts cs, rest_at at.reply rts rs))
-    ∙ by_step (recorded_by cs cts rs rts at) (due_of cts rts at) (FromCommand (record { command = packet_end cts at.command; reply = at.reply })) (FromReply (record { command = at.command; reply = packet_end rts at.reply })) End
+    ∙ by_step (recorded_by cs cts rs rts at) (due_of cts rts at) (Some (record { line = Command; behind = record { command = packet_end cts at.command; reply = at.reply } })) (Some (record { line = Reply; behind = record { command = at.command; reply = packet_end rts at.reply } })) None
 
 -- ---- each line's bytes come in full and in order, whatever the times
 sent_none : (qs : List Packet) → sent_bytes (replies qs) ≡ []
@@ -140,12 +140,12 @@ end_moves ts i h =
     }
 
 -- the line that is due has a byte left
-abbrev Has : List ℕ → List ℕ → Line → Type 0
-Has ts us Command = 0 < length ts
-Has ts us Reply = 0 < length us
-Has ts us Neither = (length ts ≡ 0) × (length us ≡ 0)
+abbrev Has : List ℕ → List ℕ → Option Line → Type 0
+Has ts us (Some Command) = 0 < length ts
+Has ts us (Some Reply) = 0 < length us
+Has ts us None = (length ts ≡ 0) × (length us ≡ 0)
 
-has_test : (g : Bool) (ts us : List ℕ) → 0 < length ts → 0 < length us → Has ts us (cond g Command Reply)
+has_test : (g : Bool) (ts us : List ℕ) → 0 < length ts → 0 < length us → Has ts us (cond g (Some Command) (Some Reply))
 has_test true ts us h k = h
 has_test false ts us h k = k
 
@@ -156,42 +156,48 @@ has_next (t ∷ ts) [] = omega arith
 has_next (t ∷ ts) (u ∷ us) = has_test (leb t u) (t ∷ ts) (u ∷ us) (omega arith) (omega arith)
 
 -- a step passes at least one byte of its line, no more than there are, and none of the other; with no step both captures are shown in full
-abbrev pub Progress : List ℕ → List ℕ → Cursor → Stepped → Type 0
-Progress cts rts at (FromCommand next) = (at.command < next.command) × (next.command ≤ length cts) × (next.reply ≡ at.reply)
-Progress cts rts at (FromReply next) = (at.reply < next.reply) × (next.reply ≤ length rts) × (next.command ≡ at.command)
-Progress cts rts at End = (length cts ≤ at.command) × (length rts ≤ at.reply)
+abbrev MovesOn : List ℕ → List ℕ → Cursor → Line → Cursor → Type 0
+MovesOn cts rts at Command next = (at.command < next.command) × (next.command ≤ length cts) × (next.reply ≡ at.reply)
+MovesOn cts rts at Reply next = (at.reply < next.reply) × (next.reply ≤ length rts) × (next.command ≡ at.command)
+
+abbrev pub Progress : List ℕ → List ℕ → Cursor → Option Stepped → Type 0
+Progress cts rts at (Some s) = MovesOn cts rts at s.line s.behind
+Progress cts rts at None = (length cts ≤ at.command) × (length rts ≤ at.reply)
 
 module _ (cts rts : List ℕ) (at : Cursor) where
-  abbrev step_by : Line → Stepped
+  abbrev step_by : Option Line → Option Stepped
   step_by l =
       by_line l
-      (FromCommand (record { command = packet_end cts at.command; reply = at.reply }))
-      (FromReply (record { command = at.command; reply = packet_end rts at.reply }))
-      End
+      (Some (record { line = Command; behind = record { command = packet_end cts at.command; reply = at.reply } }))
+      (Some (record { line = Reply; behind = record { command = at.command; reply = packet_end rts at.reply } }))
+      None
 
-  by_line_lem : (l : Line) → Has (drop at.command cts) (drop at.reply rts) l → Progress cts rts at (step_by l)
-  by_line_lem Command h =
+  by_line_lem : (l : Option Line) → Has (drop at.command cts) (drop at.reply rts) l → Progress cts rts at (step_by l)
+  by_line_lem (Some Command) h =
       let i : at.command < length cts = omega (arith, length-drop at.command cts) in
       ((end_moves cts at.command i).on, (end_moves cts at.command i).inside, refl)
-  by_line_lem Reply h =
+  by_line_lem (Some Reply) h =
       let j : at.reply < length rts = omega (arith, length-drop at.reply rts) in
       ((end_moves rts at.reply j).on, (end_moves rts at.reply j).inside, refl)
-  by_line_lem Neither h = (omega (arith, length-drop at.command cts), omega (arith, length-drop at.reply rts))
+  by_line_lem None h = (omega (arith, length-drop at.command cts), omega (arith, length-drop at.reply rts))
 
   pub step_moves : Progress cts rts at (capture_step cts rts at)
   unfolding capture_step due_of
   step_moves = by_line_lem (due_of cts rts at) (has_next (drop at.command cts) (drop at.reply rts))
 
 -- where a step comes to: behind the bytes that it hands back
-abbrev pub Behind : List ℕ → List ℕ → Cursor → Stepped → Type 0
-Behind cts rts at (FromCommand next) = next ≡ record { command = packet_end cts at.command; reply = at.reply }
-Behind cts rts at (FromReply next) = next ≡ record { command = at.command; reply = packet_end rts at.reply }
-Behind cts rts at End = Unit {0}
+abbrev IsBehind : List ℕ → List ℕ → Cursor → Line → Cursor → Type 0
+IsBehind cts rts at Command next = next ≡ record { command = packet_end cts at.command; reply = at.reply }
+IsBehind cts rts at Reply next = next ≡ record { command = at.command; reply = packet_end rts at.reply }
 
-behind_line : (cts rts : List ℕ) (at : Cursor) (l : Line) → Behind cts rts at (step_by cts rts at l)
-behind_line cts rts at Command = refl
-behind_line cts rts at Reply = refl
-behind_line cts rts at Neither = tt
+abbrev pub Behind : List ℕ → List ℕ → Cursor → Option Stepped → Type 0
+Behind cts rts at (Some s) = IsBehind cts rts at s.line s.behind
+Behind cts rts at None = Unit {0}
+
+behind_line : (cts rts : List ℕ) (at : Cursor) (l : Option Line) → Behind cts rts at (step_by cts rts at l)
+behind_line cts rts at (Some Command) = refl
+behind_line cts rts at (Some Reply) = refl
+behind_line cts rts at None = tt
 
 pub step_behind : (cts rts : List ℕ) (at : Cursor) → Behind cts rts at (capture_step cts rts at)
 unfolding capture_step

@@ -1,3 +1,4 @@
+pub mod Captures
 pub mod Packets
 pub mod Checks
 pub mod Steps

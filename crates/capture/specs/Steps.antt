@@ -1,11 +1,10 @@
 -- Document 02, 3: "Each step hands back that packet's own bytes, from whichever capture starts earlier; at equal times the command comes first".
-use Rattle.std.specs.Prelude.{ℕ, ◌+◌, ◌-◌, cond, List, [], ◌∷◌, ◌++◌, length, get_or, drop, leb}
+use Rattle.std.specs.Prelude.{ℕ, ◌+◌, ◌-◌, cond, List, [], ◌∷◌, ◌++◌, length, get_or, drop, leb, Option, Some, None}
 use Rattle.capture.specs.Packets.{Packet, packets, packet_end, cut_of}
 use Rattle.capture.specs.declared.Line.{Line}
-use Rattle.capture.specs.declared.Line.TheVariants.{Command, Reply, Neither}
+use Rattle.capture.specs.declared.Line.TheVariants.{Command, Reply}
 use Rattle.capture.specs.declared.Cursor.{Cursor}
 use Rattle.capture.specs.declared.Stepped.{Stepped}
-use Rattle.capture.specs.declared.Stepped.TheVariants.{FromCommand, FromReply, End}
 
 -- a packet that is handed back: the line that it was on, and the packet
 pub data Recorded : Type 0 where
@@ -32,39 +31,39 @@ unfoldable pub left_at : List ℕ → List ℕ → List ℕ → List ℕ → Cur
 left_at cs cts rs rts at = merge (packets (drop at.command cts) (drop at.command cs)) (packets (drop at.reply rts) (drop at.reply rs))
 
 -- which of two captures has the next packet, by the times that are left of each
-abbrev pub earlier : List ℕ → List ℕ → Line
-earlier [] [] = Neither
-earlier [] (u ∷ us) = Reply
-earlier (t ∷ ts) [] = Command
-earlier (t ∷ ts) (u ∷ us) = cond (leb t u) Command Reply
+abbrev pub earlier : List ℕ → List ℕ → Option Line
+earlier [] [] = None
+earlier [] (u ∷ us) = Some Reply
+earlier (t ∷ ts) [] = Some Command
+earlier (t ∷ ts) (u ∷ us) = cond (leb t u) (Some Command) (Some Reply)
 
 -- what is taken of the two lines, by the line that is due
-abbrev pub by_line : {A : Type 0} → Line → A → A → A → A
-by_line Command c r n = c
-by_line Reply c r n = r
-by_line Neither c r n = n
+abbrev pub by_line : {A : Type 0} → Option Line → A → A → A → A
+by_line (Some Command) c r n = c
+by_line (Some Reply) c r n = r
+by_line None c r n = n
 
 -- the line that is due at a cursor
-unfoldable pub due_of : List ℕ → List ℕ → Cursor → Line
+unfoldable pub due_of : List ℕ → List ℕ → Cursor → Option Line
 due_of cts rts at = earlier (drop at.command cts) (drop at.reply rts)
 
 -- the step at a cursor: the line whose packet is next, and the cursor behind that packet
-unfoldable pub capture_step : List ℕ → List ℕ → Cursor → Stepped
+unfoldable pub capture_step : List ℕ → List ℕ → Cursor → Option Stepped
 capture_step cts rts at =
     by_line (due_of cts rts at)
-    (FromCommand (record { command = packet_end cts at.command; reply = at.reply }))
-    (FromReply (record { command = at.command; reply = packet_end rts at.reply }))
-    End
+    (Some (record { line = Command; behind = record { command = packet_end cts at.command; reply = at.reply } }))
+    (Some (record { line = Reply; behind = record { command = at.command; reply = packet_end rts at.reply } }))
+    None
 
 -- the capture whose packet a step of the line l hands back, and from which of its bytes on; with no line due, no bytes of the command capture
-abbrev pub capture_by : {A : Type 0} → Line → A → A → A
+abbrev pub capture_by : {A : Type 0} → Option Line → A → A → A
 capture_by l c r = by_line l c r c
 
-abbrev pub start_by : Line → Cursor → ℕ
+abbrev pub start_by : Option Line → Cursor → ℕ
 start_by l at = by_line l at.command at.reply at.command
 
 -- "that packet's own bytes": of that line's capture those from the cursor to the packet's end
-abbrev pub bytes_by : List ℕ → List ℕ → List ℕ → List ℕ → Cursor → Line → List ℕ
+abbrev pub bytes_by : List ℕ → List ℕ → List ℕ → List ℕ → Cursor → Option Line → List ℕ
 bytes_by cs cts rs rts at l =
     by_line l (cut_of cs at.command (packet_end cts at.command)) (cut_of rs at.reply (packet_end rts at.reply)) (cut_of cs at.command at.command)
 
@@ -75,11 +74,15 @@ packet_at cs cts rs rts at = bytes_by cs cts rs rts at (due_of cts rts at)
 abbrev pub packet_from : List ℕ → List ℕ → ℕ → Packet
 packet_from bs ts at = record { start = get_or ts at 0; bytes = cut_of bs at (packet_end ts at) }
 
--- what a step hands back, then what is left behind it
-abbrev pub recorded_by : List ℕ → List ℕ → List ℕ → List ℕ → Cursor → Stepped → List Recorded
-recorded_by cs cts rs rts at (FromCommand next) = sent (packet_from cs cts at.command) ∷ left_at cs cts rs rts next
-recorded_by cs cts rs rts at (FromReply next) = got (packet_from rs rts at.reply) ∷ left_at cs cts rs rts next
-recorded_by cs cts rs rts at End = []
+-- what a step hands back
+abbrev pub recorded_on : List ℕ → List ℕ → List ℕ → List ℕ → Cursor → Line → Recorded
+recorded_on cs cts rs rts at Command = sent (packet_from cs cts at.command)
+recorded_on cs cts rs rts at Reply = got (packet_from rs rts at.reply)
+
+-- that, then what is left behind it
+abbrev pub recorded_by : List ℕ → List ℕ → List ℕ → List ℕ → Cursor → Option Stepped → List Recorded
+recorded_by cs cts rs rts at (Some s) = recorded_on cs cts rs rts at s.line ∷ left_at cs cts rs rts s.behind
+recorded_by cs cts rs rts at None = []
 
 -- the bytes of one line among what is handed back
 abbrev pub sent_bytes : List Recorded → List ℕ

@@ -6,11 +6,27 @@
 ghost use Rattle.std.specs.Prelude.{◌≡◌};
 ghost use Rattle.wire.specs.Promise.{Promise};
 ghost use Rattle.wire.specs.Part.{Part};
+ghost use Rattle.wire.specs.Numbers.{number_by};
+ghost use Rattle.capture.specs.Captures.{of_lines, of_times};
 ghost use Rattle.capture.specs.Packets.{is_gap, packet_end, cut_of};
-ghost use Rattle.capture.specs.Checks.{is_rising, check_of, checked_number};
+ghost use Rattle.capture.specs.Checks.{is_rising, is_even, check_of};
 ghost use Rattle.capture.specs.Steps.{due_of, capture_step, capture_by, start_by, packet_at};
 
 use wire::Refusal;
+
+// What was captured on one line: bytes, and the time of each. Any two slices will do; `check` says whether they fit.
+#[derive(Clone, Copy)]
+pub struct Capture<'a> {
+    pub bytes: &'a [u8],
+    pub times: &'a [u32],
+}
+
+// The captures of both lines.
+#[derive(Clone, Copy)]
+pub struct Recording<'a> {
+    pub command: Capture<'a>,
+    pub reply: Capture<'a>,
+}
 
 // How far a walk has come in each capture.
 #[derive(Clone, Copy)]
@@ -27,39 +43,17 @@ impl Cursor {
     };
 }
 
-// The line whose packet is next.
-#[derive(Clone, Copy)]
+#[derive(Clone, Copy, PartialEq, Eq)]
 pub enum Line {
     Command,
     Reply,
-    Neither,
 }
 
 // A step: the line whose packet is handed back, and the cursor behind it.
 #[derive(Clone, Copy)]
-pub enum Stepped {
-    FromCommand(Cursor),
-    FromReply(Cursor),
-    End,
-}
-
-// What the checks before a walk find.
-#[derive(Clone, Copy)]
-pub enum Checked {
-    Good,
-    Refused(Refusal),
-}
-
-impl Checked {
-    // The paper's number.
-    pub fn number(self) -> u8
-        ensures { result ≡ checked_number self }
-    {
-        match self {
-            Checked::Good => wire::DONE,
-            Checked::Refused(why) => why.number(),
-        }
-    }
+pub struct Stepped {
+    pub line: Line,
+    pub behind: Cursor,
 }
 
 // Whether a gap of 2 ms or more lies between two neighbouring bytes.
@@ -77,99 +71,78 @@ fn packet_end(times: &[u32], at: usize) -> usize
     if times.len() <= at {
         return at;
     }
-    let mut last = times[at];
-    let mut i = at + 1;
-    while i < times.len() {
-        let next = times[i];
-        if is_gap(last, next) {
+    for i in at + 1..times.len() {
+        if is_gap(times[i - 1], times[i]) {
             return i;
         }
-        last = next;
-        i += 1;
     }
-    i
+    times.len()
 }
 
 // Whether no time is less than the one before.
 fn is_rising(times: &[u32]) -> bool
     ensures { result ≡ is_rising times.now }
 {
-    let mut last: u32 = 0;
-    let mut i = 0;
-    while i < times.len() {
-        let next = times[i];
-        if next < last {
-            return false;
-        }
-        last = next;
-        i += 1;
-    }
-    true
+    times.is_sorted()
+}
+
+// Whether times and bytes are as many.
+fn is_even(one: Capture) -> bool
+    ensures { result ≡ is_even one.entry.bytes.now one.entry.times.now }
+{
+    one.bytes.len() == one.times.len()
 }
 
 // The checks before a walk: 15 in either capture, then 16 in either.
-pub fn check(command: &[u8], command_times: &[u32], reply: &[u8], reply_times: &[u32]) -> Checked
-    ensures { Promise checked_number result (check_of command.now command_times.now reply.now reply_times.now) }
+pub fn check(taken: Recording) -> Result<(), Refusal>
+    ensures { Promise number_by result (of_lines check_of taken.entry) }
 {
-    if command.len() != command_times.len() {
-        return Checked::Refused(Refusal::Uneven);
+    if !(is_even(taken.command) & is_even(taken.reply)) {
+        return Err(Refusal::Uneven);
     }
-    if reply.len() != reply_times.len() {
-        return Checked::Refused(Refusal::Uneven);
+    if !(is_rising(taken.command.times) & is_rising(taken.reply.times)) {
+        return Err(Refusal::Backward);
     }
-    if is_rising(command_times) {
-        if is_rising(reply_times) {
-            Checked::Good
-        } else {
-            Checked::Refused(Refusal::Backward)
-        }
-    } else {
-        Checked::Refused(Refusal::Backward)
-    }
+    Ok(())
 }
 
-// The line whose packet starts earlier; at equal times the command's.
-fn due(command_times: &[u32], reply_times: &[u32], at: Cursor) -> Line
-    ensures { result ≡ due_of command_times.now reply_times.now at }
+// The line whose packet starts earlier, if one is left; at equal times the command's.
+fn due(taken: Recording, at: Cursor) -> Option<Line>
+    ensures { result ≡ of_times due_of taken.entry at }
 {
-    let i = at.command;
-    let j = at.reply;
-    if i < command_times.len() {
-        if j < reply_times.len() {
-            if command_times[i] <= reply_times[j] {
-                Line::Command
+    match (
+        taken.command.times.get(at.command),
+        taken.reply.times.get(at.reply),
+    ) {
+        (Some(sent), Some(came)) => {
+            if sent <= came {
+                Some(Line::Command)
             } else {
-                Line::Reply
+                Some(Line::Reply)
             }
-        } else {
-            Line::Command
         }
-    } else {
-        if j < reply_times.len() {
-            Line::Reply
-        } else {
-            Line::Neither
-        }
+        (Some(_), None) => Some(Line::Command),
+        (None, Some(_)) => Some(Line::Reply),
+        (None, None) => None,
     }
 }
 
 // The step at a cursor: whose packet is next, and the cursor behind it. Every step moves on, so a walk ends (proofs/Walking).
-pub fn step(command_times: &[u32], reply_times: &[u32], at: Cursor) -> Stepped
-    ensures { result ≡ capture_step command_times.now reply_times.now at }
+pub fn step(taken: Recording, at: Cursor) -> Option<Stepped>
+    ensures { result ≡ of_times capture_step taken.entry at }
 {
-    let i = at.command;
-    let j = at.reply;
-    match due(command_times, reply_times, at) {
-        Line::Command => Stepped::FromCommand(Cursor {
-            command: packet_end(command_times, i),
-            reply: j,
-        }),
-        Line::Reply => Stepped::FromReply(Cursor {
-            command: i,
-            reply: packet_end(reply_times, j),
-        }),
-        Line::Neither => Stepped::End,
-    }
+    let line = due(taken, at)?;
+    let behind = match line {
+        Line::Command => Cursor {
+            command: packet_end(taken.command.times, at.command),
+            reply: at.reply,
+        },
+        Line::Reply => Cursor {
+            command: at.command,
+            reply: packet_end(taken.reply.times, at.reply),
+        },
+    };
+    Some(Stepped { line, behind })
 }
 
 // The part of a capture from one position to another, as far as it reaches.
@@ -189,20 +162,18 @@ fn cut(s: &[u8], from: usize, end: usize) -> &[u8]
 }
 
 // The packet of the step at a cursor, its own bytes: a part of the command capture or of the reply capture.
-pub fn packet_at<'a>(
-    command: &'a [u8],
-    command_times: &[u32],
-    reply: &'a [u8],
-    reply_times: &[u32],
-    at: Cursor,
-) -> &'a [u8]
-    ensures { Part (capture_by (due_of command_times.now reply_times.now at) command.entry reply.entry) (start_by (due_of command_times.now reply_times.now at) at) (packet_at command.now command_times.now reply.now reply_times.now at) result }
+pub fn packet_at<'a>(taken: Recording<'a>, at: Cursor) -> &'a [u8]
+    ensures { Part (capture_by (of_times due_of taken.entry at) taken.entry.command.bytes taken.entry.reply.bytes) (start_by (of_times due_of taken.entry at) at) (of_lines packet_at taken.entry at) result }
 {
-    let i = at.command;
-    let j = at.reply;
-    match due(command_times, reply_times, at) {
-        Line::Command => cut(command, i, packet_end(command_times, i)),
-        Line::Reply => cut(reply, j, packet_end(reply_times, j)),
-        Line::Neither => cut(command, i, i),
+    let command = taken.command;
+    let reply = taken.reply;
+    match due(taken, at) {
+        Some(Line::Command) => cut(
+            command.bytes,
+            at.command,
+            packet_end(command.times, at.command),
+        ),
+        Some(Line::Reply) => cut(reply.bytes, at.reply, packet_end(reply.times, at.reply)),
+        None => cut(command.bytes, at.command, at.command),
     }
 }

@@ -1,7 +1,7 @@
 -- What holds all along any course of events, from power-up to the next Hard Reset.
 use Prim.Native.Nat.{ℕ}
 use Rattle.wire.specs.declared.refusal.Refusal.{Refusal}
-use Rattle.std.specs.Prelude.{Result, Ok, Err, Option, Some, None, ℕ}
+use Rattle.std.specs.Prelude.{Ok, Err, Some, None, ℕ}
 use mathlib.Core.Bool.{Bool, true, false, cond, true≢false, false≢true}
 use mathlib.Core.List.{List, ◌∷◌}
 use mathlib.Core.Option.{Option, none}
@@ -20,7 +20,7 @@ use Rattle.status.specs.declared.Answer.TheVariants.{Clear, Marked, Silent}
 use Rattle.node.specs.declared.state.Node.{Node}
 use Rattle.session.specs.declared.Exchange.TheVariants.{Idle}
 use Rattle.session.specs.declared.Session.{Session}
-use Rattle.session.specs.Session.{node_at}
+use Rattle.session.specs.Session.{node_at, End}
 use Rattle.session.specs.declared.Step.{Step}
 use Rattle.reports.specs.Report.{noted_of, is_telling, told_of, conclude_of, finish_of}
 use Rattle.reports.proofs.Concluding.{marked_noted, silent_noted, untold_noted, told_noted}
@@ -286,7 +286,7 @@ call_holds w holds k typed v out = go (call_perform k w.host v out).answer.end r
     stands : t ≡ w.host → Upholds (hosting t w)
     stands e up = rw e (holds up)
 
-    go : (e : Result (Option ℕ) Refusal) → (call_perform k w.host v out).answer.end ≡ e → Upholds (call_ended e k v t (call_perform k w.host v out).left w)
+    go : (e : End) → (call_perform k w.host v out).answer.end ≡ e → Upholds (call_ended e k v t (call_perform k w.host v out).left w)
     go (Ok (Some n)) e up =
         let u = not_up (resets k) w.up up in
         let a = call_sends k typed u.0 w.host v out n e in

@@ -1,6 +1,6 @@
 -- From the sending of a packet to its report: what the line does to bytes, as what it does to nodes and what the answer tells.
 use Prim.Native.Nat.{ℕ, ◌<◌}
-use Rattle.std.specs.Prelude.{Option, Some, None}
+use Rattle.std.specs.Prelude.{Option as Reading, Some, None}
 use mathlib.Core.Bool.{Bool, true, false, cond, ◌&&◌, true≢false, false≢true}
 use mathlib.Core.List.{List, [], append-nil}
 use mathlib.Core.Option.{Option}
@@ -105,7 +105,7 @@ taken_zero : (b : Bool) (c : Command) → status_byte (cond b (Intact c) Other) 
 taken_zero true c = refl
 taken_zero false c = refl
 
-intact_zero : (r : Option Command) (to : Address) → status_byte (message_of r to true) ≡ 0
+intact_zero : (r : Reading Command) (to : Address) → status_byte (message_of r to true) ≡ 0
 intact_zero (Some c) to = taken_zero (is_taken to c) c
 intact_zero None to = refl
 

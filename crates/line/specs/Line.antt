@@ -2,7 +2,6 @@
 use Rattle.std.specs.Prelude.{ℕ, zero, suc, Bool, true, cond, List, [], ◌∷◌, Result, Err, Ok}
 use Rattle.wire.specs.declared.refusal.Refusal.{Refusal}
 use Rattle.packet.specs.declared.Framed.{Framed}
-use Rattle.packet.specs.Packet.{whole}
 use Rattle.std.proofs.Math.Option.{Option, none, some}
 use Rattle.wire.specs.declared.address.Address.{Address}
 use Rattle.buffer.specs.Change.{Altered, Damaged}

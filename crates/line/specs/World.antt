@@ -1,5 +1,5 @@
 -- Demand 3's course of events, with document 02, requests 4, 6 and 7: whatever can come about under its premises.
-use Rattle.std.specs.Prelude.{ℕ, ◌<◌, Bool, true, false, cond, List, [], ◌∷◌, map, ◌≡◌, length, get_or, set, take, Result, Ok, Err, Option, Some, None}
+use Rattle.std.specs.Prelude.{ℕ, ◌<◌, Bool, true, false, cond, List, [], ◌∷◌, map, ◌≡◌, length, get_or, set, take, Ok, Err, Some, None}
 use Rattle.std.proofs.Math.Option.{Option}
 use Rattle.wire.specs.declared.kind.Kind.{Kind}
 use Rattle.wire.specs.declared.kind.Kind.TheVariants.{Gate}
@@ -9,6 +9,7 @@ use Rattle.node.specs.declared.state.Node.{Node}
 use Rattle.node.specs.Node.{power_up}
 use Rattle.survey.specs.Chain.{blank_node}
 use Rattle.session.specs.declared.Session.{Session}
+use Rattle.session.specs.Session.{End}
 use Rattle.start.specs.Start.{fresh_of, start_power_up}
 use Rattle.calls.specs.declared.Call.{Call}
 use Rattle.calls.specs.Calls.{call_perform, TypedCall}
@@ -50,7 +51,7 @@ abbrev pub powered : List Device → Session → World
 powered ds s = record { host = s; nodes = map powered_up ds; line = quiet; past = []; up = true }
 
 -- a call that sends puts the first n bytes of its buffer on the line; any other leaves the line as it is
-abbrev pub call_ended : Result (Option ℕ) Refusal → Call → ℕ → Session → List ℕ → World → World
+abbrev pub call_ended : End → Call → ℕ → Session → List ℕ → World → World
 call_ended (Ok (Some n)) c at s left w =
     record { host = s; nodes = w.nodes; line = going (what_of c (take n left)) at (take n left); past = w.past; up = cond (resets c) false w.up }
 call_ended (Ok None) c at s left w = hosting s w

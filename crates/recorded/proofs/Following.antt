@@ -1,6 +1,5 @@
 -- The walk goes by lines and bytes alone; with no exchange open, and so after a report, silence has no effect.
 use Prim.Native.Nat.{ℕ}
-use Rattle.std.specs.Prelude.{Option, Some}
 use mathlib.Core.Bool.{Bool, true, false, cond}
 use mathlib.Core.List.{List, [], ◌∷◌, ◌++◌, map, map-append, append-nil, append_assoc}
 use mathlib.Core.Path.{◌≡◌, refl, sym, ap, ◌∙◌}
@@ -20,6 +19,7 @@ use Rattle.calls.proofs.Finding.{found_again}
 use Rattle.capture.specs.Steps.{Recorded, sent, got}
 use Rattle.capture.specs.Traces.{Traced, commanded, replied, traced_of}
 use Rattle.recording.specs.Recording.{quiet_of, follow_of}
+use Rattle.std.specs.Prelude.{Ok, Option, Some}
 use Rattle.recording.specs.declared.Ending.TheVariants.{Ended, Foreign}
 use Rattle.recording.specs.declared.Replayed.{Replayed}
 use Rattle.recording.proofs.Alike.{alike_follows}
@@ -65,7 +65,7 @@ timeless (replied p) = got (record { start = 0; bytes = p })
 pub timeless_follows : (s : Session) (ps : List Recorded) → follow_of s (map timeless (traced_of ps)) ≡ follow_of s ps
 timeless_follows s [] = refl
 timeless_follows s (sent p ∷ ps) =
-    ap (λ (x : Replayed). by_source (find_of (quiet_of s) p.bytes).source x (record { ending = Foreign; session = quiet_of s }))
+    ap (λ (x : Replayed). by_source (find_of (quiet_of s) p.bytes).source x (record { ending = Ok Foreign; session = quiet_of s }))
     (timeless_follows (find_of (quiet_of s) p.bytes).session ps)
 timeless_follows s (got p ∷ ps) = timeless_follows (report_of s p.bytes).session ps
 
@@ -86,7 +86,7 @@ pub leads_nowhere : {s : Session} → Leads s [] s
 leads_nowhere = record { then = λ ps. refl }
 
 -- to the end
-pub leads_end : {s t : Session} {xs : List Traced} → Leads s xs t → (ps : List Recorded) → traced_of ps ≡ xs → follow_of s ps ≡ record { ending = Ended; session = quiet_of t }
+pub leads_end : {s t : Session} {xs : List Traced} → Leads s xs t → (ps : List Recorded) → traced_of ps ≡ xs → follow_of s ps ≡ record { ending = Ok Ended; session = quiet_of t }
 leads_end {s} {t} {xs} f ps e =
     sym (timeless_follows s ps) ∙ ap (λ (l : List Traced). follow_of s (map timeless l)) e ∙ ap (follow_of s) (sym (append-nil (map timeless xs))) ∙ f.then []
 

@@ -1,7 +1,6 @@
 -- A recording made by the host over demand 3's line walks to the host's own record.
 use Prim.Native.Nat.{ℕ, ◌≤◌}
 use Rattle.wire.specs.declared.refusal.Refusal.{Refusal}
-use Rattle.std.specs.Prelude.{Result, Ok, Err, Option, Some, None, ℕ}
 use Rattle.wire.specs.Numbers.{number_by}
 use native.Mathlib.Omega.{arith}
 use mathlib.Core.Bool.{false}
@@ -28,7 +27,7 @@ use Rattle.calls.proofs.Standing.{call_went, call_not_done, sent_not_free}
 use Rattle.capture.specs.Steps.{outset, left_at}
 use Rattle.capture.specs.Traces.{Traced}
 use Rattle.capture.specs.Checks.{check_of}
-use Rattle.capture.specs.declared.Checked.TheVariants.{Good}
+use Rattle.std.specs.Prelude.{Ok, Result, Err, Option, Some, None, ℕ}
 use Rattle.capture.proofs.Laying.{laid_packets, laid_good}
 use Rattle.recording.specs.Recording.{recording_check, power_of, quiet_of, replay_of}
 use Rattle.recording.specs.declared.Ending.TheVariants.{Ended}
@@ -170,7 +169,7 @@ follows (bench c i b p) u = follows c u
 pub walks : Walks
 walks w c u e ps same =
     let f = follows c u in
-    leads_end f.leads ps same ∙ ap (λ (s : Session). record { ending = Ended; session = s }) (idle_stands f.session w.host w.line f.stands e)
+    leads_end f.leads ps same ∙ ap (λ (s : Session). record { ending = Ok Ended; session = s }) (idle_stands f.session w.host w.line f.stands e)
 
 pub replays : Replays
 unfolding replay_of
@@ -189,7 +188,7 @@ told_few (delay c what at p e q a) = told_few c
 told_few (stray c r why e) = told_few c
 told_few (bench c i b p) = told_few c
 
-good_check : (n : ℕ) (ks : List Kind) (cs cts rs rts : List ℕ) → 1 ≤ n → n ≤ 31 → check_of cs cts rs rts ≡ Good → recording_check n ks cs cts rs rts ≡ Good
+good_check : (n : ℕ) (ks : List Kind) (cs cts rs rts : List ℕ) → 1 ≤ n → n ≤ 31 → check_of cs cts rs rts ≡ Ok tt → recording_check n ks cs cts rs rts ≡ Ok tt
 unfolding recording_check
 good_check n ks cs cts rs rts p q e = rw (powered_good fresh_of n ks p q) e
 

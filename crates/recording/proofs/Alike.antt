@@ -20,6 +20,7 @@ use Rattle.calls.specs.Alike.{awaiting, is_reaching, Alike, same, unreached}
 use Rattle.calls.specs.Finding.{by_source, find_of}
 use Rattle.capture.specs.Steps.{Recorded, sent, got}
 use Rattle.recording.specs.Recording.{quiet_of, follow_of}
+use Rattle.std.specs.Prelude.{Ok}
 use Rattle.recording.specs.declared.Ending.TheVariants.{Ended, Foreign}
 
 by_either : {A : Type 0} (b : Bool) {x y z : A} → x ≡ z → y ≡ z → cond b x y ≡ z
@@ -65,7 +66,7 @@ alike_quiet h = alike_finishes h Silent
 -- and so does the rest of a walk
 pub alike_follows : {s t : Session} → Alike s t → (ps : List Recorded) → follow_of s ps ≡ follow_of t ps
 unfolding report_of
-alike_follows h [] = ap (λ (x : Session). record { ending = Ended; session = x }) (alike_quiet h)
+alike_follows h [] = ap (λ (x : Session). record { ending = Ok Ended; session = x }) (alike_quiet h)
 alike_follows h (sent p ∷ ps) =
-    ap (λ (x : Session). by_source (find_of x p.bytes).source (follow_of (find_of x p.bytes).session ps) (record { ending = Foreign; session = x })) (alike_quiet h)
+    ap (λ (x : Session). by_source (find_of x p.bytes).source (follow_of (find_of x p.bytes).session ps) (record { ending = Ok Foreign; session = x })) (alike_quiet h)
 alike_follows h (got p ∷ ps) = ap (λ (x : Session). follow_of x ps) (alike_finishes h (judge_of p.bytes))

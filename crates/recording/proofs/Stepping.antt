@@ -1,7 +1,5 @@
 -- A walk step by step: each step but the last leaves fewer bytes, and all of them come to what the whole walk gives. For callers that go by `advance`, and for the loop of `follow`.
 use Prim.Native.Nat.{ℕ, ◌<◌}
-use Rattle.wire.specs.declared.refusal.Refusal.{Refusal}
-use Rattle.std.specs.Prelude.{Option, Some, None, Result, Ok, Err, ℕ}
 use mathlib.Core.Bool.{Bool, true, false, cond, true≢false}
 use mathlib.Core.List.{List}
 use mathlib.Core.Path.{◌≡◌, refl, sym, ap, subst, ◌∙◌}
@@ -13,11 +11,12 @@ use Rattle.reports.specs.Report.{report_of}
 use Rattle.calls.specs.declared.Call.{Call}
 use Rattle.calls.specs.Finding.{by_source, find_of}
 use Rattle.capture.specs.Steps.{outset, left_at, packet_from, capture_step, bytes_left}
-use Rattle.capture.specs.declared.Checked.{Checked}
-use Rattle.capture.specs.declared.Checked.TheVariants as checked
+use Rattle.std.specs.Prelude.{Option, Some, None, Result, Ok, Err, ℕ}
+use Rattle.wire.specs.declared.refusal.Refusal.{Refusal}
+use Rattle.capture.specs.declared.Line.{Line}
+use Rattle.capture.specs.declared.Line.TheVariants.{Command, Reply}
 use Rattle.capture.specs.declared.Cursor.{Cursor}
 use Rattle.capture.specs.declared.Stepped.{Stepped}
-use Rattle.capture.specs.declared.Stepped.TheVariants as stepped
 use Rattle.capture.proofs.Steps.{down_command, down_reply, shows_command, shows_reply, shows_none}
 use Rattle.recording.specs.declared.Begun.{Begun}
 use Rattle.recording.specs.declared.Stage.{Stage}
@@ -28,7 +27,7 @@ use Rattle.recording.specs.declared.Ending.{Ending}
 use Rattle.recording.specs.declared.Ending.TheVariants as ending
 use Rattle.recording.specs.declared.Replayed.{Replayed}
 use Rattle.recording.specs.Recording.{recording_check, power_of, quiet_of, follow_of, replay_by, replay_of}
-use Rattle.recording.specs.Stages.{command_by, reply_by, take_command, take_reply, take_end, advance_by, advance_of, begun_by, begun_number, begin_of}
+use Rattle.recording.specs.Stages.{command_by, reply_by, take_command, take_reply, take_end, advance_on, advance_by, advance_of, begun_by, begun_number, begin_of}
 use Rattle.recording.proofs.Sound.{good_sound}
 
 -- ---- where a walk goes on, fewer bytes are left
@@ -46,15 +45,19 @@ module _ (cts rts : List ℕ) (at : Cursor) where
   reply_down (Ok (Some n)) next t d o = d
   reply_down (Err why) next t d o = d
 
-  step_down : (cs rs : List ℕ) (s : Session) (x : Stepped) → x ≡ capture_step cts rts at → Down (advance_by cs cts rs rts at s x)
-  unfolding take_command take_reply take_end
-  step_down cs rs s (stepped.FromCommand next) e =
+  on_down : (cs rs : List ℕ) (s : Session) (l : Line) (next : Cursor) → Some (record { line = l; behind = next }) ≡ capture_step cts rts at → Down (advance_on cs cts rs rts at s l next)
+  unfolding take_command take_reply
+  on_down cs rs s Command next e =
       let p = (packet_from cs cts at.command).bytes in
-      command_down (find_of (quiet_of s) p).source next (quiet_of s) (find_of (quiet_of s) p).session (down_command cts rts at (stepped.FromCommand next) next e refl)
-  step_down cs rs s (stepped.FromReply next) e =
+      command_down (find_of (quiet_of s) p).source next (quiet_of s) (find_of (quiet_of s) p).session (down_command cts rts at _ next e refl)
+  on_down cs rs s Reply next e =
       let p = (packet_from rs rts at.reply).bytes in
-      reply_down (report_of s p).end next (report_of s p).session (down_reply cts rts at (stepped.FromReply next) next e refl)
-  step_down cs rs s stepped.End e = λ o. absurd (true≢false o)
+      reply_down (report_of s p).end next (report_of s p).session (down_reply cts rts at _ next e refl)
+
+  step_down : (cs rs : List ℕ) (s : Session) (x : Option Stepped) → x ≡ capture_step cts rts at → Down (advance_by cs cts rs rts at s x)
+  unfolding take_end
+  step_down cs rs s (Some y) e = on_down cs rs s y.line y.behind e
+  step_down cs rs s None e = λ o. absurd (true≢false o)
 
 pub advance_less : (cs cts rs rts : List ℕ) (g : Stage) (m : Moved) → g.over ≡ false → m ≡ advance_of cs cts rs rts g → m.stage.over ≡ false
     → bytes_left cts rts m.stage.at < bytes_left cts rts g.at
@@ -70,7 +73,7 @@ record Goes (cs cts rs rts : List ℕ) (s : Session) (at : Cursor) (g : Stage) :
 
 record Ends (cs cts rs rts : List ℕ) (s : Session) (at : Cursor) (g : Stage) (x : Ending) : Type 0 where
   over : g.over ≡ true
-  same : follow_of s (left_at cs cts rs rts at) ≡ record { ending = x; session = g.session }
+  same : follow_of s (left_at cs cts rs rts at) ≡ record { ending = Ok x; session = g.session }
 
 -- what a step has done, by what it says
 abbrev Done : List ℕ → List ℕ → List ℕ → List ℕ → Session → Cursor → Stage → Event → Type 0
@@ -85,7 +88,7 @@ DoneBy cs cts rs rts s at m = Done cs cts rs rts s at m.stage m.event
 
 module _ (cs cts rs rts : List ℕ) (s : Session) (at : Cursor) (h : length cts ≡ length cs) (k : length rts ≡ length rs) where
   by_source_lem : (x : Option Call) (next : Cursor) (q t : Session)
-      → follow_of s (left_at cs cts rs rts at) ≡ by_source x (follow_of t (left_at cs cts rs rts next)) (record { ending = ending.Foreign; session = q })
+      → follow_of s (left_at cs cts rs rts at) ≡ by_source x (follow_of t (left_at cs cts rs rts next)) (record { ending = Ok ending.Foreign; session = q })
       → DoneBy cs cts rs rts s at (command_by x next q t)
   by_source_lem (Some c) next q t e = record { on = refl; same = e }
   by_source_lem None next q t e = record { over = refl; same = e }
@@ -96,15 +99,19 @@ module _ (cs cts rs rts : List ℕ) (s : Session) (at : Cursor) (h : length cts 
   by_reply (Ok (Some n)) next t e = record { on = refl; same = e }
   by_reply (Err why) next t e = record { on = refl; same = e }
 
-  by_step : (x : Stepped) → x ≡ capture_step cts rts at → DoneBy cs cts rs rts s at (advance_by cs cts rs rts at s x)
-  unfolding take_command take_reply take_end
-  by_step (stepped.FromCommand next) e =
+  by_line_lem : (l : Line) (next : Cursor) → Some (record { line = l; behind = next }) ≡ capture_step cts rts at → DoneBy cs cts rs rts s at (advance_on cs cts rs rts at s l next)
+  unfolding take_command take_reply
+  by_line_lem Command next e =
       by_source_lem (find_of (quiet_of s) (packet_from cs cts at.command).bytes).source next _ _
-      (ap (follow_of s) (shows_command cs cts rs rts at (stepped.FromCommand next) h k next e refl))
-  by_step (stepped.FromReply next) e =
+      (ap (follow_of s) (shows_command cs cts rs rts at _ h k next e refl))
+  by_line_lem Reply next e =
       by_reply (report_of s (packet_from rs rts at.reply).bytes).end next _
-      (ap (follow_of s) (shows_reply cs cts rs rts at (stepped.FromReply next) h k next e refl))
-  by_step stepped.End e = record { over = refl; same = ap (follow_of s) (shows_none cs cts rs rts at stepped.End h k e refl) }
+      (ap (follow_of s) (shows_reply cs cts rs rts at _ h k next e refl))
+
+  by_step : (x : Option Stepped) → x ≡ capture_step cts rts at → DoneBy cs cts rs rts s at (advance_by cs cts rs rts at s x)
+  unfolding take_end
+  by_step (Some y) e = by_line_lem y.line y.behind e
+  by_step None e = record { over = refl; same = ap (follow_of s) (shows_none cs cts rs rts at None h k e refl) }
 
 module _ (cs cts rs rts : List ℕ) (g : Stage) (m : Moved) (h : length cts ≡ length cs) (k : length rts ≡ length rs) (o : g.over ≡ false) (e : m ≡ advance_of cs cts rs rts g) where
   done : (x : Event) → m.event ≡ x → Done cs cts rs rts g.session g.at m.stage x
@@ -175,12 +182,12 @@ module _ (cs cts rs rts : List ℕ) (t : Session) (g : Stage) (m : Moved) (i : C
       let a : comes_to cs cts rs rts m.stage ≡ m.stage.session = rw f in
       sym a ∙ passes.same ∙ i.comes
 
-start_by_lem : (x : Checked) (n : ℕ) (ks : List Kind) (cs cts rs rts : List ℕ) → recording_check n ks cs cts rs rts ≡ x
+start_by_lem : (x : Result (Unit {0}) Refusal) (n : ℕ) (ks : List Kind) (cs cts rs rts : List ℕ) → recording_check n ks cs cts rs rts ≡ x
     → Coming cs cts rs rts (replay_by x (follow_of (power_of n ks) (left_at cs cts rs rts outset))).session (begun_by x (power_of n ks)).stage
-start_by_lem checked.Good n ks cs cts rs rts e =
+start_by_lem (Ok u) n ks cs cts rs rts e =
     let d = good_sound n ks cs cts rs rts e in
     record { comes = refl; command_number = λ f. d.command_number; reply_number = λ f. d.reply_number }
-start_by_lem (checked.Refused why) n ks cs cts rs rts e = record { comes = refl; command_number = λ f. absurd (true≢false f); reply_number = λ f. absurd (true≢false f) }
+start_by_lem (Err why) n ks cs cts rs rts e = record { comes = refl; command_number = λ f. absurd (true≢false f); reply_number = λ f. absurd (true≢false f) }
 
 pub comes_start : (n : ℕ) (ks : List Kind) (cs cts rs rts : List ℕ) (b : Begun) → Promise begun_number b (begin_of n ks cs cts rs rts)
     → Coming cs cts rs rts (replay_of n ks cs cts rs rts).session b.stage
@@ -227,8 +234,8 @@ module _ (cs cts rs rts : List ℕ) (s : Session) (g : Stage) (m : Moved) (h : l
   pub going_unawaited : m.event ≡ event.Unawaited → Going cs cts rs rts s m.stage
   going_unawaited f = onward (by_said event.Unawaited f)
 
-  pub ends_foreign : m.event ≡ event.Foreign → record { ending = ending.Foreign; session = m.stage.session } ≡ follow_of s (left_at cs cts rs rts outset)
+  pub ends_foreign : m.event ≡ event.Foreign → record { ending = Ok ending.Foreign; session = m.stage.session } ≡ follow_of s (left_at cs cts rs rts outset)
   ends_foreign f = sym (i.same ∙ (by_said event.Foreign f).same)
 
-  pub ends_ended : m.event ≡ event.End → record { ending = ending.Ended; session = m.stage.session } ≡ follow_of s (left_at cs cts rs rts outset)
+  pub ends_ended : m.event ≡ event.End → record { ending = Ok ending.Ended; session = m.stage.session } ≡ follow_of s (left_at cs cts rs rts outset)
   ends_ended f = sym (i.same ∙ (by_said event.End f).same)

@@ -1,14 +1,10 @@
 -- A second result that meets a contract is equal to the first, for each public function.
 use mathlib.Core.Path.{sym, ◌∙◌}
 use Rattle.wire.proofs.OneResult.{OneResult}
-use Rattle.recording.proofs.Ending.number.Reads as ending-number
 use Rattle.recording.proofs.check.Reads as check
 use Rattle.recording.proofs.begin.Reads as begin
 use Rattle.recording.proofs.advance.Reads as advance
 use Rattle.recording.proofs.replay.Reads as replay
-
-pub ending_number_unique : OneResult ending-number.Post
-ending_number_unique κs a r r' s s' p q = p ∙ sym q
 
 pub check_unique : OneResult check.Post
 check_unique κs a r r' s s' p q = p.answer ∙ sym q.answer

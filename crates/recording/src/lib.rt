@@ -5,13 +5,14 @@
 
 ghost use Rattle.std.specs.Prelude.{◌≡◌, length};
 ghost use Rattle.wire.specs.Promise.{Promise};
-ghost use Rattle.capture.specs.Checks.{checked_number};
+ghost use Rattle.wire.specs.Numbers.{number_by};
+ghost use Rattle.capture.specs.Captures.{of_lines};
 ghost use Rattle.capture.specs.Steps.{outset, left_at};
-ghost use Rattle.recording.specs.Recording.{quiet_of, count_check, recording_check, power_of, ending_number, replayed_number, follow_of, replay_of};
+ghost use Rattle.recording.specs.Recording.{quiet_of, count_check, recording_check, power_of, replayed_number, follow_of, replay_of};
 ghost use Rattle.recording.specs.Stages.{move_to, take_command, take_reply, take_end, advance_of, begin_at, begun_number, begin_of};
 
 use calls::Call;
-use capture::{Checked, Cursor, Stepped};
+use capture::{Cursor, Line, Recording};
 use session::Session;
 use wire::{Kind, MOST_NODES, Refusal};
 
@@ -45,10 +46,11 @@ pub struct Moved {
     pub stage: Stage,
 }
 
-// What the checks find, with their number, and the first stage of a walk; of a refused recording, one that is over.
+// What the checks find, and the first stage of a walk; of a refused recording, one that is over.
+// Both, and no Result of a stage: what `begin` promises of the stage of a refused recording stands (begin_of; the edit refused_goes_on).
 #[derive(Clone, Copy)]
 pub struct Begun {
-    pub checked: Checked,
+    pub checked: Result<(), Refusal>,
     pub stage: Stage,
 }
 
@@ -59,39 +61,26 @@ pub enum Ending {
     Ended,
     // With a command that the host couldn't have sent, or with a Set Baud Rate.
     Foreign,
-    Refused(Refusal),
 }
 
-impl Ending {
-    // The paper's number.
-    pub fn number(self) -> u8
-        ensures { result ≡ ending_number self }
-    {
-        match self {
-            Ending::Ended => wire::DONE,
-            Ending::Foreign => wire::DONE,
-            Ending::Refused(why) => why.number(),
-        }
-    }
-}
-
-// How a whole walk ended, and the host's session then, with no exchange open; of a refused recording, a fresh one.
+// How a whole walk ended, if the recording isn't refused, and the host's session then, with no exchange open; of a refused recording, a fresh one.
+// Both, and no Result of a session: what `replay` promises of the session of a refused recording stands (replay_of).
 #[derive(Clone, Copy)]
 pub struct Replayed {
-    pub ending: Ending,
+    pub ending: Result<Ending, Refusal>,
     pub session: Session,
 }
 
 // ---- the checks before it
 
 // What the check is, by how power-up ended: 6 for the node count.
-fn count_check(end: Result<Option<usize>, Refusal>) -> Checked
+fn count_check(end: Result<Option<usize>, Refusal>) -> Result<(), Refusal>
     ensures { result ≡ count_check end }
 {
     match end {
-        Ok(None) => Checked::Good,
-        Ok(Some(_)) => Checked::Good,
-        Err(why) => Checked::Refused(why),
+        Ok(None) => Ok(()),
+        Ok(Some(_)) => Ok(()),
+        Err(why) => Err(why),
     }
 }
 
@@ -99,19 +88,13 @@ fn count_check(end: Result<Option<usize>, Refusal>) -> Checked
 pub fn check(
     n: u8,
     kinds: [Kind; MOST_NODES],
-    command: &[u8],
-    command_times: &[u32],
-    reply: &[u8],
-    reply_times: &[u32],
-) -> Checked
-    ensures { Promise checked_number result (recording_check n kinds command.now command_times.now reply.now reply_times.now) }
+    taken: Recording,
+) -> Result<(), Refusal>
+    ensures { Promise number_by result (of_lines (recording_check n kinds) taken.entry) }
 {
     let up = start::power_up(start::fresh(), n, kinds);
-    let end = up.end;
-    match count_check(end) {
-        Checked::Good => capture::check(command, command_times, reply, reply_times),
-        Checked::Refused(why) => Checked::Refused(why),
-    }
+    count_check(up.end)?;
+    capture::check(taken)
 }
 
 // The session with which a recording of n nodes begins: as power-up makes it of the kinds told, or a fresh one.
@@ -175,30 +158,29 @@ fn take_end(s: Session, at: Cursor) -> Moved
 
 // The step at a stage: what the next packet does. That packet's own bytes are `capture::packet_at` the cursor of the stage that is handed in; at `End` there is none.
 // A walk that is over stays as it is.
-pub fn advance<'a>(
-    command: &'a [u8],
-    command_times: &[u32],
-    reply: &'a [u8],
-    reply_times: &[u32],
+pub fn advance(
+    taken: Recording,
     stage: Stage,
 ) -> Moved
-    ensures { result ≡ advance_of command.now command_times.now reply.now reply_times.now stage }
+    ensures { result ≡ of_lines advance_of taken.entry stage }
 {
     let at = stage.at;
     let session = stage.session;
     if stage.over {
         return move_to(Event::End, at, true, session);
     }
-    let bytes = capture::packet_at(command, command_times, reply, reply_times, at);
-    match capture::step(command_times, reply_times, at) {
-        Stepped::FromCommand(next) => take_command(session, bytes, next),
-        Stepped::FromReply(next) => take_reply(session, bytes, next),
-        Stepped::End => take_end(session, at),
+    let Some(step) = capture::step(taken, at) else {
+        return take_end(session, at);
+    };
+    let bytes = capture::packet_at(taken, at);
+    match step.line {
+        Line::Command => take_command(session, bytes, step.behind),
+        Line::Reply => take_reply(session, bytes, step.behind),
     }
 }
 
 // A stage before the first byte.
-fn begin_at(checked: Checked, over: bool, session: Session) -> Begun
+fn begin_at(checked: Result<(), Refusal>, over: bool, session: Session) -> Begun
     ensures { result ≡ begin_at checked over session }
 {
     let stage = Stage {
@@ -213,31 +195,25 @@ fn begin_at(checked: Checked, over: bool, session: Session) -> Begun
 pub fn begin(
     n: u8,
     kinds: [Kind; MOST_NODES],
-    command: &[u8],
-    command_times: &[u32],
-    reply: &[u8],
-    reply_times: &[u32],
+    taken: Recording,
 ) -> Begun
-    ensures { Promise begun_number result (begin_of n kinds command.now command_times.now reply.now reply_times.now) }
+    ensures { Promise begun_number result (of_lines (begin_of n kinds) taken.entry) }
 {
-    match check(n, kinds, command, command_times, reply, reply_times) {
-        Checked::Good => begin_at(Checked::Good, false, power(n, kinds)),
-        Checked::Refused(why) => begin_at(Checked::Refused(why), true, start::fresh()),
+    match check(n, kinds, taken) {
+        Ok(()) => begin_at(Ok(()), false, power(n, kinds)),
+        Err(why) => begin_at(Err(why), true, start::fresh()),
     }
 }
 
 // ---- the whole walk
 
 // Goes on from a session to the end.
-fn follow<'a>(
-    command: &'a [u8],
-    command_times: &[u32],
-    reply: &'a [u8],
-    reply_times: &[u32],
+fn follow(
+    taken: Recording,
     session: Session,
 ) -> Replayed
-    requires { (length command_times.now ≡ length command.now) × (length reply_times.now ≡ length reply.now) }
-    ensures { result ≡ follow_of session (left_at command.now command_times.now reply.now reply_times.now outset) }
+    requires { (length taken.command.times.now ≡ length taken.command.bytes.now) × (length taken.reply.times.now ≡ length taken.reply.bytes.now) }
+    ensures { result ≡ follow_of session (of_lines left_at taken.entry outset) }
 {
     let mut stage = Stage {
         at: Cursor::START,
@@ -245,7 +221,7 @@ fn follow<'a>(
         session,
     };
     loop {
-        let moved = advance(command, command_times, reply, reply_times, stage);
+        let moved = advance(taken, stage);
         let event = moved.event;
         let next = moved.stage;
         let reached = next.session;
@@ -261,13 +237,13 @@ fn follow<'a>(
             }
             Event::Foreign => {
                 return Replayed {
-                    ending: Ending::Foreign,
+                    ending: Ok(Ending::Foreign),
                     session: reached,
                 };
             }
             Event::End => {
                 return Replayed {
-                    ending: Ending::Ended,
+                    ending: Ok(Ending::Ended),
                     session: reached,
                 };
             }
@@ -276,20 +252,17 @@ fn follow<'a>(
 }
 
 // The whole walk: how it ended, and the host's record at its end.
-pub fn replay<'a>(
+pub fn replay(
     n: u8,
     kinds: [Kind; MOST_NODES],
-    command: &'a [u8],
-    command_times: &[u32],
-    reply: &'a [u8],
-    reply_times: &[u32],
+    taken: Recording,
 ) -> Replayed
-    ensures { Promise replayed_number result (replay_of n kinds command.now command_times.now reply.now reply_times.now) }
+    ensures { Promise replayed_number result (of_lines (replay_of n kinds) taken.entry) }
 {
-    match check(n, kinds, command, command_times, reply, reply_times) {
-        Checked::Good => follow(command, command_times, reply, reply_times, power(n, kinds)),
-        Checked::Refused(why) => Replayed {
-            ending: Ending::Refused(why),
+    match check(n, kinds, taken) {
+        Ok(()) => follow(taken, power(n, kinds)),
+        Err(why) => Replayed {
+            ending: Err(why),
             session: start::fresh(),
         },
     }

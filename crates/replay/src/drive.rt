@@ -1,7 +1,6 @@
 // A drive's own settings: which of them differ, and their words.
 use crate::setting::{put_doubt, put_name};
 use crate::values::{put_gains, put_position};
-use crate::writing::{put, put_byte, put_long};
 use command::{Gains, Motion};
 use entry::{DriveKnown, MotionKnown};
 use node::DriveSettings;
@@ -56,37 +55,34 @@ impl MotionChosen {
     fn put(
         self,
         rt: &impl Print,
-        word: &[u8],
+        word: &str,
         motion: Motion,
         known: MotionKnown,
-        behind: bool,
+        behind: &mut bool,
     ) -> io::Result<()> {
         if self.control {
-            put_value_name(rt, behind, word, b"control ")?;
-            put_byte(rt, motion.control)?;
+            put_value_name(rt, behind, word, "control ")?;
+            print!(rt; "{:02X}", motion.control)?;
             put_doubt(rt, known.control)?;
         }
-        let behind_control = behind | self.control;
         if self.position {
-            put_value_name(rt, behind_control, word, b"position ")?;
+            put_value_name(rt, behind, word, "position ")?;
             put_position(rt, motion.position)?;
             put_doubt(rt, known.position)?;
         }
-        let behind_position = behind_control | self.position;
         if self.velocity {
-            put_value_name(rt, behind_position, word, b"velocity ")?;
-            put_long(rt, motion.velocity)?;
+            put_value_name(rt, behind, word, "velocity ")?;
+            print!(rt; "{:08X}", motion.velocity)?;
             put_doubt(rt, known.velocity)?;
         }
-        let behind_velocity = behind_position | self.velocity;
         if self.acceleration {
-            put_value_name(rt, behind_velocity, word, b"acceleration ")?;
-            put_long(rt, motion.acceleration)?;
+            put_value_name(rt, behind, word, "acceleration ")?;
+            print!(rt; "{:08X}", motion.acceleration)?;
             put_doubt(rt, known.acceleration)?;
         }
         if self.pwm {
-            put_value_name(rt, behind_velocity | self.acceleration, word, b"PWM ")?;
-            put_byte(rt, motion.pwm)?;
+            put_value_name(rt, behind, word, "PWM ")?;
+            print!(rt; "{:02X}", motion.pwm)?;
             put_doubt(rt, known.pwm)?;
         }
         Ok(())
@@ -94,9 +90,9 @@ impl MotionChosen {
 }
 
 // The name of a motion's value, behind the word for that motion.
-fn put_value_name(rt: &impl Print, behind: bool, word: &[u8], name: &[u8]) -> io::Result<()> {
+fn put_value_name(rt: &impl Print, behind: &mut bool, word: &str, name: &str) -> io::Result<()> {
     put_name(rt, behind, word)?;
-    put(rt, name)
+    print!(rt; "{name}")
 }
 
 // ---- all of them
@@ -140,35 +136,21 @@ impl DriveChosen {
         rt: &impl Print,
         settings: DriveSettings,
         known: DriveKnown,
-        behind: bool,
+        behind: &mut bool,
     ) -> io::Result<()> {
-        let waiting = self.waiting;
-        let in_force = self.in_force;
         if self.gains {
-            put_name(rt, behind, b"gains ")?;
+            put_name(rt, behind, "gains ")?;
             put_gains(rt, settings.gains)?;
             put_doubt(rt, known.gains)?;
         }
-        let behind_gains = behind | self.gains;
         if self.stop {
-            put_name(rt, behind_gains, b"stop ")?;
-            put_byte(rt, settings.stop)?;
+            put_name(rt, behind, "stop ")?;
+            print!(rt; "{:02X}", settings.stop)?;
             put_doubt(rt, known.stop)?;
         }
-        let behind_stop = behind_gains | self.stop;
-        waiting.put(
-            rt,
-            b"waiting ",
-            settings.waiting,
-            known.waiting,
-            behind_stop,
-        )?;
-        in_force.put(
-            rt,
-            b"",
-            settings.in_force,
-            known.in_force,
-            behind_stop | waiting.has_any(),
-        )
+        self.waiting
+            .put(rt, "waiting ", settings.waiting, known.waiting, behind)?;
+        self.in_force
+            .put(rt, "", settings.in_force, known.in_force, behind)
     }
 }

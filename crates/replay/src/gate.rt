@@ -1,7 +1,6 @@
 // A gate's own settings: which of them differ, and their words.
 use crate::setting::{put_doubt, put_name};
 use crate::values::{put_held, put_pwm};
-use crate::writing::{put_byte, put_word};
 use command::{Held, Pwm};
 use entry::GateKnown;
 use node::GateSettings;
@@ -57,28 +56,26 @@ impl GateChosen {
         rt: &impl Print,
         settings: GateSettings,
         known: GateKnown,
-        behind: bool,
+        behind: &mut bool,
     ) -> io::Result<()> {
         if self.outputs {
-            put_name(rt, behind, b"outputs ")?;
-            put_word(rt, settings.outputs)?;
+            put_name(rt, behind, "outputs ")?;
+            print!(rt; "{:04X}", settings.outputs)?;
             put_doubt(rt, known.outputs)?;
         }
-        let behind_outputs = behind | self.outputs;
         if self.pwm {
-            put_name(rt, behind_outputs, b"PWM ")?;
+            put_name(rt, behind, "PWM ")?;
             put_pwm(rt, settings.pwm)?;
             put_doubt(rt, known.pwm)?;
         }
-        let behind_pwm = behind_outputs | self.pwm;
         if self.held {
-            put_name(rt, behind_pwm, b"held ")?;
+            put_name(rt, behind, "held ")?;
             put_held(rt, settings.held)?;
             put_doubt(rt, known.held)?;
         }
         if self.timer {
-            put_name(rt, behind_pwm | self.held, b"timer ")?;
-            put_byte(rt, settings.timer)?;
+            put_name(rt, behind, "timer ")?;
+            print!(rt; "{:02X}", settings.timer)?;
             put_doubt(rt, known.timer)?;
         }
         Ok(())

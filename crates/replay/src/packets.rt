@@ -1,10 +1,11 @@
 // The walk: a line for each packet, when it came, on which line, its bytes, what it says, and what it did; and how the walk ended.
 ghost use Rattle.std.specs.Prelude.{◌≡◌, IfOk, get_or};
+ghost use Rattle.capture.specs.Captures.{of_lines};
 ghost use Rattle.recording.specs.Recording.{replay_of};
 
 use crate::record::put_changes;
 use crate::words::{kind_of_call, kind_of_foreign, put_judged, put_spoken};
-use crate::writing::{put, put_bytes, put_decimal};
+use capture::Recording;
 use recording::{Event, Moved, Stage};
 use session::Session;
 use std::io;
@@ -14,10 +15,7 @@ use wire::{Kind, MOST_NODES};
 fn time_at(times: &[u32], at: usize) -> u32
     ensures { result ≡ get_or times.now at 0 }
 {
-    if at < times.len() {
-        return times[at];
-    }
-    0
+    times.get(at).copied().unwrap_or(0)
 }
 
 // Whether a command waits for its reply: whether silence closes an exchange.
@@ -34,8 +32,16 @@ fn is_waiting(s: Session) -> bool {
 // What silence did to the command that waited.
 fn put_silence(rt: &impl Print, s: Session) -> io::Result<()> {
     let step = reports::silence(s);
-    put(rt, b"silence before it: ")?;
+    print!(rt; "silence before it: ")?;
     put_changes(rt, s, step.session)
+}
+
+// A space and two capitals for each byte.
+fn put_bytes(rt: &impl Print, bytes: &[u8]) -> io::Result<()> {
+    for b in bytes {
+        print!(rt; " {b:02X}")?;
+    }
+    Ok(())
 }
 
 // A command's line: the kind of node by which it is read, the session before it, and what it did.
@@ -45,19 +51,18 @@ fn put_command_line(
     kind: Kind,
     bytes: &[u8],
     before: Session,
-    did: &[u8],
+    did: &str,
 ) -> io::Result<()> {
-    put_decimal(rt, time as u64)?;
-    put(rt, b" >")?;
+    print!(rt; "{time} >")?;
     put_bytes(rt, bytes)?;
-    put(rt, b" | ")?;
+    print!(rt; " | ")?;
     put_spoken(rt, kind, bytes)?;
-    put(rt, b" | ")?;
+    print!(rt; " | ")?;
     if is_waiting(before) {
         put_silence(rt, before)?;
-        put(rt, b"; ")?;
+        print!(rt; "; ")?;
     }
-    put(rt, did)
+    println!(rt; "{did}")
 }
 
 // A command that the host sent, by the session behind it.
@@ -76,10 +81,10 @@ fn put_sent(
             kind,
             bytes,
             before,
-            b"sent, the session closes, all in doubt\n",
+            "sent, the session closes, all in doubt",
         )
     } else {
-        put_command_line(rt, time, kind, bytes, before, b"sent\n")
+        put_command_line(rt, time, kind, bytes, before, "sent")
     }
 }
 
@@ -92,18 +97,17 @@ fn put_foreign(rt: &impl Print, time: u32, bytes: &[u8], before: Session) -> io:
         kind,
         bytes,
         before,
-        b"not the host's, the walk ends\n",
+        "not the host's, the walk ends",
     )
 }
 
 // A reply's line, up to what it did.
 fn put_reply(rt: &impl Print, time: u32, bytes: &[u8]) -> io::Result<()> {
-    put_decimal(rt, time as u64)?;
-    put(rt, b" <")?;
+    print!(rt; "{time} <")?;
     put_bytes(rt, bytes)?;
-    put(rt, b" | ")?;
+    print!(rt; " | ")?;
     put_judged(rt, bytes)?;
-    put(rt, b" | ")
+    print!(rt; " | ")
 }
 
 // A reply that a command waited for: the sessions before and behind it.
@@ -116,40 +120,32 @@ fn put_answered(
 ) -> io::Result<()> {
     put_reply(rt, time, bytes)?;
     put_changes(rt, before, after)?;
-    put(rt, b"\n")
+    println!(rt; "")
 }
 
 fn put_unawaited(rt: &impl Print, time: u32, bytes: &[u8]) -> io::Result<()> {
     put_reply(rt, time, bytes)?;
-    put(rt, b"nobody waits for it\n")
+    println!(rt; "nobody waits for it")
 }
 
 fn put_end(rt: &impl Print, before: Session) -> io::Result<()> {
-    put(rt, b"end of the recording")?;
+    print!(rt; "end of the recording")?;
     if is_waiting(before) {
-        put(rt, b" | ")?;
+        print!(rt; " | ")?;
         put_silence(rt, before)?;
     }
-    put(rt, b"\n")
+    println!(rt; "")
 }
 
 // The line of a step: the stage before it, and what it did.
-fn put_step<'a>(
-    rt: &impl Print,
-    command: &'a [u8],
-    command_times: &[u32],
-    reply: &'a [u8],
-    reply_times: &[u32],
-    before: Stage,
-    moved: Moved,
-) -> io::Result<()> {
+fn put_step(rt: &impl Print, taken: Recording, before: Stage, moved: Moved) -> io::Result<()> {
     let at = before.at;
     let old = before.session;
     let stage = moved.stage;
     let new = stage.session;
-    let bytes = capture::packet_at(command, command_times, reply, reply_times, at);
-    let sent_at = time_at(command_times, at.command);
-    let came_at = time_at(reply_times, at.reply);
+    let bytes = capture::packet_at(taken, at);
+    let sent_at = time_at(taken.command.times, at.command);
+    let came_at = time_at(taken.reply.times, at.reply);
     let event = moved.event;
     match event {
         Event::Sent(call) => put_sent(rt, sent_at, kind_of_call(call), bytes, old, new),
@@ -161,22 +157,19 @@ fn put_step<'a>(
 }
 
 // Walks through a recording of n nodes of these kinds, and writes a line for each step. The session at its end is the one that `recording::replay` gives.
-pub(crate) fn replay<'a>(
+pub(crate) fn replay(
     rt: &impl Print,
     n: u8,
     kinds: [Kind; MOST_NODES],
-    command: &'a [u8],
-    command_times: &[u32],
-    reply: &'a [u8],
-    reply_times: &[u32],
+    taken: Recording,
 ) -> io::Result<Session>
-    ensures { IfOk result (λ last. last ≡ (replay_of n kinds command.now command_times.now reply.now reply_times.now).session) }
+    ensures { IfOk result (λ last. last ≡ (of_lines (replay_of n kinds) taken.entry).session) }
 {
-    let begun = recording::begin(n, kinds, command, command_times, reply, reply_times);
+    let begun = recording::begin(n, kinds, taken);
     let mut stage = begun.stage;
     loop {
-        let moved = recording::advance(command, command_times, reply, reply_times, stage);
-        put_step(rt, command, command_times, reply, reply_times, stage, moved)?;
+        let moved = recording::advance(taken, stage);
+        put_step(rt, taken, stage, moved)?;
         let next = moved.stage;
         if next.over {
             return Ok(next.session);

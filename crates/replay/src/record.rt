@@ -3,7 +3,6 @@ use crate::drive::DriveChosen;
 use crate::gate::GateChosen;
 use crate::setting::{put_doubt, put_name};
 use crate::values::put_place;
-use crate::writing::{put, put_byte, put_decimal};
 use command::Place;
 use entry::Entry;
 use session::Session;
@@ -52,11 +51,9 @@ impl Chosen {
 
     // Whether a node of this kind has one of them.
     fn has_any(self, kind: Kind) -> bool {
-        let gate = self.gate;
-        let drive = self.drive;
         let own = match kind {
-            Kind::Gate => gate.has_any(),
-            Kind::Drive => drive.has_any(),
+            Kind::Gate => self.gate.has_any(),
+            Kind::Drive => self.drive.has_any(),
         };
         self.place | self.mask | self.divisor | own
     }
@@ -68,35 +65,28 @@ impl Chosen {
 fn put_settings(rt: &impl Print, e: Entry, chosen: Chosen) -> io::Result<()> {
     let settings = e.settings;
     let known = e.known;
-    let gate = chosen.gate;
-    let drive = chosen.drive;
+    let mut behind = false;
     if chosen.place {
-        put(rt, b"place ")?;
+        put_name(rt, &mut behind, "place ")?;
         put_place(rt, settings.place)?;
         put_doubt(rt, known.place)?;
     }
     if chosen.mask {
-        put_name(rt, chosen.place, b"mask ")?;
-        put_byte(rt, settings.mask)?;
+        put_name(rt, &mut behind, "mask ")?;
+        print!(rt; "{:02X}", settings.mask)?;
         put_doubt(rt, known.mask)?;
     }
-    let behind_mask = chosen.place | chosen.mask;
     if chosen.divisor {
-        put_name(rt, behind_mask, b"divisor ")?;
-        put_byte(rt, settings.divisor)?;
+        put_name(rt, &mut behind, "divisor ")?;
+        print!(rt; "{:02X}", settings.divisor)?;
         put_doubt(rt, known.divisor)?;
     }
-    let behind = behind_mask | chosen.divisor;
-    let kind = e.kind;
-    match kind {
-        Kind::Gate => gate.put(rt, settings.gate, known.gate, behind),
-        Kind::Drive => drive.put(rt, settings.drive, known.drive, behind),
+    match e.kind {
+        Kind::Gate => chosen.gate.put(rt, settings.gate, known.gate, &mut behind),
+        Kind::Drive => chosen
+            .drive
+            .put(rt, settings.drive, known.drive, &mut behind),
     }
-}
-
-fn put_node_name(rt: &impl Print, node: u8) -> io::Result<()> {
-    put(rt, b"node ")?;
-    put_decimal(rt, node as u64)
 }
 
 // A node's entry.
@@ -121,13 +111,11 @@ fn put_node_changes(
     let old = entry_of(before, node);
     let new = entry_of(after, node);
     let chosen = Chosen::changed(old, new);
-    let kind = new.kind;
-    if chosen.has_any(kind) {
+    if chosen.has_any(new.kind) {
         if some {
-            put(rt, b"; ")?;
+            print!(rt; "; ")?;
         }
-        put_node_name(rt, node)?;
-        put(rt, b": ")?;
+        print!(rt; "node {node}: ")?;
         put_settings(rt, new, chosen)?;
         return Ok(true);
     }
@@ -137,57 +125,45 @@ fn put_node_changes(
 // The settings that the record shows otherwise than before, node by node.
 pub(crate) fn put_changes(rt: &impl Print, before: Session, after: Session) -> io::Result<()> {
     let mut some = false;
-    let mut i: u8 = 0;
-    while i < after.n {
-        some = put_node_changes(rt, before, after, i + 1, some)?;
-        i += 1;
+    for node in 1..=after.n {
+        some = put_node_changes(rt, before, after, node, some)?;
     }
     if !some {
-        put(rt, b"no change")?;
+        print!(rt; "no change")?;
     }
     Ok(())
 }
 
 // How many nodes there are, and how far their walk is.
 fn put_walk(rt: &impl Print, s: Session) -> io::Result<()> {
-    put_decimal(rt, s.n as u64)?;
-    if s.n == 1 {
-        put(rt, b" node, ")?;
-    } else {
-        put(rt, b" nodes, ")?;
-    }
+    let plural = if s.n == 1 { "" } else { "s" };
+    print!(rt; "{} node{plural}, ", s.n)?;
     if session::is_closed(s) {
-        return put(rt, b"closed\n");
+        return println!(rt; "closed");
     }
     if s.walk < s.n {
-        put(rt, b"walk at ")?;
-        put_decimal(rt, s.walk as u64)?;
-        put(rt, b"\n")
+        println!(rt; "walk at {}", s.walk)
     } else {
-        put(rt, b"ready\n")
+        println!(rt; "ready")
     }
 }
 
 // A node's line: its kind, if it is a drive, and all of its settings.
 fn put_node(rt: &impl Print, s: Session, node: u8) -> io::Result<()> {
     let e = entry_of(s, node);
-    put_node_name(rt, node)?;
-    let kind = e.kind;
-    match kind {
-        Kind::Gate => put(rt, b": "),
-        Kind::Drive => put(rt, b", drive: "),
+    match e.kind {
+        Kind::Gate => print!(rt; "node {node}: "),
+        Kind::Drive => print!(rt; "node {node}, drive: "),
     }?;
     put_settings(rt, e, Chosen::ALL)?;
-    put(rt, b"\n")
+    println!(rt; "")
 }
 
 // The record: a line for the session, and a line for each node.
 pub(crate) fn put_record(rt: &impl Print, s: Session) -> io::Result<()> {
     put_walk(rt, s)?;
-    let mut i: u8 = 0;
-    while i < s.n {
-        put_node(rt, s, i + 1)?;
-        i += 1;
+    for node in 1..=s.n {
+        put_node(rt, s, node)?;
     }
     Ok(())
 }

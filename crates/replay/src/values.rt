@@ -1,5 +1,4 @@
 // The values that commands bring and settings have, in words.
-use crate::writing::{put, put_byte, put_long, put_with_byte, put_with_word, put_word};
 use command::{Gains, Held, Place, Pwm};
 use std::io;
 
@@ -8,47 +7,40 @@ const MOST_POSITION: u32 = 0x7FFFFFFF;
 
 // An address, a group, and whether the node leads it.
 pub(crate) fn put_place(rt: &impl Print, p: Place) -> io::Result<()> {
-    put_byte(rt, p.address.0)?;
-    put(rt, b" group ")?;
-    put_byte(rt, p.group.0)?;
+    print!(rt; "{:02X} group {:02X}", p.address.0, p.group.0)?;
     if p.leader {
-        put(rt, b" leader")?;
+        print!(rt; " leader")?;
     }
     Ok(())
 }
 
 // Both PWM values.
 pub(crate) fn put_pwm(rt: &impl Print, p: Pwm) -> io::Result<()> {
-    put_byte(rt, p.first)?;
-    put(rt, b" ")?;
-    put_byte(rt, p.second)
+    print!(rt; "{:02X} {:02X}", p.first, p.second)
 }
 
 // Outputs and both PWM values.
 pub(crate) fn put_held(rt: &impl Print, h: Held) -> io::Result<()> {
-    let pwm = h.pwm;
-    put_word(rt, h.outputs)?;
-    put(rt, b" ")?;
-    put_pwm(rt, pwm)
+    print!(rt; "{:04X} ", h.outputs)?;
+    put_pwm(rt, h.pwm)
 }
 
 // Gains by the manual's names, in the sequence in which they are sent.
 pub(crate) fn put_gains(rt: &impl Print, g: Gains) -> io::Result<()> {
-    put_with_word(rt, b"KP ", g.kp)?;
-    put_with_word(rt, b" KD ", g.kd)?;
-    put_with_word(rt, b" KI ", g.ki)?;
-    put_with_word(rt, b" IL ", g.il)?;
-    put_with_byte(rt, b" OL ", g.ol)?;
-    put_with_word(rt, b" EL ", g.el)?;
-    put_with_byte(rt, b" SR ", g.sr)?;
-    put_with_byte(rt, b" DB ", g.db)
+    print!(rt;
+        "KP {:04X} KD {:04X} KI {:04X} IL {:04X} ",
+        g.kp, g.kd, g.ki, g.il
+    )?;
+    print!(rt;
+        "OL {:02X} EL {:04X} SR {:02X} DB {:02X}",
+        g.ol, g.el, g.sr, g.db
+    )
 }
 
 // A position: its size, with `-` in front if it is negative.
 pub(crate) fn put_position(rt: &impl Print, position: u32) -> io::Result<()> {
     if MOST_POSITION < position {
-        put(rt, b"-")?;
-        return put_long(rt, u32::MAX - position + 1);
+        return print!(rt; "-{:08X}", u32::MAX - position + 1);
     }
-    put_long(rt, position)
+    print!(rt; "{position:08X}")
 }

@@ -1,6 +1,5 @@
 // What a packet says: a command's name, its data and whom it is for; a reply by itself.
 use crate::values::{put_gains, put_held, put_place, put_position, put_pwm};
-use crate::writing::{put, put_byte, put_decimal, put_long, put_with_byte, put_with_word};
 use calls::{Call, Spoken};
 use command::{Command, Loads, Motion, Role, Stop};
 use session::Session;
@@ -10,38 +9,32 @@ use wire::{Address, Individual, Kind, Refusal};
 
 // ---- a command's data
 
-// A name and a position.
-fn put_with_position(rt: &impl Print, name: &[u8], position: u32) -> io::Result<()> {
-    put(rt, name)?;
-    put_position(rt, position)
-}
-
 // A control byte, and each value that it loads.
 fn put_load(rt: &impl Print, m: Motion) -> io::Result<()> {
     let brought = Loads::of(m.control);
-    put_byte(rt, m.control)?;
+    print!(rt; "{:02X}", m.control)?;
     if brought.position {
-        put_with_position(rt, b" position ", m.position)?;
+        print!(rt; " position ")?;
+        put_position(rt, m.position)?;
     }
     if brought.velocity {
-        put(rt, b" velocity ")?;
-        put_long(rt, m.velocity)?;
+        print!(rt; " velocity {:08X}", m.velocity)?;
     }
     if brought.acceleration {
-        put(rt, b" acceleration ")?;
-        put_long(rt, m.acceleration)?;
+        print!(rt; " acceleration {:08X}", m.acceleration)?;
     }
     if brought.pwm {
-        put_with_byte(rt, b" PWM ", m.pwm)?;
+        print!(rt; " PWM {:02X}", m.pwm)?;
     }
     Ok(())
 }
 
 // A stop byte, and the position to stop at where it brings one.
 fn put_stop(rt: &impl Print, s: Stop) -> io::Result<()> {
-    put_byte(rt, s.byte)?;
+    print!(rt; "{:02X}", s.byte)?;
     if command::is_stop_here(s.byte) {
-        put_with_position(rt, b" position ", s.position)?;
+        print!(rt; " position ")?;
+        put_position(rt, s.position)?;
     }
     Ok(())
 }
@@ -50,38 +43,38 @@ fn put_stop(rt: &impl Print, s: Stop) -> io::Result<()> {
 fn put_command(rt: &impl Print, c: Command) -> io::Result<()> {
     match c {
         Command::SetAddress(place) => {
-            put(rt, b"Set Address ")?;
+            print!(rt; "Set Address ")?;
             put_place(rt, place)
         }
-        Command::DefineStatus(mask) => put_with_byte(rt, b"Define Status ", mask),
-        Command::ReadStatus(mask) => put_with_byte(rt, b"Read Status ", mask),
+        Command::DefineStatus(mask) => print!(rt; "Define Status {mask:02X}"),
+        Command::ReadStatus(mask) => print!(rt; "Read Status {mask:02X}"),
         Command::SetPwm(pwm) => {
-            put(rt, b"Set PWM ")?;
+            print!(rt; "Set PWM ")?;
             put_pwm(rt, pwm)
         }
-        Command::SynchOutput => put(rt, b"Synch Output"),
-        Command::SetOutputs(outputs) => put_with_word(rt, b"Set Outputs ", outputs),
+        Command::SynchOutput => print!(rt; "Synch Output"),
+        Command::SetOutputs(outputs) => print!(rt; "Set Outputs {outputs:04X}"),
         Command::SetSynchOutput(held) => {
-            put(rt, b"Set Synch Output ")?;
+            print!(rt; "Set Synch Output ")?;
             put_held(rt, held)
         }
-        Command::SetTimerMode(mode) => put_with_byte(rt, b"Set Timer Mode ", mode),
-        Command::SetBaudRate(divisor) => put_with_byte(rt, b"Set Baud Rate ", divisor),
-        Command::SynchInput => put(rt, b"Synch Input"),
-        Command::Nop => put(rt, b"Nop"),
-        Command::HardReset => put(rt, b"Hard Reset"),
-        Command::ResetPosition => put(rt, b"Reset Position"),
+        Command::SetTimerMode(mode) => print!(rt; "Set Timer Mode {mode:02X}"),
+        Command::SetBaudRate(divisor) => print!(rt; "Set Baud Rate {divisor:02X}"),
+        Command::SynchInput => print!(rt; "Synch Input"),
+        Command::Nop => print!(rt; "Nop"),
+        Command::HardReset => print!(rt; "Hard Reset"),
+        Command::ResetPosition => print!(rt; "Reset Position"),
         Command::LoadTrajectory(motion) => {
-            put(rt, b"Load Trajectory ")?;
+            print!(rt; "Load Trajectory ")?;
             put_load(rt, motion)
         }
-        Command::StartMotion => put(rt, b"Start Motion"),
+        Command::StartMotion => print!(rt; "Start Motion"),
         Command::SetGain(gains) => {
-            put(rt, b"Set Gain ")?;
+            print!(rt; "Set Gain ")?;
             put_gains(rt, gains)
         }
         Command::StopMotor(stop) => {
-            put(rt, b"Stop Motor ")?;
+            print!(rt; "Stop Motor ")?;
             put_stop(rt, stop)
         }
     }
@@ -92,19 +85,15 @@ fn put_command(rt: &impl Print, c: Command) -> io::Result<()> {
 // A node by its number; address 00 is no node's.
 fn put_individual(rt: &impl Print, a: u8) -> io::Result<()> {
     if a < 1 {
-        return put(rt, b" to address 00");
+        return print!(rt; " to address 00");
     }
-    put(rt, b" to node ")?;
-    put_decimal(rt, a as u64)
+    print!(rt; " to node {a}")
 }
 
 fn put_to(rt: &impl Print, to: Address) -> io::Result<()> {
     match to {
         Address::Individual(i) => put_individual(rt, i.0),
-        Address::Group(g) => {
-            put(rt, b" to group ")?;
-            put_byte(rt, g.0)
-        }
+        Address::Group(g) => print!(rt; " to group {:02X}", g.0),
     }
 }
 
@@ -113,23 +102,13 @@ fn put_to(rt: &impl Print, to: Address) -> io::Result<()> {
 // A command of the host: by a kind that has what its call sends. Both have what the calls other than orders send.
 pub(crate) fn kind_of_call(call: Call) -> Kind {
     match call {
-        Call::Order { to: _, command } => {
+        Call::Order { command, .. } => {
             if command::has(Kind::Gate, command) {
                 return Kind::Gate;
             }
             Kind::Drive
         }
-        Call::Next => Kind::Gate,
-        Call::Ask => Kind::Gate,
-        Call::Regroup {
-            node: _,
-            group: _,
-            leader: _,
-        } => Kind::Gate,
-        Call::SetBaudRate {
-            group: _,
-            divisor: _,
-        } => Kind::Gate,
+        Call::Next | Call::Ask | Call::Regroup { .. } | Call::SetBaudRate { .. } => Kind::Gate,
     }
 }
 
@@ -158,11 +137,11 @@ pub(crate) fn kind_of_foreign(s: Session, bytes: &[u8]) -> Kind {
 // Why some bytes are no packet.
 fn put_refusal(rt: &impl Print, why: Refusal) -> io::Result<()> {
     match why {
-        Refusal::Short => put(rt, b"cut short"),
-        Refusal::Header => put(rt, b"no header"),
-        Refusal::Sum => put(rt, b"wrong sum"),
+        Refusal::Short => print!(rt; "cut short"),
+        Refusal::Header => print!(rt; "no header"),
+        Refusal::Sum => print!(rt; "wrong sum"),
         // 3: understanding has no other refusal.
-        _ => put(rt, b"bytes left over"),
+        _ => print!(rt; "bytes left over"),
     }
 }
 
@@ -179,12 +158,12 @@ pub(crate) fn put_spoken(rt: &impl Print, kind: Kind, bytes: &[u8]) -> io::Resul
     match calls::understand(kind, bytes) {
         Spoken::Command { to, command } => {
             if is_untaken(kind, command) {
-                return put(rt, b"another command");
+                return print!(rt; "another command");
             }
             put_command(rt, command)?;
             put_to(rt, to)
         }
-        Spoken::Other => put(rt, b"another command"),
+        Spoken::Other => print!(rt; "another command"),
         Spoken::Refused(why) => put_refusal(rt, why),
     }
 }
@@ -192,8 +171,8 @@ pub(crate) fn put_spoken(rt: &impl Print, kind: Kind, bytes: &[u8]) -> io::Resul
 // What a packet of the reply line says, by itself.
 pub(crate) fn put_judged(rt: &impl Print, bytes: &[u8]) -> io::Result<()> {
     match status::judge(bytes) {
-        Answer::Clear => put(rt, b"clear"),
-        Answer::Marked => put(rt, b"not clear"),
-        Answer::Silent => put(rt, b"not good"),
+        Answer::Clear => print!(rt; "clear"),
+        Answer::Marked => print!(rt; "not clear"),
+        Answer::Silent => print!(rt; "not good"),
     }
 }

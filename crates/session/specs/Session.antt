@@ -36,6 +36,10 @@ pub record Valid (s : Session) : Type 0 where
   pub valid : is_valid s ≡ true
   pub whole : length s.entries ≡ most_nodes
 
+-- how a call ends: refused, or done, and sent as so many bytes if it sends
+abbrev pub End : Type 0
+End = Result (Option ℕ) Refusal
+
 abbrev pub step_number : Step → ℕ
 step_number r = number_by r.end
 

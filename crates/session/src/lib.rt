@@ -33,10 +33,13 @@ pub struct Session {
     pub entries: [Entry; MOST_NODES],
 }
 
+// How a call ends: refused, or done, and sent as so many bytes if it sends.
+pub type End = Result<Option<usize>, Refusal>;
+
 // The session after a call; of a refused one, the session as it was handed in.
 #[derive(Clone, Copy)]
 pub struct Step {
-    pub end: Result<Option<usize>, Refusal>,
+    pub end: End,
     pub session: Session,
 }
 

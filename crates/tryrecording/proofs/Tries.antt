@@ -15,12 +15,11 @@ use Rattle.wire.specs.declared.refusal.Refusal.{Refusal}
 use Rattle.wire.proofs.Choice.{both}
 use Rattle.wire.proofs.Impossible.{impossible}
 use Rattle.session.specs.declared.Session.{Session}
-use Rattle.capture.specs.declared.Checked.{Checked}
-use Rattle.capture.specs.declared.Checked.TheVariants as checked
+use Rattle.std.specs.Prelude.{Result, Ok, Err}
 use Rattle.capture.specs.Steps.{outset, left_at}
 use Rattle.recording.proofs.Sound.{good_sound}
 use Rattle.recording.specs.declared.Begun.{Begun}
-use Rattle.recording.specs.declared.Ending.TheVariants.{Ended, Foreign, Refused}
+use Rattle.recording.specs.declared.Ending.{Ending}
 use Rattle.recording.specs.declared.Replayed.{Replayed}
 use Rattle.recording.specs.Recording.{recording_check, power_of, follow_of, replay_by, replay_of, replayed_number}
 use Rattle.recording.specs.Stages.{begin_of, begun_number}
@@ -28,7 +27,7 @@ use Rattle.fields.specs.Field.{fields_byte}
 use Rattle.fields.specs.Kind.{are_kinds, read_kinds}
 use Rattle.tryrecording.specs.Form.{byte_count, byte_part, time_count, times_in, capture_length, most_captured, is_capture, kind_part, command_part, reply_part, are_captures, is_recording}
 use Rattle.tryrecording.specs.Writing.{WroteEach}
-use Rattle.tryrecording.specs.Trying.{steps_of, joined_steps, head_bytes, state_bytes, walk_bytes, replay_bytes, captured_bytes, recording_bytes, tryrecording_replay}
+use Rattle.tryrecording.specs.Trying.{steps_of, end_byte, joined_steps, head_bytes, state_bytes, walk_bytes, replay_bytes, captured_bytes, recording_bytes, tryrecording_replay}
 use Rattle.tryrecording.specs.Moves.{steps_from, Walkable, IsGood}
 use Rattle.tryrecording.proofs.Writes.{each_then}
 
@@ -61,44 +60,26 @@ module _ (n : ℕ) (ks : List Kind) (cs cts rs rts : List ℕ) (b : Begun) (g : 
 
 -- ---- by how it ended
 
-ended_good : (c : Checked) (x : Replayed) → (replay_by c x).ending ≡ Ended → c ≡ checked.Good
-ended_good checked.Good x e = refl
-ended_good (checked.Refused why) x e = impossible cc
-
-foreign_good : (c : Checked) (x : Replayed) → (replay_by c x).ending ≡ Foreign → c ≡ checked.Good
-foreign_good checked.Good x e = refl
-foreign_good (checked.Refused why) x e = impossible cc
+ended_good : (c : Result (Unit {0}) Refusal) (x : Replayed) (end : Ending) → (replay_by c x).ending ≡ Ok end → c ≡ Ok tt
+ended_good (Ok u) x end e = refl
+ended_good (Err why) x end e = impossible cc
 
 module _ (n : ℕ) (ks : List Kind) (cs cts rs rts : List ℕ) (x : Replayed) (p : Promise replayed_number x (replay_of n ks cs cts rs rts)) where
-  module _ (h : length cts ≤ 0x400) (k : length rts ≤ 0x400) where
-    pub good_ended : x.ending ≡ Ended → IsGood n ks cs cts rs rts
-    unfolding replay_of
-    good_ended e = record {
-      good = ended_good (recording_check n ks cs cts rs rts) (follow_of (power_of n ks) (left_at cs cts rs rts outset)) (rw p.answer at e);
-      command = h;
-      reply = k;
-    }
-
-    pub good_foreign : x.ending ≡ Foreign → IsGood n ks cs cts rs rts
-    unfolding replay_of
-    good_foreign e = record {
-      good = foreign_good (recording_check n ks cs cts rs rts) (follow_of (power_of n ks) (left_at cs cts rs rts outset)) (rw p.answer at e);
-      command = h;
-      reply = k;
-    }
+  pub good_ended : (end : Ending) → length cts ≤ 0x400 → length rts ≤ 0x400 → x.ending ≡ Ok end → IsGood n ks cs cts rs rts
+  unfolding replay_of
+  good_ended end h k e = record {
+    good = ended_good (recording_check n ks cs cts rs rts) (follow_of (power_of n ks) (left_at cs cts rs rts outset)) end (rw p.answer at e);
+    command = h;
+    reply = k;
+  }
 
   module _ (out left : List ℕ) (r : ℕ) where
-    pub shows_ended : x.ending ≡ Ended → WroteEach (walk_bytes 0 (steps_of (power_of n ks) outset (left_at cs cts rs rts outset)) x.session) 0 out r left
-        → WroteEach (replay_bytes n ks cs cts rs rts) 0 out r left
+    pub shows_ended : (end : Ending) (e : ℕ) → x.ending ≡ Ok end → e ≡ end_byte end
+        → WroteEach (walk_bytes e (steps_of (power_of n ks) outset (left_at cs cts rs rts outset)) x.session) 0 out r left → WroteEach (replay_bytes n ks cs cts rs rts) 0 out r left
     unfolding replay_bytes
-    shows_ended e w = rw (← p.answer, e) w
+    shows_ended end e f g w = rw (← p.answer, f, ← g) w
 
-    pub shows_foreign : x.ending ≡ Foreign → WroteEach (walk_bytes 1 (steps_of (power_of n ks) outset (left_at cs cts rs rts outset)) x.session) 0 out r left
-        → WroteEach (replay_bytes n ks cs cts rs rts) 0 out r left
-    unfolding replay_bytes
-    shows_foreign e w = rw (← p.answer, e) w
-
-    pub shows_refused : (why : Refusal) (k : ℕ) → x.ending ≡ Refused why → k ≡ number_of why → WroteEach (k ∷ []) 0 out r left → WroteEach (replay_bytes n ks cs cts rs rts) 0 out r left
+    pub shows_refused : (why : Refusal) (k : ℕ) → x.ending ≡ Err why → k ≡ number_of why → WroteEach (k ∷ []) 0 out r left → WroteEach (replay_bytes n ks cs cts rs rts) 0 out r left
     unfolding replay_bytes
     shows_refused why k e f w = rw (← p.answer, e, ← f) w
 

@@ -2,7 +2,6 @@
 use Prim.Native.Nat.{ℕ, ◌*◌, ◌/◌, ◌≤◌, ◌<◌}
 use Rattle.wire.specs.declared.refusal.Refusal.{Refusal}
 use Rattle.calls.specs.declared.Call.{Call}
-use Rattle.std.specs.Prelude.{Option, Some, None, Result, Ok, Err, ℕ}
 use mathlib.Core.Bool.{Bool, true, false, cond}
 use mathlib.Core.List.{List, [], ◌∷◌, ◌++◌}
 use mathlib.Core.Path.{◌≡◌, refl, subst}
@@ -16,7 +15,9 @@ use Rattle.capture.specs.Packets.{Packet}
 use Rattle.capture.specs.Steps.{Recorded, sent, got, left_at, packet_from, capture_step, bytes_left}
 use Rattle.capture.specs.declared.Cursor.{Cursor}
 use Rattle.capture.specs.declared.Stepped.{Stepped}
-use Rattle.capture.specs.declared.Stepped.TheVariants as stepped
+use Rattle.std.specs.Prelude.{Option, Some, None, Result, Ok, Err, ℕ}
+use Rattle.capture.specs.declared.Line.{Line}
+use Rattle.capture.specs.declared.Line.TheVariants.{Command, Reply}
 use Rattle.capture.proofs.Steps.{shows_command, shows_reply, shows_none, past_command_lem, past_reply_lem}
 use Rattle.recording.specs.declared.Stage.{Stage}
 use Rattle.recording.specs.declared.Event.{Event}
@@ -25,7 +26,7 @@ use Rattle.recording.specs.declared.Event.TheVariants as event
 use Rattle.recording.specs.declared.Moved.{Moved}
 use Rattle.recording.specs.Recording.{quiet_of}
 use Rattle.recording.proofs.Stepping.{advance_less}
-use Rattle.recording.specs.Stages.{command_by, reply_by, take_command, take_reply, take_end, advance_by, advance_of}
+use Rattle.recording.specs.Stages.{command_by, reply_by, take_command, take_reply, take_end, advance_on, advance_by, advance_of}
 use Rattle.tryrecording.specs.Writing.{WroteEach}
 use Rattle.tryrecording.specs.Trying.{step_bytes, past_command, past_reply, steps_of, joined_steps}
 use Rattle.tryrecording.specs.Moves.{event_bytes, steps_from, Walkable, Small}
@@ -84,17 +85,22 @@ module _ (cs cts rs rts : List ℕ) where
   reply_shown at p s (Err why) = rw (add-sub_cancel_left at.reply (length p.bytes))
 
   module _ (h : length cts ≡ length cs) (k : length rts ≡ length rs) where
-    by_step : (at : Cursor) (s : Session) (x : Stepped) → capture_step cts rts at ≡ x → joined_steps (steps_of s at (left_at cs cts rs rts at)) ≡ shown at (advance_by cs cts rs rts at s x)
-    unfolding steps_of take_command take_reply take_end
-    by_step at s (stepped.FromCommand next) e =
+    by_line_lem : (at : Cursor) (s : Session) (l : Line) (next : Cursor) → capture_step cts rts at ≡ Some (record { line = l; behind = next })
+        → joined_steps (steps_of s at (left_at cs cts rs rts at)) ≡ shown at (advance_on cs cts rs rts at s l next)
+    unfolding steps_of take_command take_reply
+    by_line_lem at s Command next e =
         let p : Packet = packet_from cs cts at.command in
         rw (shows_command cs cts rs rts at (capture_step cts rts at) h k next refl e, past_command_lem cs cts rs rts at (capture_step cts rts at) next h refl e)
         (command_shown at p (quiet_of s) (find_of (quiet_of s) p.bytes).session (find_of (quiet_of s) p.bytes).source)
-    by_step at s (stepped.FromReply next) e =
+    by_line_lem at s Reply next e =
         let p : Packet = packet_from rs rts at.reply in
         rw (shows_reply cs cts rs rts at (capture_step cts rts at) h k next refl e, past_reply_lem cs cts rs rts at (capture_step cts rts at) next k refl e)
         (reply_shown at p (report_of s p.bytes).session (report_of s p.bytes).end)
-    by_step at s stepped.End e = rw (shows_none cs cts rs rts at (capture_step cts rts at) h k refl e)
+
+    by_step : (at : Cursor) (s : Session) (x : Option Stepped) → capture_step cts rts at ≡ x → joined_steps (steps_of s at (left_at cs cts rs rts at)) ≡ shown at (advance_by cs cts rs rts at s x)
+    unfolding steps_of take_end
+    by_step at s (Some y) e = by_line_lem at s y.line y.behind e
+    by_step at s None e = rw (shows_none cs cts rs rts at (capture_step cts rts at) h k refl e)
 
     -- the steps that are left are the step's own, then those behind it
     pub steps_on : (g : Stage) (m : Moved) → g.over ≡ false → m ≡ advance_of cs cts rs rts g → joined_steps (steps_from cs cts rs rts g) ≡ shown g.at m

@@ -1,9 +1,8 @@
 -- Serves the contracts of the functions that write the steps of a walk.
-use Rattle.std.specs.Prelude.{ℕ, ◌+◌, ◌-◌, ◌*◌, ◌≤◌, false, List, [], ◌≡◌, length}
+use Rattle.std.specs.Prelude.{ℕ, ◌+◌, ◌-◌, ◌*◌, ◌≤◌, false, List, [], ◌≡◌, length, Ok}
 use Rattle.wire.specs.declared.kind.Kind.{Kind}
 use Rattle.capture.specs.declared.Cursor.{Cursor}
 use Rattle.capture.specs.Steps.{left_at, bytes_left}
-use Rattle.capture.specs.declared.Checked.TheVariants.{Good}
 use Rattle.recording.specs.Recording.{recording_check}
 use Rattle.recording.specs.declared.Stage.{Stage}
 use Rattle.recording.specs.declared.Event.{Event}
@@ -36,6 +35,6 @@ pub record Walkable (cs cts rs rts : List ℕ) (g : Stage) (at : ℕ) : Type 0 w
 
 -- a recording that isn't refused, and has no more times than a line may
 pub record IsGood (n : ℕ) (ks : List Kind) (cs cts rs rts : List ℕ) : Type 0 where
-  pub good : recording_check n ks cs cts rs rts ≡ Good
+  pub good : recording_check n ks cs cts rs rts ≡ Ok tt
   pub command : length cts ≤ 0x400
   pub reply : length rts ≤ 0x400

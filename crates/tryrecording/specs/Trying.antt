@@ -1,6 +1,7 @@
 -- The line `50` of the program `trials`: what it is answered, by the bytes behind its first.
-use Rattle.std.specs.Prelude.{ℕ, ◌+◌, ◌/◌, ◌%◌, cond, List, [], ◌∷◌, ◌++◌, length, take}
+use Rattle.std.specs.Prelude.{ℕ, ◌+◌, ◌/◌, ◌%◌, cond, List, [], ◌∷◌, ◌++◌, length, take, Result, Ok, Err}
 use Rattle.wire.specs.Numbers.{done, number_of}
+use Rattle.wire.specs.declared.refusal.Refusal.{Refusal}
 use Rattle.wire.specs.declared.kind.Kind.{Kind}
 use Rattle.session.specs.declared.Session.{Session}
 use Rattle.reports.specs.Report.{report_of}
@@ -9,7 +10,7 @@ use Rattle.capture.specs.declared.Cursor.{Cursor}
 use Rattle.capture.specs.Packets.{Packet}
 use Rattle.capture.specs.Steps.{Recorded, sent, got, outset, left_at}
 use Rattle.recording.specs.declared.Ending.{Ending}
-use Rattle.recording.specs.declared.Ending.TheVariants.{Ended, Foreign, Refused}
+use Rattle.recording.specs.declared.Ending.TheVariants.{Ended, Foreign}
 use Rattle.recording.specs.declared.Replayed.{Replayed}
 use Rattle.recording.specs.Recording.{quiet_of, power_of, replay_of}
 use Rattle.fields.specs.Field.{fields_byte}
@@ -54,11 +55,15 @@ head_bytes e count = done ∷ e ∷ count % 256 ∷ count / 256 % 256 ∷ []
 unfoldable pub walk_bytes : ℕ → List (List ℕ) → Session → List ℕ
 walk_bytes e steps s = head_bytes e (length steps) ++ joined_steps steps ++ state_bytes s
 
--- "`NN` for a refusal"; "end: 00 the recording ended; 01 a command that the host couldn't have sent ended it"
-abbrev pub replayed_bytes : Replayed → List (List ℕ) → Ending → List ℕ
-replayed_bytes r steps Ended = walk_bytes 0 steps r.session
-replayed_bytes r steps Foreign = walk_bytes 1 steps r.session
-replayed_bytes r steps (Refused why) = number_of why ∷ []
+-- "end: 00 the recording ended; 01 a command that the host couldn't have sent ended it"
+abbrev pub end_byte : Ending → ℕ
+end_byte Ended = 0
+end_byte Foreign = 1
+
+-- "`NN` for a refusal"
+abbrev pub replayed_bytes : Replayed → List (List ℕ) → Result Ending Refusal → List ℕ
+replayed_bytes r steps (Ok e) = walk_bytes (end_byte e) steps r.session
+replayed_bytes r steps (Err why) = number_of why ∷ []
 
 -- the walk of a recording from power-up on
 unfoldable pub replay_bytes : ℕ → List Kind → List ℕ → List ℕ → List ℕ → List ℕ → List ℕ

@@ -44,10 +44,8 @@ pub(crate) fn times_in(s: &[u8]) -> [u32; MOST_CAPTURED]
     let from = rest(time_part(s), 2);
     let count = time_count(s) as usize;
     let mut times = [0; MOST_CAPTURED];
-    let mut i = 0;
-    while i < count {
+    for i in 0..count {
         times[i] = long(from, 4 * i);
-        i += 1;
     }
     times
 }

@@ -8,13 +8,15 @@ mod steps;
 mod writing;
 
 ghost use Rattle.std.specs.Prelude.{true, ◌≡◌, ◌≤◌, length};
+ghost use Rattle.capture.specs.Captures.{of_lines, OfLines};
 ghost use Rattle.capture.specs.Steps.{outset, left_at};
 ghost use Rattle.recording.specs.Recording.{power_of};
 ghost use Rattle.tryrecording.specs.Form.{is_recording};
 ghost use Rattle.tryrecording.specs.Writing.{WroteEach};
-ghost use Rattle.tryrecording.specs.Trying.{steps_of, head_bytes, state_bytes, walk_bytes, replay_bytes, captured_bytes, recording_bytes, tryrecording_replay};
+ghost use Rattle.tryrecording.specs.Trying.{steps_of, end_byte, head_bytes, state_bytes, walk_bytes, replay_bytes, captured_bytes, recording_bytes, tryrecording_replay};
 ghost use Rattle.tryrecording.specs.Moves.{IsGood};
 
+use capture::{Capture, Recording};
 use fields::{byte, nothing, read_kinds};
 use form::{byte_part, command_part, is_recording, kind_part, reply_part, time_count, times_in};
 use recording::Ending;
@@ -29,9 +31,14 @@ use writing::put_bytes;
 pub const MOST_BYTES: usize = 11817;
 
 // How a walk ended.
-const ENDED: u8 = 0;
-
-const FOREIGN: u8 = 1;
+fn end_byte(ending: Ending) -> u8
+    ensures { result ≡ end_byte ending }
+{
+    match ending {
+        Ending::Ended => 0,
+        Ending::Foreign => 1,
+    }
+}
 
 // `00 end count(2)`, at the start of `out`; the position behind it.
 fn put_head_bytes(out: &mut [u8], end: u8, count: usize) -> usize
@@ -53,68 +60,35 @@ fn put_state_bytes(out: &mut [u8], at: usize, session: Session) -> usize
 }
 
 // `00 end count(2) STEP*count STATE`, of a recording that isn't refused.
-fn put_walk_bytes<'a>(
+fn put_walk_bytes(
     out: &mut [u8],
     end: u8,
     session: Session,
     n: u8,
     kinds: [Kind; MOST_NODES],
-    command: &'a [u8],
-    command_times: &[u32],
-    reply: &'a [u8],
-    reply_times: &[u32],
+    taken: Recording,
 ) -> usize
-    requires { IsGood n kinds command.now command_times.now reply.now reply_times.now }
-    ensures { WroteEach (walk_bytes end (steps_of (power_of n kinds) outset (left_at command.now command_times.now reply.now reply_times.now outset)) session) 0 out.old result out.new }
+    requires { OfLines (IsGood n kinds) taken }
+    ensures { WroteEach (walk_bytes end (steps_of (power_of n kinds) outset (of_lines left_at taken.entry outset)) session) 0 out.old result out.new }
 {
-    let begun = recording::begin(n, kinds, command, command_times, reply, reply_times);
+    let begun = recording::begin(n, kinds, taken);
     let stage = begun.stage;
-    let count = count_steps(command, command_times, reply, reply_times, stage);
+    let count = count_steps(taken, stage);
     let head = put_head_bytes(out, end, count);
-    let behind = put_steps_from(command, command_times, reply, reply_times, stage, out, head);
+    let behind = put_steps_from(taken, stage, out, head);
     put_state_bytes(out, behind, session)
 }
 
 // The walk of a recording, or its refusal.
-fn put_replay_bytes<'a>(
-    out: &mut [u8],
-    n: u8,
-    kinds: [Kind; MOST_NODES],
-    command: &'a [u8],
-    command_times: &[u32],
-    reply: &'a [u8],
-    reply_times: &[u32],
-) -> usize
-    requires { (length command_times.now ≤ 0x400) × (length reply_times.now ≤ 0x400) }
-    ensures { WroteEach (replay_bytes n kinds command.now command_times.now reply.now reply_times.now) 0 out.old result out.new }
+fn put_replay_bytes(out: &mut [u8], n: u8, kinds: [Kind; MOST_NODES], taken: Recording) -> usize
+    requires { (length taken.command.times.now ≤ 0x400) × (length taken.reply.times.now ≤ 0x400) }
+    ensures { WroteEach (of_lines (replay_bytes n kinds) taken.entry) 0 out.old result out.new }
 {
-    let replayed = recording::replay(n, kinds, command, command_times, reply, reply_times);
-    let ending = replayed.ending;
+    let replayed = recording::replay(n, kinds, taken);
     let session = replayed.session;
-    match ending {
-        Ending::Ended => put_walk_bytes(
-            out,
-            ENDED,
-            session,
-            n,
-            kinds,
-            command,
-            command_times,
-            reply,
-            reply_times,
-        ),
-        Ending::Foreign => put_walk_bytes(
-            out,
-            FOREIGN,
-            session,
-            n,
-            kinds,
-            command,
-            command_times,
-            reply,
-            reply_times,
-        ),
-        Ending::Refused(why) => put_bytes(out, 0, &[why.number()]),
+    match replayed.ending {
+        Ok(ending) => put_walk_bytes(out, end_byte(ending), session, n, kinds, taken),
+        Err(why) => put_bytes(out, 0, &[why.number()]),
     }
 }
 
@@ -129,15 +103,17 @@ fn put_captured_bytes(out: &mut [u8], kinds: [Kind; MOST_NODES], args: &[u8]) ->
     let reply_times = times_in(reply);
     let t = time_count(command) as usize;
     let u = time_count(reply) as usize;
-    put_replay_bytes(
-        out,
-        byte(args, 0),
-        kinds,
-        byte_part(command),
-        &command_times[0..t],
-        byte_part(reply),
-        &reply_times[0..u],
-    )
+    let taken = Recording {
+        command: Capture {
+            bytes: byte_part(command),
+            times: &command_times[0..t],
+        },
+        reply: Capture {
+            bytes: byte_part(reply),
+            times: &reply_times[0..u],
+        },
+    };
+    put_replay_bytes(out, byte(args, 0), kinds, taken)
 }
 
 // With its own.

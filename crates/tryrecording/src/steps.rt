@@ -1,11 +1,12 @@
 // The steps of a walk, a STEP for each packet.
 ghost use Rattle.std.specs.Prelude.{◌≡◌, ◌-◌, ◌≤◌, length};
+ghost use Rattle.capture.specs.Captures.{of_lines, OfLines};
 ghost use Rattle.tryrecording.specs.Writing.{WroteEach};
 ghost use Rattle.tryrecording.specs.Trying.{step_bytes, joined_steps};
 ghost use Rattle.tryrecording.specs.Moves.{event_bytes, steps_from, Walkable};
 
 use crate::writing::put_bytes;
-use capture::Cursor;
+use capture::{Cursor, Recording};
 use recording::{Event, Stage, advance};
 
 // The line that a packet was on.
@@ -55,22 +56,14 @@ fn put_event_bytes(out: &mut [u8], at: usize, event: Event, from: Cursor, to: Cu
 }
 
 // The steps from a stage on, from `from` on in `out`; the position behind them.
-pub(crate) fn put_steps_from<'a>(
-    command: &'a [u8],
-    command_times: &[u32],
-    reply: &'a [u8],
-    reply_times: &[u32],
-    begun: Stage,
-    out: &mut [u8],
-    from: usize,
-) -> usize
-    requires { Walkable command.now command_times.now reply.now reply_times.now begun from }
-    ensures { WroteEach (joined_steps (steps_from command.now command_times.now reply.now reply_times.now begun)) from out.old result out.new × (result ≤ 0x8005) }
+pub(crate) fn put_steps_from(taken: Recording, begun: Stage, out: &mut [u8], from: usize) -> usize
+    requires { OfLines (λ cs cts rs rts. Walkable cs cts rs rts begun from) taken }
+    ensures { WroteEach (joined_steps (of_lines steps_from taken.entry begun)) from out.old result out.new × (result ≤ 0x8005) }
 {
     let mut stage = begun;
     let mut at = from;
     loop {
-        let moved = advance(command, command_times, reply, reply_times, stage);
+        let moved = advance(taken, stage);
         let event = moved.event;
         let next = moved.stage;
         at = put_event_bytes(out, at, event, stage.at, next.at);
@@ -82,24 +75,10 @@ pub(crate) fn put_steps_from<'a>(
 }
 
 // How many steps there are from a stage on: as if they were written into a buffer without room.
-pub(crate) fn count_steps<'a>(
-    command: &'a [u8],
-    command_times: &[u32],
-    reply: &'a [u8],
-    reply_times: &[u32],
-    begun: Stage,
-) -> usize
-    requires { Walkable command.now command_times.now reply.now reply_times.now begun 0 }
-    ensures { result ≡ length (steps_from command.now command_times.now reply.now reply_times.now begun) }
+pub(crate) fn count_steps(taken: Recording, begun: Stage) -> usize
+    requires { OfLines (λ cs cts rs rts. Walkable cs cts rs rts begun 0) taken }
+    ensures { result ≡ length (of_lines steps_from taken.entry begun) }
 {
     let mut none = [0; 1];
-    put_steps_from(
-        command,
-        command_times,
-        reply,
-        reply_times,
-        begun,
-        &mut none,
-        0,
-    ) / STEP
+    put_steps_from(taken, begun, &mut none, 0) / STEP
 }

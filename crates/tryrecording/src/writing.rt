@@ -9,8 +9,10 @@ pub(crate) fn put_bytes(out: &mut [u8], at: usize, bytes: &[u8]) -> usize
     requires { at + length bytes.now < 0x100000 }
     ensures { WroteEach bytes.now at out.old result out.new }
 {
-    for (i, b) in bytes.iter().enumerate() {
-        store(out, at + i, *b);
+    let mut i = 0;
+    while i < bytes.len() {
+        store(out, at + i, bytes[i]);
+        i += 1;
     }
     at + bytes.len()
 }

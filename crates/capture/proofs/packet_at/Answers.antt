@@ -2,11 +2,11 @@
 use Rattle.capture.proofs.Parting.{part_command, part_reply, part_none}
 use Rattle.capture.proofs.packet_at.Goals as goal
 
-pub returns-in-Command : goal.returns-in-Command
-returns-in-Command c = search part_command
+pub returns-in-Some-Command : goal.returns-in-Some-Command
+returns-in-Some-Command c = search part_command
 
-pub returns-in-Reply : goal.returns-in-Reply
-returns-in-Reply c = search part_reply
+pub returns-in-Some-Reply : goal.returns-in-Some-Reply
+returns-in-Some-Reply c = search part_reply
 
-pub returns-in-Neither : goal.returns-in-Neither
-returns-in-Neither c = search part_none
+pub returns-in-None : goal.returns-in-None
+returns-in-None c = search part_none

@@ -6,13 +6,13 @@ pub returns-then-times-at : goal.returns-then-times-at
 returns-then-times-at c = search end_past
 
 pub loop-i-init : goal.loop-i-init
-loop-i-init c = (search rules, search reaching_start)
+loop-i-init c = search reaching_start
 
 pub returns-then-is_gap : goal.returns-then-is_gap
 returns-then-is_gap c = search reaching_gap
 
 pub loop-i-preserved : goal.loop-i-preserved
-loop-i-preserved c = (search rules, search reaching_next)
+loop-i-preserved c = search reaching_next
 
 pub returns : goal.returns
-returns c = search reaching_end
+returns c = search (reaching_end, rules)

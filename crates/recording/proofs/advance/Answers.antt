@@ -5,11 +5,11 @@ use Rattle.recording.proofs.advance.Goals as goal
 pub returns-then-stage : goal.returns-then-stage
 returns-then-stage c = search stays_over
 
-pub returns-in-FromCommand : goal.returns-in-FromCommand
-returns-in-FromCommand c = search goes_command
+pub returns-in_default : goal.returns-in_default
+returns-in_default c = search goes_end
 
-pub returns-in-FromReply : goal.returns-in-FromReply
-returns-in-FromReply c = search goes_reply
+pub returns-in-Command : goal.returns-in-Command
+returns-in-Command c = search goes_command
 
-pub returns-in-End : goal.returns-in-End
-returns-in-End c = search goes_end
+pub returns-in-Reply : goal.returns-in-Reply
+returns-in-Reply c = search goes_reply

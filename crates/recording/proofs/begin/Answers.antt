@@ -2,8 +2,8 @@
 use Rattle.recording.proofs.Exits.{began, began_not}
 use Rattle.recording.proofs.begin.Goals as goal
 
-pub returns-in-Good : goal.returns-in-Good
-returns-in-Good c = search began
+pub returns-in-Ok : goal.returns-in-Ok
+returns-in-Ok c = search began
 
-pub returns-in-Refused : goal.returns-in-Refused
-returns-in-Refused c = search began_not
+pub returns-in-Err : goal.returns-in-Err
+returns-in-Err c = search began_not

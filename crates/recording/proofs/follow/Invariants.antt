@@ -4,7 +4,7 @@ use Rattle.recording.proofs.Stepping.{Going}
 use Rattle.recording.proofs.follow.Given as goal
 
 abbrev pub invariant-loop-stage : goal.invariant-loop-stage
-invariant-loop-stage l = Going l.command l.command_times l.reply l.reply_times l.initial.stage.session l.stage
+invariant-loop-stage l = Going l.taken.command.bytes.now l.taken.command.times.now l.taken.reply.bytes.now l.taken.reply.times.now l.initial.stage.session l.stage
 
 abbrev pub decreases-loop-stage : goal.decreases-loop-stage
-decreases-loop-stage l = bytes_left l.command_times l.reply_times l.stage.at
+decreases-loop-stage l = bytes_left l.taken.command.times.now l.taken.reply.times.now l.stage.at

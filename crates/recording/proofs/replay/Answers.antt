@@ -5,8 +5,8 @@ use Rattle.recording.proofs.replay.Goals as goal
 pub follow-requires : goal.follow-requires
 follow-requires c = search (even_command, even_reply)
 
-pub returns-in-Good : goal.returns-in-Good
-returns-in-Good c = search replayed
+pub returns-in-Ok : goal.returns-in-Ok
+returns-in-Ok c = search replayed
 
-pub returns-in-Refused : goal.returns-in-Refused
-returns-in-Refused c = search replayed_not
+pub returns-in-Err : goal.returns-in-Err
+returns-in-Err c = search replayed_not

@@ -4,7 +4,7 @@ use Rattle.replay.proofs.Onward.{Onward}
 use Rattle.replay.proofs.packets.replay.Given as goal
 
 abbrev pub invariant-loop-next : goal.invariant-loop-next
-invariant-loop-next g l = Onward l.command l.command_times l.reply l.reply_times l.initial.stage l.stage
+invariant-loop-next g l = Onward l.taken.command.bytes.now l.taken.command.times.now l.taken.reply.bytes.now l.taken.reply.times.now l.initial.stage l.stage
 
 abbrev pub decreases-loop-next : goal.decreases-loop-next
-decreases-loop-next g l = bytes_left l.command_times l.reply_times l.stage.at
+decreases-loop-next g l = bytes_left l.taken.command.times.now l.taken.reply.times.now l.stage.at

@@ -1,19 +1,12 @@
-use mathlib.Core.Path.{refl}
 use borrow.Author.Rules.{rules}
-use Rattle.replay.proofs.Digits.{digits_other, digits_late, digits_on, digits_end}
+use Rattle.replay.proofs.Digits.{digits_other, digits_late, digits_on}
 use Rattle.replay.proofs.runs.read_digits.Goals as goal
 
-pub loop-i-init : goal.loop-i-init
-loop-i-init c = (search rules, search rules, refl)
-
-pub returns-then-digit-gt9 : goal.returns-then-digit-gt9
-returns-then-digit-gt9 c = search digits_other
+pub returns-then-not-is_ascii_digit : goal.returns-then-not-is_ascii_digit
+returns-then-not-is_ascii_digit c = digits_other c.args.s.now c.loop-b.b-index c.loop-b.number _ c.loop-b.invariant.1 c.loop-b-test.true c.if-not-is_ascii_digit.ensures.cases
 
 pub returns-then-next-gt-LATEST : goal.returns-then-next-gt-LATEST
-returns-then-next-gt-LATEST c = search digits_late
+returns-then-next-gt-LATEST c = digits_late c.args.s.now c.loop-b.b-index c.loop-b.number _ c.loop-b.invariant.1 c.loop-b-test.true c.if-not-is_ascii_digit.ensures.cases c.if-next-gt-LATEST.true
 
-pub loop-i-preserved : goal.loop-i-preserved
-loop-i-preserved c = (search rules, search rules, search digits_on)
-
-pub returns : goal.returns
-returns c = search digits_end
+pub loop-b-preserved : goal.loop-b-preserved
+loop-b-preserved c = (search rules, digits_on c.args.s.now c.loop-b.b-index c.loop-b.number _ c.loop-b.invariant.1 c.loop-b-test.true c.if-not-is_ascii_digit.ensures.cases c.if-next-gt-LATEST.false)

@@ -6,7 +6,4 @@ use Rattle.tryrecording.specs.Form.{most_captured, times_from}
 use Rattle.tryrecording.proofs.form.times_in.Given as goal
 
 abbrev pub invariant-loop-i : goal.invariant-loop-i
-invariant-loop-i l = (l.i ≤ l.count) × (length l.times ≡ most_captured) × (take l.i l.times ≡ times_from l.i l.from)
-
-abbrev pub decreases-loop-i : goal.decreases-loop-i
-decreases-loop-i l = l.count - l.i
+invariant-loop-i l = (length l.times ≡ most_captured) × (take l.i l.times ≡ times_from l.i l.from)

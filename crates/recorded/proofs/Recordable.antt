@@ -12,6 +12,7 @@ use lib.Seq.{take_at}
 use Rattle.wire.specs.Promise.{Outcome}
 use Rattle.codec.specs.Build.{packet_for}
 use Rattle.session.specs.declared.Session.{Session}
+use Rattle.session.specs.Session.{End}
 use Rattle.session.specs.declared.Step.{Step}
 use Rattle.calls.specs.Calls.{call_perform}
 use Rattle.calls.specs.declared.Call.{Call}
@@ -28,7 +29,7 @@ both_full [] ys f g = g
 both_full (x ∷ xs) ys f g = (f.0, both_full xs ys f.1 g)
 
 -- a packet that was sent is the command's own
-sent_count : {n m : ℕ} → Ok (Some n) ≡ Ok (Some m) → n ≡ m
+sent_count : {n m : ℕ} → ◌≡◌ {A = End} (Ok (Some n)) (Ok (Some m)) → n ≡ m
 sent_count e = cc
 
 packet_full : (k : Call) (s : Session) (at : ℕ) (out : List ℕ) (n : ℕ) → (call_perform k s at out).answer.end ≡ Ok (Some n) → 1 ≤ length (take n (call_perform k s at out).left)
@@ -39,7 +40,7 @@ packet_full k s at out n e =
     let q : take n (call_perform k s at out).left ≡ p = ap (λ (o : Outcome Step (List ℕ)). take n o.left) w.result ∙ take_at p (drop (length p) out) n m in
     rw q (omega arith)
 
-call_full : (k : Call) (s : Session) (at : ℕ) (out : List ℕ) (e : Result (Option ℕ) Refusal) → (call_perform k s at out).answer.end ≡ e → NoneEmpty (call_trace e (call_perform k s at out).left)
+call_full : (k : Call) (s : Session) (at : ℕ) (out : List ℕ) (e : End) → (call_perform k s at out).answer.end ≡ e → NoneEmpty (call_trace e (call_perform k s at out).left)
 call_full k s at out (Ok (Some n)) e = (packet_full k s at out n e, tt)
 call_full k s at out (Ok None) e = tt
 call_full k s at out (Err why) e = tt

@@ -14,6 +14,7 @@ use Rattle.node.specs.Effect.{divisor_up}
 use Rattle.status.specs.Status.{judge_of}
 use Rattle.status.specs.declared.Answer.TheVariants.{Silent}
 use Rattle.session.specs.declared.Exchange.TheVariants.{Idle}
+use Rattle.session.specs.Session.{End}
 use Rattle.session.specs.declared.Session.{Session}
 use Rattle.session.specs.declared.Step.{Step}
 use Rattle.sending.proofs.Passing.{Free}
@@ -120,7 +121,7 @@ module _ {n : ℕ} {ks : List Kind} {xs : List Traced} (w : World) (f : Follows 
             session = ap (λ (o : Outcome Step (List ℕ)). o.answer.session) q;
           }
 
-      go : (e : Result (Option ℕ) Refusal) → (call_perform k w.host at out).answer.end ≡ e → sent_at_up e k at
+      go : (e : End) → (call_perform k w.host at out).answer.end ≡ e → sent_at_up e k at
           → Follows n ks (xs ++ call_trace e left) (call_ended e k at t left w).host (call_ended e k at t left w).line
       go (Ok (Some m)) e u = record {
         session = session_after (gives m e u.0 u.1).gives;

@@ -1,5 +1,6 @@
 -- What a recorder captures of demand 3's course of events since the last power-up: "the recording begins at power-up".
 use Rattle.std.specs.Prelude.{ℕ, false, List, [], ◌∷◌, ◌++◌, ◌≡◌, length, take, Result, Ok, Err, Option, Some, None}
+use Rattle.session.specs.Session.{End}
 use Rattle.wire.specs.declared.refusal.Refusal.{Refusal}
 use Rattle.std.proofs.Math.Option.{Option, none, some}
 use Rattle.wire.specs.declared.kind.Kind.{Kind}
@@ -10,7 +11,7 @@ use Rattle.capture.specs.Traces.{Traced, commanded, replied}
 use Rattle.line.specs.World.{World, Comes, start, power, unpowered, call, deliver, report, hurry, delay, stray, bench}
 
 -- on the command line, what a call puts there
-abbrev pub call_trace : Result (Option ℕ) Refusal → List ℕ → List Traced
+abbrev pub call_trace : End → List ℕ → List Traced
 call_trace (Ok (Some n)) left = commanded (take n left) ∷ []
 call_trace (Ok None) left = []
 call_trace (Err why) left = []
@@ -61,7 +62,7 @@ told_kinds (stray c r why e) = told_kinds c
 told_kinds (bench c i b p) = told_kinds c
 
 -- document 02, request 7: a recording's walk takes every command as sent at power-up's divisor, and a Set Baud Rate ends it. What a call sent went so, and was none
-abbrev pub sent_at_up : Result (Option ℕ) Refusal → Call → ℕ → Type 0
+abbrev pub sent_at_up : End → Call → ℕ → Type 0
 sent_at_up (Ok (Some n)) k at = (at ≡ divisor_up) × (sets_rate k ≡ false)
 sent_at_up (Ok None) k at = Unit {0}
 sent_at_up (Err why) k at = Unit {0}

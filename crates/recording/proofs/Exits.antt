@@ -10,7 +10,7 @@ use Rattle.wire.specs.declared.kind.Kind.{Kind}
 use Rattle.wire.specs.declared.refusal.Refusal.{Refusal}
 use Rattle.session.specs.declared.Session.{Session}
 use Rattle.session.specs.declared.Step.{Step}
-use Rattle.session.specs.Session.{step_number}
+use Rattle.session.specs.Session.{step_number, End}
 use Rattle.start.specs.Start.{fresh_of, start_power_up}
 use Rattle.reports.specs.Report.{silence_of, report_of}
 use Rattle.calls.specs.declared.Call.{Call}
@@ -38,7 +38,7 @@ use Rattle.recording.specs.Stages.{move_to, take_command, take_reply, take_end, 
 
 -- ---- the checks
 
-pub count_refused : (e : Result (Option ℕ) Refusal) (why : Refusal) → e ≡ Err why → Err why ≡ count_check e
+pub count_refused : (e : End) (why : Refusal) → e ≡ Err why → Err why ≡ count_check e
 count_refused e why h = rw h
 
 pub powered : (n : ℕ) (ks : List Kind) (f : Session) (r : Step) → f ≡ fresh_of → Promise step_number r (start_power_up f n ks) → r.session ≡ power_of n ks
@@ -70,13 +70,9 @@ module _ (s : Session) (p : List ℕ) (next : Cursor) (q : Session) (x : Sought)
   took_none f g = rw (← e, ← h, f) g
 
 module _ (s : Session) (p : List ℕ) (next : Cursor) (r : Step) (m : Moved) (h : Promise step_number r (report_of s p)) where
-  pub took_done : r.end ≡ Ok None → m ≡ move_to event.Answered next false r.session → m ≡ take_reply s p next
+  pub took_done : (sent : Option ℕ) → r.end ≡ Ok sent → m ≡ move_to event.Answered next false r.session → m ≡ take_reply s p next
   unfolding take_reply
-  took_done f g = rw (← h.answer, f) g
-
-  pub took_sent : (n : ℕ) → r.end ≡ Ok (Some n) → m ≡ move_to event.Answered next false r.session → m ≡ take_reply s p next
-  unfolding take_reply
-  took_sent n f g = rw (← h.answer, f) g
+  took_done sent f g = rw (← h.answer, f) g
 
   pub took_refused : (why : Refusal) → r.end ≡ Err why → m ≡ move_to event.Unawaited next false r.session → m ≡ take_reply s p next
   unfolding take_reply

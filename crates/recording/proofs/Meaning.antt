@@ -16,7 +16,7 @@ use Rattle.codec.specs.Reading.{ReadsAs}
 use Rattle.session.specs.declared.Exchange.{Exchange}
 use Rattle.session.specs.declared.Exchange.TheVariants.{Idle, Waiting}
 use Rattle.session.specs.declared.Session.{Session}
-use Rattle.session.specs.Session.{is_closed, refuse_of}
+use Rattle.session.specs.Session.{is_closed, refuse_of, End}
 use Rattle.wire.specs.Numbers.{done, number_by}
 use Rattle.wire.proofs.Choice.{same}
 use Rattle.status.specs.declared.Answer.TheVariants.{Silent}
@@ -75,9 +75,8 @@ module _ (s : Session) (p : List ℕ) (next : Cursor) where
       go (Some k) e = absurd (rate_unsendable (quiet_of s) p a v n r k (found_gives (quiet_of s) p k e).gives)
       go None e = refl
 
-  unawaited_by : (x : Result (Option ℕ) Refusal) (t : Session) → (reply_by x next t).event ≡ event.Unawaited → (number_by x ≡ done → ⊥) × ((reply_by x next t).stage.session ≡ t)
-  unawaited_by (Ok None) t e = impossible cc
-  unawaited_by (Ok (Some n)) t e = impossible cc
+  unawaited_by : (x : End) (t : Session) → (reply_by x next t).event ≡ event.Unawaited → (number_by x ≡ done → ⊥) × ((reply_by x next t).stage.session ≡ t)
+  unawaited_by (Ok sent) t e = impossible cc
   unawaited_by (Err why) t e = (not_done why, refl)
 
   -- "a reply that no command waits for is shown without effect"

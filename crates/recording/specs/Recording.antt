@@ -4,6 +4,7 @@ use Rattle.wire.specs.Numbers.{number_by}
 use Rattle.wire.specs.declared.refusal.Refusal.{Refusal}
 use Rattle.wire.specs.declared.kind.Kind.{Kind}
 use Rattle.session.specs.declared.Session.{Session}
+use Rattle.session.specs.Session.{End}
 use Rattle.start.specs.Start.{fresh_of, start_power_up}
 use Rattle.reports.specs.Report.{silence_of, report_of}
 use Rattle.calls.specs.Finding.{by_source, find_of}
@@ -13,9 +14,8 @@ use Rattle.recording.specs.declared.Ending.TheVariants.{Ended, Foreign}
 use Rattle.recording.specs.declared.Replayed.{Replayed}
 
 -- "6 for the node count", as power-up gives it
-abbrev pub count_check : Result (Option ℕ) Refusal → Result (Unit {0}) Refusal
-count_check (Ok None) = Ok tt
-count_check (Ok (Some n)) = Ok tt
+abbrev pub count_check : End → Result (Unit {0}) Refusal
+count_check (Ok sent) = Ok tt
 count_check (Err why) = Err why
 
 -- "then 15 .., then 16"

@@ -3,6 +3,7 @@ use Rattle.std.specs.Prelude.{ℕ, Bool, true, false, cond, List, Option, Some, 
 use Rattle.calls.specs.declared.Call.{Call}
 use Rattle.wire.specs.declared.kind.Kind.{Kind}
 use Rattle.session.specs.declared.Session.{Session}
+use Rattle.session.specs.Session.{End}
 use Rattle.start.specs.Start.{fresh_of}
 use Rattle.reports.specs.Report.{report_of}
 use Rattle.calls.specs.Finding.{find_of}
@@ -35,9 +36,8 @@ unfoldable pub take_command : Session → List ℕ → Cursor → Moved
 take_command s p next = command_by (find_of (quiet_of s) p).source next (quiet_of s) (find_of (quiet_of s) p).session
 
 -- a reply closes the exchange, or "is shown without effect"
-abbrev pub reply_by : Result (Option ℕ) Refusal → Cursor → Session → Moved
-reply_by (Ok None) next s = move_to Answered next false s
-reply_by (Ok (Some n)) next s = move_to Answered next false s
+abbrev pub reply_by : End → Cursor → Session → Moved
+reply_by (Ok sent) next s = move_to Answered next false s
 reply_by (Err why) next s = move_to Unawaited next false s
 
 -- reported as it came

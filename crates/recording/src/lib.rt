@@ -13,7 +13,7 @@ ghost use Rattle.recording.specs.Stages.{move_to, take_command, take_reply, take
 
 use calls::Call;
 use capture::{Cursor, Line, Recording};
-use session::Session;
+use session::{End, Session};
 use wire::{Kind, MOST_NODES, Refusal};
 
 // How far a walk has come: its cursor in the captures, whether it has ended, and the host's session there.
@@ -74,14 +74,11 @@ pub struct Replayed {
 // ---- the checks before it
 
 // What the check is, by how power-up ended: 6 for the node count.
-fn count_check(end: Result<Option<usize>, Refusal>) -> Result<(), Refusal>
+fn count_check(end: End) -> Result<(), Refusal>
     ensures { result ≡ count_check end }
 {
-    match end {
-        Ok(None) => Ok(()),
-        Ok(Some(_)) => Ok(()),
-        Err(why) => Err(why),
-    }
+    end?;
+    Ok(())
 }
 
 // 6 for the node count, then 15, then 16.
@@ -129,8 +126,7 @@ fn take_command(s: Session, bytes: &[u8], next: Cursor) -> Moved
 {
     let before = quiet(s);
     let sought = calls::find(before, bytes);
-    let source = sought.source;
-    match source {
+    match sought.source {
         Some(call) => move_to(Event::Sent(call), next, false, sought.session),
         None => move_to(Event::Foreign, next, true, before),
     }
@@ -141,10 +137,8 @@ fn take_reply(s: Session, bytes: &[u8], next: Cursor) -> Moved
     ensures { result ≡ take_reply s bytes.now next }
 {
     let step = reports::report(s, bytes);
-    let end = step.end;
-    match end {
-        Ok(None) => move_to(Event::Answered, next, false, step.session),
-        Ok(Some(_)) => move_to(Event::Answered, next, false, step.session),
+    match step.end {
+        Ok(_) => move_to(Event::Answered, next, false, step.session),
         Err(_) => move_to(Event::Unawaited, next, false, step.session),
     }
 }

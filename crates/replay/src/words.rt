@@ -1,6 +1,6 @@
 // What a packet says: a command's name, its data and whom it is for; a reply by itself.
 use crate::values::{put_gains, put_held, put_place, put_position, put_pwm};
-use calls::{Call, Spoken};
+use calls::Call;
 use command::{Command, Loads, Motion, Role, Stop};
 use session::Session;
 use status::Answer;
@@ -115,9 +115,8 @@ pub(crate) fn kind_of_call(call: Call) -> Kind {
 // A command to nobody's own address: by an LS-773, or by an LS-173AP where that gives another command.
 fn kind_elsewhere(bytes: &[u8]) -> Kind {
     match calls::understand(Kind::Gate, bytes) {
-        Spoken::Command { to: _, command: _ } => Kind::Gate,
-        Spoken::Other => Kind::Drive,
-        Spoken::Refused(_) => Kind::Gate,
+        Ok(None) => Kind::Drive,
+        _ => Kind::Gate,
     }
 }
 
@@ -156,15 +155,15 @@ fn is_untaken(kind: Kind, c: Command) -> bool {
 // What a packet of the command line says to a kind of node.
 pub(crate) fn put_spoken(rt: &impl Print, kind: Kind, bytes: &[u8]) -> io::Result<()> {
     match calls::understand(kind, bytes) {
-        Spoken::Command { to, command } => {
-            if is_untaken(kind, command) {
+        Ok(Some(spoken)) => {
+            if is_untaken(kind, spoken.command) {
                 return print!(rt; "another command");
             }
-            put_command(rt, command)?;
-            put_to(rt, to)
+            put_command(rt, spoken.command)?;
+            put_to(rt, spoken.to)
         }
-        Spoken::Other => print!(rt; "another command"),
-        Spoken::Refused(why) => put_refusal(rt, why),
+        Ok(None) => print!(rt; "another command"),
+        Err(why) => put_refusal(rt, why),
     }
 }
 

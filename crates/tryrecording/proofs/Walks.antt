@@ -9,6 +9,7 @@ use native.Mathlib.Omega.{arith}
 use native.Mathlib.Nat.{add-sub_cancel_left}
 use lib.ListN.{length, length-append}
 use Rattle.session.specs.declared.Session.{Session}
+use Rattle.session.specs.Session.{End}
 use Rattle.reports.specs.Report.{report_of}
 use Rattle.calls.specs.Finding.{by_source, find_of}
 use Rattle.capture.specs.Packets.{Packet}
@@ -76,12 +77,11 @@ module _ (cs cts rs rts : List ℕ) where
   command_shown at p b s (Some c) = rw (add-sub_cancel_left at.command (length p.bytes))
   command_shown at p b s None = rw (add-sub_cancel_left at.command (length p.bytes))
 
-  reply_shown : (at : Cursor) (p : Packet) (s : Session) (e : Result (Option ℕ) Refusal)
+  reply_shown : (at : Cursor) (p : Packet) (s : Session) (e : End)
       → step_bytes 1 at.reply (length p.bytes) ++ joined_steps (steps_of s (past_reply at p) (left_at cs cts rs rts (past_reply at p)))
       ≡ shown at (reply_by e (past_reply at p) s)
   unfolding steps_from
-  reply_shown at p s (Ok None) = rw (add-sub_cancel_left at.reply (length p.bytes))
-  reply_shown at p s (Ok (Some n)) = rw (add-sub_cancel_left at.reply (length p.bytes))
+  reply_shown at p s (Ok sent) = rw (add-sub_cancel_left at.reply (length p.bytes))
   reply_shown at p s (Err why) = rw (add-sub_cancel_left at.reply (length p.bytes))
 
   module _ (h : length cts ≡ length cs) (k : length rts ≡ length rs) where

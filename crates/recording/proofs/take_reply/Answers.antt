@@ -1,12 +1,9 @@
 -- By how the report ended.
-use Rattle.recording.proofs.Exits.{took_done, took_sent, took_refused}
+use Rattle.recording.proofs.Exits.{took_done, took_refused}
 use Rattle.recording.proofs.take_reply.Goals as goal
 
-pub returns-in-Done : goal.returns-in-Done
-returns-in-Done c = search took_done
+pub returns-in-Ok : goal.returns-in-Ok
+returns-in-Ok c = search took_done
 
-pub returns-in-Sent : goal.returns-in-Sent
-returns-in-Sent c = search took_sent
-
-pub returns-in-Refused : goal.returns-in-Refused
-returns-in-Refused c = search took_refused
+pub returns-in-Err : goal.returns-in-Err
+returns-in-Err c = search took_refused

@@ -10,6 +10,7 @@ use node::{Bench, Captured, Node};
 use text::rest;
 use wire::Kind;
 
+// The twins of NODE and ENTRY stay two: a trait for both, of length, form, reading and writing with the definition of each, has more lines than the short loops that it would join.
 // How many bytes a record has, by its kind.
 const GATE_NODE: usize = 33;
 

@@ -34,7 +34,8 @@ fn node_length(s: &[u8]) -> usize
 fn is_node(s: &[u8]) -> bool
     ensures { result ≡ is_node s.now }
 {
-    is_kind(byte(s, 0)) && node_length(s) <= s.len() && byte(s, 4) < 2 && byte(s, 5) < 2
+    // By `&`: with `&&` a goal has the name of a number that is tested, so that a wrong number is refused for the name alone.
+    is_kind(byte(s, 0)) & (node_length(s) <= s.len()) & (byte(s, 4) < 2) & (byte(s, 5) < 2)
 }
 
 // Whether s starts with so many records, and a line may lend them.

@@ -1,4 +1,3 @@
-use native.Mathlib.Omega.{arith}
 use borrow.Author.Rules.{rules}
 use Rattle.tryrecording.proofs.Forms.{times_none, times_more, times_all}
 use Rattle.tryrecording.proofs.form.times_in.Goals as goal

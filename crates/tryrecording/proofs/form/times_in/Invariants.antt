@@ -1,5 +1,4 @@
 -- The invariant: so many times are read.
-use Prim.Native.Nat.{◌≤◌, ◌-◌}
 use mathlib.Core.Path.{◌≡◌}
 use lib.ListN.{length, take}
 use Rattle.tryrecording.specs.Form.{most_captured, times_from}

@@ -20,6 +20,14 @@ struct Said {
     number: usize,
 }
 
+/// What a delivery comes to: one of its three cases, or a refusal in its place.
+#[repr(C)]
+struct Delivered {
+    case: u8,
+    refusal: u8,
+    delivery: Said,
+}
+
 /// How a walk through a recording ended, and the session then; with room to
 /// spare, so that one laid out in another way does no harm but shows.
 #[repr(C)]
@@ -57,7 +65,7 @@ extern "C" {
         output_length: usize,
     );
     fn ours_deliver(
-        said: *mut Said,
+        delivered: *mut Delivered,
         table: *mut Node,
         table_length: usize,
         at: u8,
@@ -135,11 +143,15 @@ fn number_of(refusal: u8) -> u8 {
 
 /// `chain::deliver`.
 pub fn deliver(table: &mut [Node], at: u8, packet: &[u8], reply: &mut [u8]) -> Answer {
-    let mut said = Said::NOTHING;
+    let mut delivered = Delivered {
+        case: 0,
+        refusal: 0,
+        delivery: Said::NOTHING,
+    };
     // SAFETY: the proved code reads and writes within the slices it is lent.
     unsafe {
         ours_deliver(
-            &mut said,
+            &mut delivered,
             table.as_mut_ptr(),
             table.len(),
             at,
@@ -149,11 +161,11 @@ pub fn deliver(table: &mut [Node], at: u8, packet: &[u8], reply: &mut [u8]) -> A
             reply.len(),
         )
     };
-    match said.case {
-        0 => Answer::Silent,
-        1 => Answer::Replied(said.number),
-        2 => Answer::Collision,
-        _ => Answer::Refused(said.refused()),
+    match (delivered.case, delivered.delivery.case) {
+        (0, 0) => Answer::Silent,
+        (0, 1) => Answer::Replied(delivered.delivery.number),
+        (0, _) => Answer::Collision,
+        _ => Answer::Refused(number_of(delivered.refusal)),
     }
 }
 

@@ -7,7 +7,7 @@ use mathlib.Core.Path.{◌≡◌, refl, sym, ap, ◌∙◌}
 use native.Mathlib.Omega.{arith}
 use native.Mathlib.Nat.{zero-add}
 use lib.Dec.{ltb}
-use lib.ListN.{length, get_or, take, drop, set, length-append, drop_of_length-le}
+use lib.ListN.{length, get_or, take, drop, set, length-append}
 use lib.Seq.{sets, length-sets, take_at}
 use borrow.Author.Tests.{lt-ltb, le-ltb, ltb-false}
 use Rattle.wire.specs.Promise.{Outcome, Lending, lent}
@@ -21,8 +21,7 @@ use Rattle.buffer.specs.Buffer.{put_of}
 use Rattle.buffer.specs.Wrote.{Wrote}
 use Rattle.buffer.proofs.Writing.{sets_append, sets_start}
 use Rattle.buffer.proofs.Appends.{put_wrote}
-use Rattle.text.specs.Lines.{first_line, lines_of}
-use Rattle.text.proofs.Parts.{lines_next}
+use Rattle.text.specs.Lines.{lines_of}
 use Rattle.hexadecimal.specs.Hex.{bytes}
 use Rattle.hexadecimal.specs.Gathering.{gathered}
 use Rattle.sheet.specs.Line.{line_in}
@@ -42,11 +41,11 @@ line_kept l b m q n g e h =
 
 -- ---- the answer: lines are passed, and their packets have so many bytes
 
-module _ (sheet d l b m : List ℕ) (at passed total room : ℕ) (q : Option ℕ) (t : Result ℕ ImportError) (h : at < length sheet) (ed : d ≡ drop at sheet) (el : l ≡ first_line d)
-    (g : gathered q m ≡ read_line l b) (inv : import_behind passed total room (packets_in (lines_of (drop at sheet))) ≡ t) where
-  here : import_behind passed total room (on_line (line_in l) (packets_in (lines_of (drop (at + length l + 1) sheet)))) ≡ t
+module _ (left ls : List (List ℕ)) (l b m : List ℕ) (passed total room : ℕ) (q : Option ℕ) (t : Result ℕ ImportError) (next : left ≡ l ∷ ls)
+    (g : gathered q m ≡ read_line l b) (inv : import_behind passed total room (packets_in left) ≡ t) where
+  here : import_behind passed total room (on_line (line_in l) (packets_in ls)) ≡ t
   unfolding packets_in
-  here = rw (lines_next sheet d l at h ed el) at inv
+  here = rw next at inv
 
   pub answer_fault : q ≡ None → Err (wrong.Line (passed + 1)) ≡ t
   answer_fault e = rw (gathered_none (line_in l) b (rw e at g)) at here
@@ -71,14 +70,14 @@ module _ (sheet d l b m : List ℕ) (at passed total room : ℕ) (q : Option ℕ
         let z : total + length (sheet_packet heard.said ++ p) ≡ total + (4 + v) + length p = omega (arith, size, length-append (sheet_packet heard.said) p) in
         rw z
 
-    pub answer_on : import_behind (passed + 1) (total + (4 + v)) room (packets_in (lines_of (drop (at + length l + 1) sheet))) ≡ t
-    answer_on = sym (on (packets_in (lines_of (drop (at + length l + 1) sheet)))) ∙ (rw heard.is at here)
+    pub answer_on : import_behind (passed + 1) (total + (4 + v)) room (packets_in ls) ≡ t
+    answer_on = sym (on (packets_in ls)) ∙ (rw heard.is at here)
 
-module _ (sheet : List ℕ) (at passed total room : ℕ) (t : Result ℕ ImportError) (h : length sheet ≤ at)
-    (inv : import_behind passed total room (packets_in (lines_of (drop at sheet))) ≡ t) where
+module _ (left : List (List ℕ)) (passed total room : ℕ) (t : Result ℕ ImportError) (none : left ≡ [])
+    (inv : import_behind passed total room (packets_in left) ≡ t) where
   all : cond (ltb room (total + 0)) (Err (wrong.Refused Room)) (Ok (total + 0)) ≡ t
   unfolding packets_in
-  all = rw (drop_of_length-le sheet h) at inv
+  all = rw none at inv
 
   end : total + 0 ≡ total
   end = omega arith
@@ -102,7 +101,7 @@ packet_put out a b d at v h k ea eb ev =
     rw (packet_says d h, x, sets_append out at (0xAA ∷ []) d, y, ev) (sets_append out at (0xAA ∷ d) (sum_of d ∷ [])) in
     record { behind = ap (λ (n : ℕ). at + n) (sym (packet_long d h)); bytes = λ _. z; long = ap (λ (l : List ℕ). length l) z ∙ length-sets out at (sheet_packet d) }
 
--- ---- the packets: those of the lines from `at` on are still to be written, from `to` on
+-- ---- the packets: those of the lines that are left are still to be written, from `to` on
 
 on_line_lem : (d out o left : List ℕ) (to q : ℕ) (r : Made ℕ) → HasRoom (on_line (bytes d) r) to (length out) → made_from (on_line (bytes d) r) to out ≡ o
     → Wrote (sheet_packet d) to out q left → Laying r q left o
@@ -113,11 +112,11 @@ has_packet : (d : List ℕ) (to n : ℕ) (r : Made ℕ) → HasRoom (on_line (by
 has_packet d to n (made p) h = omega (arith, length-append (sheet_packet d) p)
 has_packet d to n (fault k) h = absurd h
 
-module _ (sheet d l b m o out : List ℕ) (at to : ℕ) (q : Option ℕ) (h : at < length sheet) (ed : d ≡ drop at sheet) (el : l ≡ first_line d)
-    (g : gathered q m ≡ read_line l b) (lay : Laying (packets_in (lines_of (drop at sheet))) to out o) where
-  next : Laying (on_line (line_in l) (packets_in (lines_of (drop (at + length l + 1) sheet)))) to out o
+module _ (left ls : List (List ℕ)) (l b m o out : List ℕ) (to : ℕ) (q : Option ℕ) (el : left ≡ l ∷ ls)
+    (g : gathered q m ≡ read_line l b) (lay : Laying (packets_in left) to out o) where
+  next : Laying (on_line (line_in l) (packets_in ls)) to out o
   unfolding packets_in
-  next = rw (lines_next sheet d l at h ed el) at lay
+  next = rw el at lay
 
   pub packets_never : q ≡ None → out ≡ o
   packets_never e =
@@ -140,7 +139,7 @@ module _ (sheet d l b m o out : List ℕ) (at to : ℕ) (q : Option ℕ) (h : at
         ∙ ap (λ (l : List ℕ). take (length x.said) l) (x.stored ∙ sets_start b x.said k)
         ∙ take_at x.said (drop (length x.said) b) (length x.said) refl
 
-    going : Laying (on_line (bytes p) (packets_in (lines_of (drop (at + length l + 1) sheet)))) to out o
+    going : Laying (on_line (bytes p) (packets_in ls)) to out o
     going = rw part_is (rw spoken.is at next)
 
     pub packet_some : 2 ≤ length p
@@ -148,14 +147,14 @@ module _ (sheet d l b m o out : List ℕ) (at to : ℕ) (q : Option ℕ) (h : at
 
     pub packet_room : to + (length p + 2) ≤ length out
     packet_room =
-        omega (arith, packet_long p packet_some, has_packet p to (length out) (packets_in (lines_of (drop (at + length l + 1) sheet))) going.room)
+        omega (arith, packet_long p packet_some, has_packet p to (length out) (packets_in ls) going.room)
 
-    pub packets_on : (left : List ℕ) (r : ℕ) → Wrote (sheet_packet p) to out r left → Laying (packets_in (lines_of (drop (at + length l + 1) sheet))) r left o
-    packets_on left r w = on_line_lem p out o left to r (packets_in (lines_of (drop (at + length l + 1) sheet))) going.room going.laid w
+    pub packets_on : (after : List ℕ) (r : ℕ) → Wrote (sheet_packet p) to out r after → Laying (packets_in ls) r after o
+    packets_on after r w = on_line_lem p out o after to r (packets_in ls) going.room going.laid w
 
-pub packets_done : (sheet out o : List ℕ) (at to : ℕ) → length sheet ≤ at → Laying (packets_in (lines_of (drop at sheet))) to out o → out ≡ o
+pub packets_done : (left : List (List ℕ)) (out o : List ℕ) (to : ℕ) → left ≡ [] → Laying (packets_in left) to out o → out ≡ o
 unfolding packets_in
-packets_done sheet out o at to h lay = (rw (drop_of_length-le sheet h) at lay).laid
+packets_done left out o to none lay = (rw none at lay).laid
 
 -- ---- the whole sheet
 

@@ -8,7 +8,7 @@ ghost use Rattle.sheet.specs.Sheet.{sheet_packet, packets_in, most_text, import_
 ghost use Rattle.sheet.specs.Reading.{import_answer, HasRoom, sheet_packets};
 
 use crate::line::{MOST_LINE, data_count, read_line};
-use text::{first, first_line, rest};
+use text::{Lines, first};
 use wire::Refusal;
 
 // The longest sheet, 64 KiB.
@@ -46,11 +46,9 @@ fn import_answer(sheet: &[u8], room: usize) -> Result<usize, ImportError>
     ensures { result ≡ import_answer (packets_in (lines_of sheet.now)) room }
 {
     let mut bytes = [0; MOST_LINE];
-    let mut at = 0;
     let mut passed = 0;
     let mut total = 0;
-    while at < sheet.len() {
-        let line = first_line(rest(sheet, at));
+    for line in Lines::of(sheet) {
         match read_line(line, &mut bytes) {
             None => {
                 return Err(ImportError::Line(passed + 1));
@@ -59,7 +57,6 @@ fn import_answer(sheet: &[u8], room: usize) -> Result<usize, ImportError>
                 // Header, address, command byte and sum, and as many data bytes as the command byte says.
                 total += 4 + data_count(bytes[1]);
                 passed += 1;
-                at = at + line.len() + 1;
             }
         }
     }
@@ -87,10 +84,8 @@ fn put_packets(sheet: &[u8], out: &mut [u8])
     ensures { out.new ≡ sheet_packets sheet.now out.old }
 {
     let mut bytes = [0; MOST_LINE];
-    let mut at = 0;
     let mut to = 0;
-    while at < sheet.len() {
-        let line = first_line(rest(sheet, at));
+    for line in Lines::of(sheet) {
         match read_line(line, &mut bytes) {
             // It never comes to this.
             None => {
@@ -98,7 +93,6 @@ fn put_packets(sheet: &[u8], out: &mut [u8])
             }
             Some(n) => {
                 to = put_packet(out, to, first(&bytes, n));
-                at = at + line.len() + 1;
             }
         }
     }

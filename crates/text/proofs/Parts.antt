@@ -71,6 +71,22 @@ line_found s = by_test (ltb (length (first_line s)) (length s)) refl
     by_test true e = rw (← (line_ends s), e)
     by_test false e = rw (← (line_ends s), e) (omega (arith, line_short s, ltb-false (length (first_line s)) (length s) e))
 
+-- the first line, and what is behind it and its newline
+pub lines_first : (s l b d : List ℕ) → 0 < length s → l ≡ first_line s → b ≡ drop (length l) s → d ≡ drop 1 b → lines_of s ≡ l ∷ lines_of d
+lines_first s l b d h el eb ed =
+    let j : length (first_line s) + 1 ≡ suc (length (first_line s)) = omega arith in
+    rw (ed, eb, el, drop-drop 1 (length (first_line s)) s, j) (lines_step s h)
+
+-- each line has a byte of its own: its newline, or one of those behind the last newline
+pub lines_few : (s : List ℕ) → length (lines_of s) ≤ length s
+lines_few [] = omega arith
+lines_few (b ∷ s) = by_test (eqb b newline) (lines_of s) refl (lines_few s)
+  where
+    by_test : (t : Bool) (ls : List (List ℕ)) → ls ≡ lines_of s → length (lines_of s) ≤ length s → length (cond t ([] ∷ ls) (grown b ls)) ≤ length (b ∷ s)
+    by_test true ls e h = rw e (omega arith)
+    by_test false [] e h = omega arith
+    by_test false (l ∷ ls) e h = omega (arith, ap (λ (x : List (List ℕ)). length x) e)
+
 -- ---- a text gone through line by line: those from i on are still to come
 
 module _ (s d l : List ℕ) (i : ℕ) (h : i < length s) (ed : d ≡ drop i s) (el : l ≡ first_line d) where

@@ -1,3 +1,4 @@
 pub mod Lines
+pub mod Each
 pub mod Digits
 pub mod Same

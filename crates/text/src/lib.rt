@@ -4,9 +4,11 @@
 #![tactic(auto)]
 
 mod digits;
+mod each;
 mod lines;
 mod same;
 
-pub use digits::read_decimal;
+pub use digits::{Decimal, read_decimal};
+pub use each::Lines;
 pub use lines::{NEWLINE, first, first_line, rest};
 pub use same::is_same;

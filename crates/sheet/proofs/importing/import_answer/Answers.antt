@@ -1,21 +1,36 @@
-use mathlib.Core.Path.{refl}
-use borrow.Author.Rules.{rules}
-use native.Mathlib.Omega.{arith}
-use Rattle.text.proofs.Parts.{next_line}
-use Rattle.sheet.proofs.Imports.{line_kept, answer_fault, answer_on, answer_short, answer_bytes}
+use Rattle.std.proofs.Common.{◌≡◌, ◌∙◌, List, ℕ, length, ap, refl, arith}
+use Rattle.text.specs.Lines.{lines_of}
+use Rattle.text.specs.Each.{lines_left}
+use Rattle.text.proofs.Parts.{lines_few}
+use Rattle.sheet.specs.Sheet.{packets_in}
+use Rattle.sheet.specs.Reading.{import_behind}
+use Rattle.sheet.proofs.Imports.{answer_fault, answer_on, answer_short, answer_bytes}
 use Rattle.sheet.proofs.importing.import_answer.Goals as goal
 
-pub loop-at-init : goal.loop-at-init
-loop-at-init c = (search rules, (search rules, (search rules, (refl, refl))))
+pub loop-line-init : goal.loop-line-init
+loop-line-init c =
+    let e : lines_left c.into_iter-line-iterator.result ≡ lines_of c.args.sheet.now = ap lines_left c.into_iter-line-iterator.ensures.into_iter_gives ∙ c.of-line-items.ensures in (
+      omega (arith, lines_few c.args.sheet.now, ap (λ (x : List (List ℕ)). length x) e),
+      omega arith,
+      refl,
+      ap (λ (x : List (List ℕ)). import_behind 0 0 c.args.room (packets_in x)) e,
+    )
 
-pub returns-in-None : goal.returns-in-None
-returns-in-None c = search answer_fault
+pub returns-in-None-2 : goal.returns-in-None-2
+returns-in-None-2 c = answer_fault _ _ _ _ _ _ _ _ _ _ c.in-Some.ensures.steps c.read_line.ensures c.loop-line.invariant.3 c.in-None.is
 
-pub loop-at-preserved : goal.loop-at-preserved
-loop-at-preserved c = (search next_line, (omega arith, (omega arith, (search line_kept, search answer_on))))
+pub loop-line-preserved : goal.loop-line-preserved
+loop-line-preserved c =
+    let l = c.loop-line in
+    let next = c.in-Some.ensures.steps in (
+      omega (arith, l.invariant.0, ap (λ (x : List (List ℕ)). length x) next),
+      omega (arith, l.invariant.1, c.data_count.ensures),
+      c.read_line.array_long,
+      answer_on _ _ _ _ _ _ _ _ _ _ next c.read_line.ensures l.invariant.3 _ c.in-Some-2.is _ l.invariant.2 c.data_count.ensures,
+    )
 
 pub returns-then-room-total : goal.returns-then-room-total
-returns-then-room-total c = search answer_short
+returns-then-room-total c = answer_short _ _ _ _ _ c.in-None.ensures.steps.0 c.loop-line.invariant.3 (omega arith)
 
 pub returns : goal.returns
-returns c = search answer_bytes
+returns c = answer_bytes _ _ _ _ _ c.in-None.ensures.steps.0 c.loop-line.invariant.3 (omega arith)

@@ -1,24 +1,38 @@
-use mathlib.Core.Path.{refl}
-use borrow.Author.Rules.{rules}
-use Rattle.text.proofs.Parts.{next_line}
-use Rattle.sheet.proofs.Laying.{wrote_kept}
+use Rattle.std.proofs.Common.{◌≡◌, ◌∙◌, List, ℕ, ap, refl, rules, subst, sym}
+use Rattle.text.specs.Lines.{lines_of}
+use Rattle.text.specs.Each.{lines_left}
+use Rattle.sheet.specs.Sheet.{packets_in}
+use Rattle.sheet.specs.Reading.{sheet_packets}
+use Rattle.sheet.proofs.Laying.{Laying, wrote_kept}
 use Rattle.sheet.proofs.Imports.{line_kept, packets_never, packet_some, packet_room, packets_on, packets_done}
 use Rattle.sheet.proofs.importing.put_packets.Goals as goal
 
-pub loop-at-init : goal.loop-at-init
-loop-at-init c = (search rules, (refl, (refl, record { room = search rules; laid = refl })))
+pub loop-line-init : goal.loop-line-init
+loop-line-init c =
+    let e : lines_left c.into_iter-line-iterator.result ≡ lines_of c.args.sheet.now = ap lines_left c.into_iter-line-iterator.ensures.into_iter_gives ∙ c.of-line-items.ensures in
+    let all : Laying (packets_in (lines_of c.args.sheet.now)) 0 c.args.out.now (sheet_packets c.args.sheet.now c.args.out.now) = record { room = search rules; laid = refl } in
+    (refl, refl, subst (λ (x : List (List ℕ)). Laying (packets_in x) 0 c.args.out.now (sheet_packets c.args.sheet.now c.args.out.now)) (sym e) all)
 
-pub returns-in-None : goal.returns-in-None
-returns-in-None c = search packets_never
+pub returns-in-None-2 : goal.returns-in-None-2
+returns-in-None-2 c = packets_never _ _ _ _ _ _ _ _ _ c.in-Some.ensures.steps c.read_line.ensures c.loop-line.invariant.2 c.in-None.is
 
 pub slice_bounds-first-end : goal.slice_bounds-first-end
 slice_bounds-first-end c = search (line_kept, rules)
 
 pub put_packet-to-requires : goal.put_packet-to-requires
-put_packet-to-requires c = (search packet_some, search packet_room)
+put_packet-to-requires c =
+    let l = c.loop-line in (
+      packet_some _ _ _ _ _ _ _ _ _ c.in-Some.ensures.steps c.read_line.ensures l.invariant.2 _ c.in-Some-2.is l.invariant.1 _ c.first.ensures.holds,
+      packet_room _ _ _ _ _ _ _ _ _ c.in-Some.ensures.steps c.read_line.ensures l.invariant.2 _ c.in-Some-2.is l.invariant.1 _ c.first.ensures.holds,
+    )
 
-pub loop-at-preserved : goal.loop-at-preserved
-loop-at-preserved c = (search next_line, (search wrote_kept, (search line_kept, search packets_on)))
+pub loop-line-preserved : goal.loop-line-preserved
+loop-line-preserved c =
+    let l = c.loop-line in (
+      search wrote_kept,
+      c.read_line.array_long,
+      packets_on _ _ _ _ _ _ _ _ _ c.in-Some.ensures.steps c.read_line.ensures l.invariant.2 _ c.in-Some-2.is l.invariant.1 _ c.first.ensures.holds _ _ c.put_packet-to.ensures,
+    )
 
 pub returns : goal.returns
-returns c = search packets_done
+returns c = packets_done _ _ _ _ c.in-None.ensures.steps.0 c.loop-line.invariant.2

@@ -8,7 +8,7 @@ mod each;
 mod lines;
 mod same;
 
-pub use digits::{Decimal, read_decimal};
+pub use digits::read_decimal;
 pub use each::Lines;
 pub use lines::{NEWLINE, first, first_line, rest};
 pub use same::is_same;

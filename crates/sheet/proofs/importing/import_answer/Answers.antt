@@ -16,8 +16,8 @@ loop-line-init c =
       ap (λ (x : List (List ℕ)). import_behind 0 0 c.args.room (packets_in x)) e,
     )
 
-pub returns-in-None-2 : goal.returns-in-None-2
-returns-in-None-2 c = answer_fault _ _ _ _ _ _ _ _ _ _ c.in-Some.ensures.steps c.read_line.ensures c.loop-line.invariant.3 c.in-None.is
+pub returns-in-None-read_line : goal.returns-in-None-read_line
+returns-in-None-read_line c = answer_fault _ _ _ _ _ _ _ _ _ _ c.in-Some.ensures.steps c.read_line.ensures c.loop-line.invariant.3 c.in-None-read_line.is
 
 pub loop-line-preserved : goal.loop-line-preserved
 loop-line-preserved c =
@@ -26,7 +26,7 @@ loop-line-preserved c =
       omega (arith, l.invariant.0, ap (λ (x : List (List ℕ)). length x) next),
       omega (arith, l.invariant.1, c.data_count.ensures),
       c.read_line.array_long,
-      answer_on _ _ _ _ _ _ _ _ _ _ next c.read_line.ensures l.invariant.3 _ c.in-Some-2.is _ l.invariant.2 c.data_count.ensures,
+      answer_on _ _ _ _ _ _ _ _ _ _ next c.read_line.ensures l.invariant.3 _ c.in-Some-read_line.is _ l.invariant.2 c.data_count.ensures,
     )
 
 pub returns-then-room-total : goal.returns-then-room-total

@@ -13,8 +13,8 @@ loop-line-init c =
     let all : Laying (packets_in (lines_of c.args.sheet.now)) 0 c.args.out.now (sheet_packets c.args.sheet.now c.args.out.now) = record { room = search rules; laid = refl } in
     (refl, refl, subst (λ (x : List (List ℕ)). Laying (packets_in x) 0 c.args.out.now (sheet_packets c.args.sheet.now c.args.out.now)) (sym e) all)
 
-pub returns-in-None-2 : goal.returns-in-None-2
-returns-in-None-2 c = packets_never _ _ _ _ _ _ _ _ _ c.in-Some.ensures.steps c.read_line.ensures c.loop-line.invariant.2 c.in-None.is
+pub returns-in-None-read_line : goal.returns-in-None-read_line
+returns-in-None-read_line c = packets_never _ _ _ _ _ _ _ _ _ c.in-Some.ensures.steps c.read_line.ensures c.loop-line.invariant.2 c.in-None-read_line.is
 
 pub slice_bounds-first-end : goal.slice_bounds-first-end
 slice_bounds-first-end c = search (line_kept, rules)
@@ -22,8 +22,8 @@ slice_bounds-first-end c = search (line_kept, rules)
 pub put_packet-to-requires : goal.put_packet-to-requires
 put_packet-to-requires c =
     let l = c.loop-line in (
-      packet_some _ _ _ _ _ _ _ _ _ c.in-Some.ensures.steps c.read_line.ensures l.invariant.2 _ c.in-Some-2.is l.invariant.1 _ c.first.ensures.holds,
-      packet_room _ _ _ _ _ _ _ _ _ c.in-Some.ensures.steps c.read_line.ensures l.invariant.2 _ c.in-Some-2.is l.invariant.1 _ c.first.ensures.holds,
+      packet_some _ _ _ _ _ _ _ _ _ c.in-Some.ensures.steps c.read_line.ensures l.invariant.2 _ c.in-Some-read_line.is l.invariant.1 _ c.first.ensures.holds,
+      packet_room _ _ _ _ _ _ _ _ _ c.in-Some.ensures.steps c.read_line.ensures l.invariant.2 _ c.in-Some-read_line.is l.invariant.1 _ c.first.ensures.holds,
     )
 
 pub loop-line-preserved : goal.loop-line-preserved
@@ -31,7 +31,7 @@ loop-line-preserved c =
     let l = c.loop-line in (
       search wrote_kept,
       c.read_line.array_long,
-      packets_on _ _ _ _ _ _ _ _ _ c.in-Some.ensures.steps c.read_line.ensures l.invariant.2 _ c.in-Some-2.is l.invariant.1 _ c.first.ensures.holds _ _ c.put_packet-to.ensures,
+      packets_on _ _ _ _ _ _ _ _ _ c.in-Some.ensures.steps c.read_line.ensures l.invariant.2 _ c.in-Some-read_line.is l.invariant.1 _ c.first.ensures.holds _ _ c.put_packet-to.ensures,
     )
 
 pub returns : goal.returns

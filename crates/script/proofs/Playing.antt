@@ -1,17 +1,15 @@
 -- One line, and all lines, as the code plays them.
-use Prim.Native.Nat.{ℕ, ◌+◌, ◌*◌, ◌≤◌, ◌<◌}
-use Rattle.std.specs.Prelude.{Option, Some, None, ℕ}
-use mathlib.Core.List.{List}
+use Prim.Native.Nat.{ℕ, ◌+◌, ◌*◌, ◌≤◌}
+use Rattle.std.specs.Prelude.{Option, Some, None}
+use mathlib.Core.List.{List, [], ◌∷◌}
 use mathlib.Core.Path.{◌≡◌, refl, sym, ap, ◌∙◌, subst}
 use native.Mathlib.Omega.{arith}
-use lib.ListN.{length, take, drop, replicate, drop_of_length-le}
+use lib.ListN.{length, take, replicate}
 use Rattle.wire.specs.Promise.{Outcome, Lending}
 use Rattle.wire.proofs.Impossible.{impossible}
 use Rattle.buffer.specs.Change.{AllBytes}
 use Rattle.buffer.proofs.Bytes.{byte_at}
-use Rattle.text.specs.Lines.{first_line, lines_of}
 use Rattle.hexadecimal.specs.Hex.{Content, bytes, malformed, bytes_in, over, read_bytes, parsed_number}
-use Rattle.text.proofs.Parts.{lines_next}
 use Rattle.hexadecimal.proofs.Meaning.{read_written}
 use Rattle.status.specs.Status.{most_reply}
 use Rattle.node.specs.Effect.{divisor_up}
@@ -55,21 +53,22 @@ module _ (t : Table) (l b : List ℕ) (found : Option ℕ) (e : Lending parsed_n
           let ed : d ≡ take (length p) (over p (replicate 20 0)) = g ∙ rw (en, j) in
           rw (← deliver_kept t divisor_up p (replicate most_reply 0) (replicate 20 0) refl (byte_at p 2 (s p refl)), ← ed) f
 
--- ---- all lines: those from i on are still to be played
+-- ---- all lines: those that are left are still to be played
 
-pub run_next : (packets d l : List ℕ) (i : ℕ) → i < length packets → d ≡ drop i packets → l ≡ first_line d
-    → (t : Table) (out left e o : List ℕ) (s : Step) (p : ℕ) → Played (play_of t l) p out s left → Going (run_of t (lines_of (drop i packets))) p out e o
-    → Going (run_of s.table (lines_of (drop (i + length l + 1) packets))) s.at left e o
+pub run_next : (left ls : List (List ℕ)) (l : List ℕ) → left ≡ l ∷ ls
+    → (t : Table) (out after e o : List ℕ) (s : Step) (p : ℕ) → Played (play_of t l) p out s after → Going (run_of t left) p out e o
+    → Going (run_of s.table ls) s.at after e o
 unfolding run_of
-run_next packets d l i h ed el t out left e o s p f g =
-    rw f.table (going_on (subst (λ (x : List (List ℕ)). Going (run_of t x) p out e o) (lines_next packets d l i h ed el) g) f.line.wrote)
+run_next left ls l next t out after e o s p f g =
+    rw f.table (going_on (subst (λ (x : List (List ℕ)). Going (run_of t x) p out e o) next g) f.line.wrote)
 
-pub run_near : (s : Stepped) (r : Step) (out left : List ℕ) (i n p : ℕ) → Played s p out r left → p ≤ 64 * i → r.at ≤ 64 * (i + n + 1)
-run_near s r out left i n p f h = omega (arith, f.line.wrote.behind, f.line.near)
+pub run_near : (s : Stepped) (r : Step) (out after : List ℕ) (left ls : List (List ℕ)) (l : List ℕ) (m p : ℕ) → Played s p out r after → left ≡ l ∷ ls
+    → p + 64 * length left ≤ m → r.at + 64 * length ls ≤ m
+run_near s r out after left ls l m p f next h = omega (arith, f.line.wrote.behind, f.line.near, ap (λ (x : List (List ℕ)). length x) next)
 
 pub run_long : (s : Stepped) (r : Step) (out left : List ℕ) (p n : ℕ) → Played s p out r left → length out ≡ n → length left ≡ n
 run_long s r out left p n f e = f.line.wrote.long ∙ e
 
-pub run_done : (t : Table) (packets out e o : List ℕ) (i p : ℕ) → length packets ≤ i → Going (run_of t (lines_of (drop i packets))) p out e o → Wrote e 0 o p out
+pub run_done : (t : Table) (left : List (List ℕ)) (out e o : List ℕ) (p : ℕ) → left ≡ [] → Going (run_of t left) p out e o → Wrote e 0 o p out
 unfolding run_of
-run_done t packets out e o i p h g = going_done (run_of t (lines_of (drop i packets))) (rw (drop_of_length-le packets h)) g
+run_done t left out e o p none g = going_done (run_of t left) (rw none) g

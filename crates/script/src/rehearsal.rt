@@ -86,14 +86,11 @@ fn run(table: Table, packets: &[u8], out: &mut [u8]) -> usize
     ensures { Wrote (run_of table (lines_of packets.now)) 0 out.old result out.new }
 {
     let mut t = table;
-    let mut at = 0;
     let mut p = 0;
-    while at < packets.len() {
-        let line = text::first_line(text::rest(packets, at));
+    for line in text::Lines::of(packets) {
         let s = play(t, line, out, p);
         t = s.table;
         p = s.at;
-        at = at + line.len() + 1;
     }
     p
 }

@@ -132,17 +132,15 @@ line_tried s r line room left b args n kind e f g h i q =
 
 -- ---- all lines
 
-pub lines_on : (input d l : List ℕ) (i : ℕ) → i < length input → d ≡ drop i input → l ≡ first_line d
-    → (s s' all : Session) → s' ≡ try_line s l → try_lines s (lines_of (drop i input)) ≡ all → try_lines s' (lines_of (drop (i + length l + 1) input)) ≡ all
+pub lines_on : (left ls : List (List ℕ)) (l : List ℕ) → left ≡ l ∷ ls
+    → (s s' all : Session) → s' ≡ try_line s l → try_lines s left ≡ all → try_lines s' ls ≡ all
 unfolding try_lines
-lines_on input d l i h ed el s s' all e f =
-    ap (λ (x : Session). try_lines x (lines_of (drop (i + length l + 1) input))) e ∙ sym (ap (λ (x : List (List ℕ)). try_lines s x) (lines_next input d l i h ed el)) ∙ f
+lines_on left ls l next s s' all e f = rw e (rw next at f)
 
-pub lines_done : (input : List ℕ) (i : ℕ) (s s₀ : Session) → length input ≤ i → s₀ ≡ fresh_of → try_lines s (lines_of (drop i input)) ≡ try_lines s₀ (lines_of input)
+pub lines_done : (input : List ℕ) (left : List (List ℕ)) (s s₀ : Session) → left ≡ [] → s₀ ≡ fresh_of → try_lines s left ≡ try_lines s₀ (lines_of input)
     → s ≡ try_lines fresh_of (lines_of input)
 unfolding try_lines
-lines_done input i s s₀ h f e =
-    sym (ap (λ (x : List ℕ). try_lines s (lines_of x)) (drop_of_length-le input h)) ∙ e ∙ ap (λ (x : Session). try_lines x (lines_of input)) f
+lines_done input left s s₀ none f e = rw (none, f) at e
 
 pub all_long : (input : List ℕ) (s : Session) → most_input < length input → s ≡ fresh_of → s ≡ try_all input
 unfolding try_all

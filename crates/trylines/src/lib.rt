@@ -147,11 +147,8 @@ fn try_lines(rt: &impl Print, input: &[u8]) -> io::Result<Session>
     ensures { IfOk result (λ last. last ≡ try_lines fresh_of (lines_of input.now)) }
 {
     let mut s = start::fresh();
-    let mut at = 0;
-    while at < input.len() {
-        let line = text::first_line(text::rest(input, at));
+    for line in text::Lines::of(input) {
         s = try_line(rt, s, line)?;
-        at = at + line.len() + 1;
     }
     Ok(s)
 }

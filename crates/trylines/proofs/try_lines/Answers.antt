@@ -1,14 +1,15 @@
-use mathlib.Core.Path.{refl}
-use borrow.Author.Rules.{rules}
-use Rattle.text.proofs.Parts.{next_line}
+use Rattle.std.proofs.Common.{◌≡◌, ◌∙◌, ap}
+use Rattle.text.specs.Lines.{lines_of}
+use Rattle.text.specs.Each.{lines_left}
+use Rattle.trylines.specs.Trying.{try_lines}
 use Rattle.trylines.proofs.Tries.{lines_on, lines_done}
 use Rattle.trylines.proofs.try_lines.Goals as goal
 
-pub loop-at-init : goal.loop-at-init
-loop-at-init g c = (search rules, refl)
+pub loop-line-init : goal.loop-line-init
+loop-line-init g c = ap (try_lines c.fresh-s.result) (ap lines_left c.into_iter-line-iterator.ensures.into_iter_gives ∙ c.of-line-items.ensures)
 
-pub loop-at-preserved : goal.loop-at-preserved
-loop-at-preserved g c = (search next_line, search (lines_on, c.in_ok-s.ensures))
+pub loop-line-preserved : goal.loop-line-preserved
+loop-line-preserved g c = lines_on _ _ _ c.in-Some.ensures.steps _ _ _ c.in_ok-s.ensures c.loop-line.invariant
 
 pub returns : goal.returns
-returns g c = search lines_done
+returns g c = lines_done _ _ _ _ c.in-None.ensures.steps.0 c.fresh-s.ensures c.loop-line.invariant

@@ -8,7 +8,7 @@ use Rattle.node.specs.declared.state.Node.{Node}
 use Rattle.survey.specs.declared.plan.Incoming.{Incoming}
 use Rattle.survey.specs.declared.plan.Plan.{Plan}
 use Rattle.survey.specs.declared.plan.Seen.{Seen}
-use Rattle.survey.specs.Survey.{chain_start, glances_of, plan_of, speaker_of, node_by, survey_all, survey_by}
+use Rattle.survey.specs.Survey.{chain_start, glances_of, plan_of, speaker_of, speaker_node, survey_all, survey_by}
 
 copied : (ns : List Node) (i : ℕ) (r : Option (Bor Node)) → IsItemAt ns i r → option_copied r ≡ slice_get ns i
 copied ns i None h = sym (slice_get_past ns i h.3)
@@ -20,5 +20,5 @@ pub survey_some : (c : Result Incoming Refusal) (ns : List Node) (s : Seen) (k i
 unfolding survey_all
 survey_some c ns s k i p o r q inv past planned spoken some item read =
     let z : s ≡ glances_of c chain_start ns = rw (drop_of_length-le ns {i = k} past) at inv in
-    let f : q ≡ node_by (speaker_of p) ns = rw (← spoken, some) (read ∙ copied ns i r item) in
+    let f : q ≡ speaker_node (speaker_of p) ns = rw (← spoken, some) (read ∙ copied ns i r item) in
     rw f (ap (λ (p : Result Plan Refusal). survey_by p ns) (planned ∙ ap (λ (t : Seen). plan_of c t (length ns)) z))

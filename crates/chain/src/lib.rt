@@ -46,7 +46,8 @@ fn act_all(table: &mut [Node], decided: Decided)
         if table.len() <= i {
             return;
         }
-        // A store for each kind: so the part of the other kind is not copied.
+        // A store for each kind: so the part of the other kind is not copied. By index: with `get_mut` the proof didn't close,
+        // since what is stored behind the reference comes back under no name that an answer can cite.
         if table[i].kind.is_gate() {
             table[i] = table[i].take_gate(decided.messages.gate);
         } else {

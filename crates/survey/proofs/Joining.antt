@@ -23,7 +23,7 @@ use Rattle.survey.specs.declared.decision.Decided.{Decided}
 use Rattle.survey.specs.declared.decision.Delivery.{Delivery}
 use Rattle.survey.specs.One.{does_act, does_reply, to_both, messages_as}
 use Rattle.survey.specs.Chain.{after, search_of, replier_in, Said, silence, said, reply_for, said_by, blank_node, all_ranged}
-use Rattle.survey.specs.Survey.{receive_by, receive_of, chain_start, glances_of, replier_to, plan_by, plan_of, speaker_in, speaker_of, node_by, survey_all}
+use Rattle.survey.specs.Survey.{receive_by, receive_of, chain_start, glances_of, replier_to, plan_by, plan_of, speaker_in, speaker_of, speaker_node, survey_all}
 use Rattle.survey.specs.Decision.{touched_of, decide_built, decide_one, decide_by, decide_plan, decide_of, act_all}
 use Rattle.survey.specs.Delivery.{Lent, valid, on_built, on_said, delivered_to, frame_alone, on_frame, deliver_of, refused_delivery, delivery_number}
 use Rattle.survey.proofs.Flags.{flags_from, set_of, read, seen_acting, seen_replying, seen_ranged, repliers_are, actors_turn}
@@ -41,7 +41,7 @@ refused_all why s ns out = rw (visit_none (to_both Other) ns)
 
 -- the plan for a packet that was read comes to this, by who replies and who acts
 abbrev planned : Messages → List Node → List ℕ → Replier → ℕ → Outcome (Result Delivery Refusal) Lent
-planned h ns out r acting = came (decide_by r (node_by (speaker_in r) ns) (record { replier = r; acting = acting; messages = h }) out) ns
+planned h ns out r acting = came (decide_by r (speaker_node (speaker_in r) ns) (record { replier = r; acting = acting; messages = h }) out) ns
 
 module _ (at : ℕ) (to : Address) (h : Messages) (ns : List Node) (out : List ℕ) (acting : ℕ) (acted : act_all h (touched_of h acting) ns ≡ after at to h ns) where
   by_built : (r : Replier) (b : Result ℕ Refusal) (left : List ℕ) → came (record { answer = decide_built b (record { replier = r; acting = acting; messages = h }); left = left }) ns ≡ on_built b at to h ns left
@@ -89,14 +89,14 @@ read_plan at to h ns out b =
 
 -- by the frame
 framed_plan : (at : ℕ) (f : Result Framed Refusal) (p : List ℕ) (ns : List Node) (out : List ℕ) → length ns ≤ most_nodes
-    → came (decide_plan (plan_by (receive_by at f p) (glances_of (receive_by at f p) chain_start ns) (length ns)) (node_by (speaker_of (plan_by (receive_by at f p) (glances_of (receive_by at f p) chain_start ns) (length ns))) ns) out) ns
+    → came (decide_plan (plan_by (receive_by at f p) (glances_of (receive_by at f p) chain_start ns) (length ns)) (speaker_node (speaker_of (plan_by (receive_by at f p) (glances_of (receive_by at f p) chain_start ns) (length ns))) ns) out) ns
     ≡ on_frame at f p ns out
 framed_plan at (Ok g) p ns out b = read_plan at g.address (messages_as g.address g.command p) ns out b
 framed_plan at (Err why) p ns out b = refused_all why None ns out
 
 -- by the table
-tabled_plan : (t : Bool) (q : Result Plan Refusal) (ns : List Node) (out : List ℕ) (o : Outcome (Result Delivery Refusal) Lent) → (t ≡ true → came (decide_plan q (node_by (speaker_of q) ns) out) ns ≡ o)
-    → came (decide_plan (cond t q (Err Range)) (node_by (speaker_of (cond t q (Err Range))) ns) out) ns ≡ cond t o (refused_delivery Range ns out)
+tabled_plan : (t : Bool) (q : Result Plan Refusal) (ns : List Node) (out : List ℕ) (o : Outcome (Result Delivery Refusal) Lent) → (t ≡ true → came (decide_plan q (speaker_node (speaker_of q) ns) out) ns ≡ o)
+    → came (decide_plan (cond t q (Err Range)) (speaker_node (speaker_of (cond t q (Err Range))) ns) out) ns ≡ cond t o (refused_delivery Range ns out)
 tabled_plan true q ns out o f = f refl
 tabled_plan false q ns out o f = refused_all Range None ns out
 

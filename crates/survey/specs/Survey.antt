@@ -96,13 +96,13 @@ speaker_of (Ok p) = speaker_in p.replier
 speaker_of (Err why) = None
 
 -- the node of an index, where the table has it
-abbrev pub node_by : Option ℕ → List Node → Option Node
-node_by None ns = None
-node_by (Some i) ns = slice_get ns i
+abbrev pub speaker_node : Option ℕ → List Node → Option Node
+speaker_node None ns = None
+speaker_node (Some i) ns = slice_get ns i
 
 -- the plan with the node that replies
 abbrev pub survey_by : Result Plan Refusal → List Node → Survey
-survey_by p ns = record { plan = p; speaker = node_by (speaker_of p) ns }
+survey_by p ns = record { plan = p; speaker = speaker_node (speaker_of p) ns }
 
 unfoldable pub survey_all : Result Incoming Refusal → List Node → Survey
 survey_all c ns = survey_by (plan_of c (glances_of c chain_start ns) (length ns)) ns

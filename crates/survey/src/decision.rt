@@ -32,6 +32,7 @@ impl Delivery {
 }
 
 // The answer, who is to be gone through, and what the packet says to either kind.
+// No `Result` of the whole: that nobody acts where the answer is a refusal is a promise of its own (must-fail/five_after_acting).
 #[derive(Clone, Copy)]
 pub struct Decided {
     pub answer: Result<Delivery, Refusal>,

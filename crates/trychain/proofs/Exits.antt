@@ -1,33 +1,22 @@
 -- What the exits of the functions need, in the form in which the code gives it.
-use Prim.Native.Nat.{ℕ, ◌-◌, ◌<◌, ◌≤◌}
+use Prim.Native.Nat.{ℕ, ◌-◌}
 use mathlib.Core.Bool.{Bool, true, false, not}
 use mathlib.Core.List.{List}
 use mathlib.Core.Path.{◌≡◌, ap, ◌∙◌}
 use native.Mathlib.Nat.{sub-zero}
 use lib.ListN.{take, drop}
-use borrow.Author.Tests.{not-true, not-false, lt-ltb, le-ltb}
-use Rattle.std.specs.Prelude.{Result, Ok}
+use borrow.Author.Tests.{not-true, not-false}
 use Rattle.wire.specs.Promise.{Lending}
-use Rattle.wire.specs.declared.refusal.Refusal.{Refusal}
 use Rattle.fields.specs.declared.answer.Answer.{Answer}
 use Rattle.fields.specs.Answer.{fields_nothing, answer_put, answer_put_all, malformed_of}
 use Rattle.fields.specs.Field.{fields_byte}
 use Rattle.fields.specs.Lending.{most_room, filled_of, room_of, is_lending}
 use Rattle.layout.specs.Nodes.{are_nodes, nodes_length, read_nodes, put_nodes}
 use Rattle.node.specs.declared.state.Node.{Node}
-use Rattle.survey.specs.declared.decision.Delivery.{Delivery}
-use Rattle.survey.specs.declared.decision.Delivery.TheVariants.{Replied}
 use Rattle.survey.specs.Delivery.{delivery_number}
 use Rattle.table.specs.declared.Delivered.{Delivered}
 use Rattle.table.specs.Table.{delivered_number, table_deliver}
 use Rattle.trychain.specs.Delivering.{reply_length, put_delivered, put_outcome, deliver_to, trychain_deliver}
-
--- a reply whose length fits a byte, and one whose length does not
-pub reply_short : (d : Result Delivery Refusal) (n : ℕ) → d ≡ Ok (Replied n) → n < 256 → n ≡ reply_length d
-reply_short d n e h = rw (e, lt-ltb n 256 h)
-
-pub reply_long : (d : Result Delivery Refusal) (n : ℕ) → d ≡ Ok (Replied n) → 256 ≤ n → 0 ≡ reply_length d
-reply_long d n e h = rw (e, le-ltb n 256 h)
 
 -- part by part
 pub delivered_put : (d : Delivered) (s : List ℕ) (n k l : ℕ) (a b c e r : Answer) → a ≡ fields_nothing → k ≡ delivery_number d.answer → b ≡ answer_put a k

@@ -10,7 +10,7 @@ use Rattle.wire.specs.declared.kind.Kind.{Kind}
 use Rattle.wire.specs.declared.refusal.Refusal.{Refusal}
 use Rattle.session.specs.declared.Session.{Session}
 use Rattle.session.specs.declared.Step.{Step}
-use Rattle.session.specs.Session.{step_number, End}
+use Rattle.session.specs.Session.{step_number}
 use Rattle.start.specs.Start.{fresh_of, start_power_up}
 use Rattle.reports.specs.Report.{silence_of, report_of}
 use Rattle.calls.specs.declared.Call.{Call}
@@ -29,7 +29,6 @@ use Rattle.recording.specs.declared.Stage.{Stage}
 use Rattle.recording.specs.declared.Event.TheVariants as event
 use Rattle.recording.specs.declared.Moved.{Moved}
 use Rattle.recording.specs.declared.Begun.{Begun}
-use Rattle.recording.specs.declared.Ending.TheVariants as ending
 use Rattle.recording.specs.declared.Replayed.{Replayed}
 use Rattle.capture.specs.Steps.{outset, left_at}
 use Rattle.recording.specs.Recording.{quiet_of, count_check, recording_check, power_of, follow_of, replay_of, replayed_number}
@@ -37,9 +36,6 @@ use Rattle.recording.proofs.Sound.{good_sound}
 use Rattle.recording.specs.Stages.{move_to, take_command, take_reply, take_end, advance_by, advance_of, begin_at, begun_number, begin_of}
 
 -- ---- the checks
-
-pub count_refused : (e : End) (why : Refusal) → e ≡ Err why → Err why ≡ count_check e
-count_refused e why h = rw h
 
 pub powered : (n : ℕ) (ks : List Kind) (f : Session) (r : Step) → f ≡ fresh_of → Promise step_number r (start_power_up f n ks) → r.session ≡ power_of n ks
 unfolding power_of

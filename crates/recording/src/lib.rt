@@ -82,6 +82,7 @@ fn count_check(end: End) -> Result<(), Refusal>
 }
 
 // 6 for the node count, then 15, then 16.
+// n and kinds stay two parameters, here and below: power-up takes them so, and a struct of both would only be taken apart again.
 pub fn check(
     n: u8,
     kinds: [Kind; MOST_NODES],

@@ -13,11 +13,11 @@ pub loop-i-preserved : goal.loop-i-preserved
 loop-i-preserved c = (
   elim c.if-is_gate.branch [
     | then-is_gate w ↦
-      one_done _ _ _ c.loop-i.rest _ c.first.ensures c.loop-i.invariant.0 _ c.in-Some.is _ _ _ _ c.loop-i.invariant.1 c.if-table-i.false c.without_first-rest.ensures w.table-is
-      (gate_takes c.args.decided.messages _ _ _ c.is_gate.ensures w.if-is_gate.true w.take_gate.ensures)
+        one_done _ _ _ c.loop-i.rest _ c.first.ensures c.loop-i.invariant.0 _ c.in-Some.is _ _ _ _ c.loop-i.invariant.1 c.if-table-i.false c.without_first-rest.ensures w.table-is
+        (gate_takes c.args.decided.messages _ _ _ c.is_gate.ensures w.if-is_gate.true w.take_gate.ensures)
     | else-is_gate w ↦
-      one_done _ _ _ c.loop-i.rest _ c.first.ensures c.loop-i.invariant.0 _ c.in-Some.is _ _ _ _ c.loop-i.invariant.1 c.if-table-i.false c.without_first-rest.ensures w.table-is
-      (drive_takes c.args.decided.messages _ _ _ c.is_gate.ensures w.if-is_gate.false w.take_drive.ensures)
+        one_done _ _ _ c.loop-i.rest _ c.first.ensures c.loop-i.invariant.0 _ c.in-Some.is _ _ _ _ c.loop-i.invariant.1 c.if-table-i.false c.without_first-rest.ensures w.table-is
+        (drive_takes c.args.decided.messages _ _ _ c.is_gate.ensures w.if-is_gate.false w.take_drive.ensures)
   ],
   c.without_first-rest.type_inv,
 )

@@ -1,7 +1,7 @@
 // A drive's own settings: which of them differ, and their words.
 use crate::setting::{put_doubt, put_name};
 use crate::values::{put_gains, put_position};
-use command::{Gains, Motion};
+use command::Motion;
 use entry::{DriveKnown, MotionKnown};
 use node::DriveSettings;
 use std::io;
@@ -97,12 +97,6 @@ fn put_value_name(rt: &impl Print, behind: &mut bool, word: &str, name: &str) ->
 
 // ---- all of them
 
-fn is_other_gains(a: Gains, b: Gains) -> bool {
-    let gains = (a.kp != b.kp) | (a.kd != b.kd) | (a.ki != b.ki);
-    let limits = (a.il != b.il) | (a.el != b.el) | (a.ol != b.ol);
-    gains | limits | (a.sr != b.sr) | (a.db != b.db)
-}
-
 impl DriveChosen {
     pub(crate) const ALL: DriveChosen = DriveChosen {
         gains: true,
@@ -119,7 +113,7 @@ impl DriveChosen {
         l: DriveKnown,
     ) -> DriveChosen {
         DriveChosen {
-            gains: is_other_gains(s.gains, t.gains) | (k.gains != l.gains),
+            gains: (s.gains != t.gains) | (k.gains != l.gains),
             stop: (s.stop != t.stop) | (k.stop != l.stop),
             waiting: MotionChosen::changed(s.waiting, k.waiting, t.waiting, l.waiting),
             in_force: MotionChosen::changed(s.in_force, k.in_force, t.in_force, l.in_force),

@@ -1,7 +1,6 @@
 // A gate's own settings: which of them differ, and their words.
 use crate::setting::{put_doubt, put_name};
 use crate::values::{put_held, put_pwm};
-use command::{Held, Pwm};
 use entry::GateKnown;
 use node::GateSettings;
 use std::io;
@@ -13,14 +12,6 @@ pub(crate) struct GateChosen {
     pub(crate) pwm: bool,
     pub(crate) held: bool,
     pub(crate) timer: bool,
-}
-
-fn is_other_pwm(a: Pwm, b: Pwm) -> bool {
-    (a.first != b.first) | (a.second != b.second)
-}
-
-fn is_other_held(a: Held, b: Held) -> bool {
-    (a.outputs != b.outputs) | is_other_pwm(a.pwm, b.pwm)
 }
 
 impl GateChosen {
@@ -40,8 +31,8 @@ impl GateChosen {
     ) -> GateChosen {
         GateChosen {
             outputs: (s.outputs != t.outputs) | (k.outputs != l.outputs),
-            pwm: is_other_pwm(s.pwm, t.pwm) | (k.pwm != l.pwm),
-            held: is_other_held(s.held, t.held) | (k.held != l.held),
+            pwm: (s.pwm != t.pwm) | (k.pwm != l.pwm),
+            held: (s.held != t.held) | (k.held != l.held),
             timer: (s.timer != t.timer) | (k.timer != l.timer),
         }
     }

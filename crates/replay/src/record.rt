@@ -3,7 +3,6 @@ use crate::drive::DriveChosen;
 use crate::gate::GateChosen;
 use crate::setting::{put_doubt, put_name};
 use crate::values::put_place;
-use command::Place;
 use entry::Entry;
 use session::Session;
 use std::io;
@@ -21,10 +20,6 @@ struct Chosen {
 
 // ---- what differs
 
-fn is_other_place(a: Place, b: Place) -> bool {
-    (a.address.0 != b.address.0) | (a.group.0 != b.group.0) | (a.leader != b.leader)
-}
-
 impl Chosen {
     const ALL: Chosen = Chosen {
         place: true,
@@ -41,7 +36,7 @@ impl Chosen {
         let k = old.known;
         let l = new.known;
         Chosen {
-            place: is_other_place(s.place, t.place) | (k.place != l.place),
+            place: (s.place != t.place) | (k.place != l.place),
             mask: (s.mask != t.mask) | (k.mask != l.mask),
             divisor: (s.divisor != t.divisor) | (k.divisor != l.divisor),
             gate: GateChosen::changed(s.gate, k.gate, t.gate, l.gate),

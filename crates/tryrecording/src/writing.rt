@@ -9,10 +9,8 @@ pub(crate) fn put_bytes(out: &mut [u8], at: usize, bytes: &[u8]) -> usize
     requires { at + length bytes.now < 0x100000 }
     ensures { WroteEach bytes.now at out.old result out.new }
 {
-    let mut i = 0;
-    while i < bytes.len() {
-        store(out, at + i, bytes[i]);
-        i += 1;
+    for (i, b) in bytes.iter().enumerate() {
+        store(out, at + i, *b);
     }
     at + bytes.len()
 }

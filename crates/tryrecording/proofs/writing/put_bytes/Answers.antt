@@ -1,13 +1,12 @@
-use native.Mathlib.Omega.{arith}
-use borrow.Author.Rules.{rules}
+use Rattle.std.proofs.Common.{rules}
 use Rattle.tryrecording.proofs.Writes.{bytes_start, bytes_long, bytes_more, bytes_all}
 use Rattle.tryrecording.proofs.writing.put_bytes.Goals as goal
 
 pub loop-i-init : goal.loop-i-init
-loop-i-init c = (omega arith, search rules, search bytes_start)
+loop-i-init c = (search rules, search bytes_start)
 
 pub loop-i-preserved : goal.loop-i-preserved
-loop-i-preserved c = (omega arith, search bytes_long, search bytes_more)
+loop-i-preserved c = (search bytes_long, search bytes_more)
 
 pub returns : goal.returns
 returns c = search bytes_all

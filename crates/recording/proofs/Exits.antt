@@ -66,9 +66,9 @@ module _ (s : Session) (p : List ℕ) (next : Cursor) (q : Session) (x : Sought)
   took_none f g = rw (← e, ← h, f) g
 
 module _ (s : Session) (p : List ℕ) (next : Cursor) (r : Step) (m : Moved) (h : Promise step_number r (report_of s p)) where
-  pub took_done : (sent : Option ℕ) → r.end ≡ Ok sent → m ≡ move_to event.Answered next false r.session → m ≡ take_reply s p next
+  pub took_done : (n : Option ℕ) → r.end ≡ Ok n → m ≡ move_to event.Answered next false r.session → m ≡ take_reply s p next
   unfolding take_reply
-  took_done sent f g = rw (← h.answer, f) g
+  took_done n f g = rw (← h.answer, f) g
 
   pub took_refused : (why : Refusal) → r.end ≡ Err why → m ≡ move_to event.Unawaited next false r.session → m ≡ take_reply s p next
   unfolding take_reply

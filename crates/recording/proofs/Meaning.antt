@@ -76,7 +76,7 @@ module _ (s : Session) (p : List ℕ) (next : Cursor) where
       go None e = refl
 
   unawaited_by : (x : End) (t : Session) → (reply_by x next t).event ≡ event.Unawaited → (number_by x ≡ done → ⊥) × ((reply_by x next t).stage.session ≡ t)
-  unawaited_by (Ok sent) t e = impossible cc
+  unawaited_by (Ok n) t e = impossible cc
   unawaited_by (Err why) t e = (not_done why, refl)
 
   -- "a reply that no command waits for is shown without effect"

@@ -42,7 +42,7 @@ module _ (cts rts : List ℕ) (at : Cursor) where
   command_down None next q t d o = absurd (true≢false o)
 
   reply_down : (x : End) (next : Cursor) (t : Session) → bytes_left cts rts next < bytes_left cts rts at → Down (reply_by x next t)
-  reply_down (Ok sent) next t d o = d
+  reply_down (Ok n) next t d o = d
   reply_down (Err why) next t d o = d
 
   on_down : (cs rs : List ℕ) (s : Session) (l : Line) (next : Cursor) → Some (record { line = l; behind = next }) ≡ capture_step cts rts at → Down (advance_on cs cts rs rts at s l next)
@@ -95,7 +95,7 @@ module _ (cs cts rs rts : List ℕ) (s : Session) (at : Cursor) (h : length cts 
 
   by_reply : (x : End) (next : Cursor) (t : Session) → follow_of s (left_at cs cts rs rts at) ≡ follow_of t (left_at cs cts rs rts next)
       → DoneBy cs cts rs rts s at (reply_by x next t)
-  by_reply (Ok sent) next t e = record { on = refl; same = e }
+  by_reply (Ok n) next t e = record { on = refl; same = e }
   by_reply (Err why) next t e = record { on = refl; same = e }
 
   by_line_lem : (l : Line) (next : Cursor) → Some (record { line = l; behind = next }) ≡ capture_step cts rts at → DoneBy cs cts rs rts s at (advance_on cs cts rs rts at s l next)

@@ -15,7 +15,7 @@ use Rattle.recording.specs.declared.Replayed.{Replayed}
 
 -- "6 for the node count", as power-up gives it
 abbrev pub count_check : End → Result (Unit {0}) Refusal
-count_check (Ok sent) = Ok tt
+count_check (Ok n) = Ok tt
 count_check (Err why) = Err why
 
 -- "then 15 .., then 16"

@@ -37,7 +37,7 @@ take_command s p next = command_by (find_of (quiet_of s) p).source next (quiet_o
 
 -- a reply closes the exchange, or "is shown without effect"
 abbrev pub reply_by : End → Cursor → Session → Moved
-reply_by (Ok sent) next s = move_to Answered next false s
+reply_by (Ok n) next s = move_to Answered next false s
 reply_by (Err why) next s = move_to Unawaited next false s
 
 -- reported as it came

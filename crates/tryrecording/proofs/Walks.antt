@@ -81,7 +81,7 @@ module _ (cs cts rs rts : List ℕ) where
       → step_bytes 1 at.reply (length p.bytes) ++ joined_steps (steps_of s (past_reply at p) (left_at cs cts rs rts (past_reply at p)))
       ≡ shown at (reply_by e (past_reply at p) s)
   unfolding steps_from
-  reply_shown at p s (Ok sent) = rw (add-sub_cancel_left at.reply (length p.bytes))
+  reply_shown at p s (Ok n) = rw (add-sub_cancel_left at.reply (length p.bytes))
   reply_shown at p s (Err why) = rw (add-sub_cancel_left at.reply (length p.bytes))
 
   module _ (h : length cts ≡ length cs) (k : length rts ≡ length rs) where

@@ -1,27 +1,17 @@
 // The program `export`: packets back to back on standard input, their sheet on standard output; or why not, in a line on standard error.
 #![tactic(auto)]
 
-ghost use Rattle.std.specs.Prelude.{◌≡◌, length};
-
 use std::io;
 use wire::Refusal;
 
 // The most bytes of packets.
 const MOST_PACKETS: usize = 65536;
 
-// Room for them, and for one byte more, which tells that they are more.
-fn packets_room() -> [u8; MOST_PACKETS + 1]
-    ensures { 65537 ≡ length result }
-{
-    [0; MOST_PACKETS + 1]
-}
+// One byte more, which tells that they are more.
+const PACKETS: usize = MOST_PACKETS + 1;
 
 // Room for their sheet: a line has three characters for each byte of its packet, less two (sheet/proofs/Lengths).
-fn sheet_room() -> [u8; 3 * MOST_PACKETS]
-    ensures { 196608 ≡ length result }
-{
-    [0; 3 * MOST_PACKETS]
-}
+const SHEET: usize = 3 * MOST_PACKETS;
 
 // The number of the first packet that doesn't read, from 1.
 fn first_fault(packets: &[u8]) -> usize {
@@ -50,8 +40,8 @@ fn say_fault(rt: &impl Eprint, packets: &[u8], why: Refusal) -> io::Result<()> {
 }
 
 fn main(rt: HostRuntime) -> io::Result<()> {
-    let mut input = packets_room();
-    let mut sheet = sheet_room();
+    let mut input = reading::room::<PACKETS>();
+    let mut sheet = reading::room::<SHEET>();
     let n = reading::read_full(&mut rt.stdin(), &mut input)?;
     if MOST_PACKETS < n {
         return rt.eprintln("more than 64 KiB of packets");

@@ -1,28 +1,18 @@
 // The program `import`: a movement sheet on standard input, its packets on standard output; or why not, in a line on standard error.
 #![tactic(auto)]
 
-ghost use Rattle.std.specs.Prelude.{◌≡◌, length};
-
 use sheet::ImportError;
 use std::io;
 
-// Room for the longest sheet, and one byte more, which tells that it is longer.
-fn sheet_room() -> [u8; sheet::MOST + 1]
-    ensures { 65537 ≡ length result }
-{
-    [0; sheet::MOST + 1]
-}
+// One byte more than the longest sheet has, which tells that it is longer.
+const SHEET: usize = sheet::MOST + 1;
 
 // Room for the packets of any sheet: a packet is no longer than its line (sheet/proofs/Lengths).
-fn packets_room() -> [u8; sheet::MOST]
-    ensures { 65536 ≡ length result }
-{
-    [0; sheet::MOST]
-}
+const PACKETS: usize = sheet::MOST;
 
 fn main(rt: HostRuntime) -> io::Result<()> {
-    let mut input = sheet_room();
-    let mut packets = packets_room();
+    let mut input = reading::room::<SHEET>();
+    let mut packets = reading::room::<PACKETS>();
     let n = reading::read_full(&mut rt.stdin(), &mut input)?;
     match sheet::import(&input[..n], &mut packets) {
         Ok(m) => rt.write_all(text::first(&packets, m)),

@@ -2,7 +2,7 @@
 // or why not, in a line on standard error.
 #![tactic(auto)]
 
-ghost use Rattle.std.specs.Prelude.{◌≡◌, ◌≤◌, ◌<◌, length};
+ghost use Rattle.std.specs.Prelude.{◌≤◌, ◌<◌, length};
 
 use sheet::ImportError;
 use std::io;
@@ -15,32 +15,13 @@ const MOST_SCRIPT: usize = 65536;
 const MOST_BYTES: usize = (MOST_SCRIPT - 3) / 3;
 
 // Room for the count's line, the longest sheet, and one byte more, which tells that it is longer.
-fn input_room() -> [u8; 3 + sheet::MOST + 1]
-    ensures { 65540 ≡ length result }
-{
-    [0; 3 + sheet::MOST + 1]
-}
+const INPUT: usize = 3 + sheet::MOST + 1;
 
 // Room for the packets of any sheet: a packet is no longer than its line (sheet/proofs/Lengths).
-fn packets_room() -> [u8; sheet::MOST]
-    ensures { 65536 ≡ length result }
-{
-    [0; sheet::MOST]
-}
+const PACKETS: usize = sheet::MOST;
 
-// Room for the bench's longest input.
-fn script_room() -> [u8; MOST_SCRIPT]
-    ensures { 65536 ≡ length result }
-{
-    [0; MOST_SCRIPT]
-}
-
-// Room for its longest output (script/proofs/Bound).
-fn output_room() -> [u8; 655360]
-    ensures { 655360 ≡ length result }
-{
-    [0; 655360]
-}
+// Room for the bench's longest output (script/proofs/Bound).
+const OUTPUT: usize = 655360;
 
 // Whether a line is a node count as the bench takes it.
 fn is_count(line: &[u8]) -> bool {
@@ -95,8 +76,8 @@ fn rehearse(rt: &(impl Print + Eprint), count: &[u8], packets: &[u8]) -> io::Res
     if MOST_BYTES < packets.len() {
         return rt.eprintln("more than 64 KiB in the bench's form");
     }
-    let mut script = script_room();
-    let mut output = output_room();
+    let mut script = reading::room::<MOST_SCRIPT>();
+    let mut output = reading::room::<OUTPUT>();
     let end = put_script(&mut script, count, packets);
     match script::rehearse(text::first(&script, end), &mut output) {
         Ok(n) => rt.write_all(text::first(&output, n)),
@@ -107,7 +88,7 @@ fn rehearse(rt: &(impl Print + Eprint), count: &[u8], packets: &[u8]) -> io::Res
 
 // Plays a sheet, with the count's line.
 fn play(rt: &(impl Print + Eprint), count: &[u8], sheet: &[u8]) -> io::Result<()> {
-    let mut packets = packets_room();
+    let mut packets = reading::room::<PACKETS>();
     match sheet::import(sheet, &mut packets) {
         Ok(n) => rehearse(rt, count, text::first(&packets, n)),
         Err(ImportError::Line(line)) => eprintln!(rt; "line {line}: not a HEX line"),
@@ -117,7 +98,7 @@ fn play(rt: &(impl Print + Eprint), count: &[u8], sheet: &[u8]) -> io::Result<()
 }
 
 fn main(rt: HostRuntime) -> io::Result<()> {
-    let mut room = input_room();
+    let mut room = reading::room::<INPUT>();
     let n = reading::read_full(&mut rt.stdin(), &mut room)?;
     let input = &room[..n];
     let line = text::first_line(input);

@@ -3,12 +3,22 @@
 // Left to others: what is read (the programs). Of standard input no contract can say what it has.
 #![tactic(auto)]
 
-ghost use Rattle.std.specs.Prelude.{◌<◌, IfOk, length, take};
+ghost use Rattle.std.specs.Prelude.{◌≡◌, ◌<◌, IfOk, length, take};
 ghost use Rattle.std.specs.Io.{ReadsAtMost};
 ghost use Rattle.std.specs.Io.KnownBytes.{Consumes, IsAtEnd};
+ghost use Rattle.reading.specs.Room.{room_of};
 
 use std::io;
 use std::io::Read;
+
+// Room for so many bytes. A long array is made here alone: written out in a larger function it is more than a check can follow.
+#[tactic(auto, unfolding(crate::specs::Room::room_of))]
+pub fn room<const N: usize>() -> [u8; N]
+    ensures value { result ≡ room_of N }
+    ensures size { N ≡ length result }
+{
+    [0; N]
+}
 
 // Reads until the buffer is full or the input ends. How many bytes it put at the start of the buffer.
 // After an error some bytes are lost; so the programs end with it.

@@ -21,24 +21,13 @@ use std::io;
 // The longest recording, as text.
 const MOST: usize = 65536;
 
+// One byte more, which tells that it is longer.
+const INPUT: usize = MOST + 1;
+
 // The most bytes that it has on a line: each has two digits and a space before them.
 const MOST_BYTES: usize = MOST / 3;
 
-// Room for it, and for one byte more, which tells that it is longer.
-fn input_room() -> [u8; MOST + 1]
-    ensures { 65537 ≡ length result }
-{
-    [0; MOST + 1]
-}
-
-// Room for the bytes of a line.
-fn bytes_room() -> [u8; MOST_BYTES]
-    ensures { 21845 ≡ length result }
-{
-    [0; MOST_BYTES]
-}
-
-// Room for their times.
+// Room for the times of a line.
 fn times_room() -> [u32; MOST_BYTES]
     ensures { 21845 ≡ length result }
 {
@@ -47,9 +36,9 @@ fn times_room() -> [u32; MOST_BYTES]
 
 // Walks through the runs, all of the form, and writes the record.
 fn walk(rt: &impl Print, nodes: Nodes, text: &[u8]) -> io::Result<()> {
-    let mut command_bytes = bytes_room();
+    let mut command_bytes = reading::room::<MOST_BYTES>();
     let mut command_times = times_room();
-    let mut reply_bytes = bytes_room();
+    let mut reply_bytes = reading::room::<MOST_BYTES>();
     let mut reply_times = times_room();
     let taken = Recording {
         command: runs::gather(text, Line::Command, &mut command_bytes, &mut command_times),
@@ -68,7 +57,7 @@ fn check_and_walk(rt: &(impl Print + Eprint), nodes: Nodes, text: &[u8]) -> io::
 }
 
 fn main(rt: HostRuntime) -> io::Result<()> {
-    let mut room = input_room();
+    let mut room = reading::room::<INPUT>();
     let size = reading::read_full(&mut rt.stdin(), &mut room)?;
     if MOST < size {
         return eprintln!(&rt; "the recording is longer than 64 KiB");

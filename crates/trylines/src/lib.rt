@@ -25,31 +25,15 @@ pub fn input_room() -> [u8; MOST + 1]
 }
 
 // Room for the bytes of the longest line: each has two digits and a space or the line's end behind it.
-fn bytes_room() -> [u8; 21846]
-    ensures { 21846 ≡ length result }
-{
-    [0; 21846]
-}
+const BYTES: usize = 21846;
 
 // Room for the line of the longest answer.
-fn line_room() -> [u8; 3 * fields::MOST_BYTES]
-    ensures { 6633 ≡ length result }
-{
-    [0; 3 * fields::MOST_BYTES]
-}
+const LINE: usize = 3 * fields::MOST_BYTES;
 
 // Room for the answer to a recording, which is longer than all others, and for its line.
-fn recording_room() -> [u8; tryrecording::MOST_BYTES]
-    ensures { 11817 ≡ length result }
-{
-    [0; tryrecording::MOST_BYTES]
-}
+const RECORDING: usize = tryrecording::MOST_BYTES;
 
-fn recording_line_room() -> [u8; 3 * tryrecording::MOST_BYTES]
-    ensures { 35451 ≡ length result }
-{
-    [0; 3 * tryrecording::MOST_BYTES]
-}
+const RECORDING_LINE: usize = 3 * RECORDING;
 
 // Writes bytes as a line, which `line` has room for.
 fn show_bytes(rt: &impl Print, bytes: &[u8], line: &mut [u8]) -> io::Result<()> {
@@ -62,14 +46,14 @@ fn show_bytes(rt: &impl Print, bytes: &[u8], line: &mut [u8]) -> io::Result<()> 
 // Writes an answer as a line.
 fn show(rt: &impl Print, a: Answer) -> io::Result<()> {
     let bytes = a.bytes;
-    let mut line = line_room();
+    let mut line = reading::room::<LINE>();
     show_bytes(rt, text::first(&bytes, a.length), &mut line)
 }
 
 // Tries a recording, and writes its answer.
 fn try_recording(rt: &impl Print, args: &[u8]) -> io::Result<()> {
-    let mut bytes = recording_room();
-    let mut line = recording_line_room();
+    let mut bytes = reading::room::<RECORDING>();
+    let mut line = reading::room::<RECORDING_LINE>();
     let n = tryrecording::replay(args, &mut bytes);
     show_bytes(rt, text::first(&bytes, n), &mut line)
 }
@@ -135,7 +119,7 @@ fn try_bytes(rt: &impl Print, s: Session, kind: u8, args: &[u8]) -> io::Result<S
 fn try_line(rt: &impl Print, s: Session, line: &[u8]) -> io::Result<Session>
     ensures { IfOk result (λ after. after ≡ try_line s line.now) }
 {
-    let mut room = bytes_room();
+    let mut room = reading::room::<BYTES>();
     let n = read_line(line, &mut room);
     let bytes = text::first(&room, n);
     try_bytes(rt, s, byte(bytes, 0), text::rest(bytes, 1))

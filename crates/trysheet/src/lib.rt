@@ -129,19 +129,12 @@ fn export_summed(args: &[u8], packets: &[u8]) -> Answer
     export_into(View::Summed, packets, &mut buffer[0..room])
 }
 
-// Room for all that a line says in copies. Alone in its function: an array so long exhausts the check of a longer one.
-fn copied_room() -> [u8; MOST_TEXT]
-    ensures { 69632 ≡ length result }
-{
-    [0; MOST_TEXT]
-}
-
 // `room(3) times(2) len unit*len tail..`: `NN value(3) SUMS`.
 pub fn import_copied(args: &[u8]) -> Answer
     ensures { result ≡ import_copied args.now }
 {
     if is_copied(args, MOST_TEXT) {
-        let mut text = copied_room();
+        let mut text = reading::room::<MOST_TEXT>();
         let n = put_copied(args, &mut text);
         return import_summed(args, first(&text, n));
     }
@@ -153,7 +146,7 @@ pub fn export_copied(args: &[u8]) -> Answer
     ensures { result ≡ export_copied args.now }
 {
     if is_copied(args, MOST_PACKETS) {
-        let mut packets = copied_room();
+        let mut packets = reading::room::<MOST_TEXT>();
         let n = put_copied(args, &mut packets);
         return export_summed(args, first(&packets, n));
     }

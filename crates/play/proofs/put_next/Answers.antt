@@ -6,5 +6,5 @@ use Rattle.play.proofs.put_next.Goals as goal
 pub overflow_add-result : goal.overflow_add-result
 overflow_add-result c = record { fits = search (end_fits, by_frame, rules) }
 
-pub returns-in-Whole : goal.returns-in-Whole
-returns-in-Whole c = (search (end_on, by_frame), search (end_within, by_frame))
+pub returns-in-Ok : goal.returns-in-Ok
+returns-in-Ok c = (search (end_on, by_frame), search (end_within, by_frame))

@@ -32,6 +32,7 @@ pub fn size(kind: Kind, mask: u8) -> usize
 }
 
 // One whole status packet under a mask, from a node of that kind. Its items are `status::items_part`.
+#[tactic(auto, unfolding(crate::specs::Mask::size_of, crate::specs::Mask::mask_read))]
 pub fn read(kind: Kind, s: &[u8], mask: u8) -> Result<u8, Refusal>
     ensures { Promise number_by result (mask_read kind mask s.now) }
 {

@@ -4,7 +4,7 @@ use Rattle.packet.specs.declared.Framed.{Framed}
 use Rattle.wire.specs.declared.refusal.Refusal.{Refusal}
 use Rattle.wire.specs.declared.refusal.Refusal.TheVariants.{Short, Header, Long, Sum}
 use Rattle.wire.proofs.Impossible.{impossible}
-use Rattle.packet.specs.Packet.{end_of, parts_of, frame_of, is_intact, checked, read_of, whole}
+use Rattle.packet.specs.Packet.{end_of, parts_of, frame_of, is_intact, checked, read_of}
 
 pub data Unframed : Refusal → Type 0 where
   short : Unframed Short

@@ -24,6 +24,7 @@ pub struct Framed {
 }
 
 // The command packet that some bytes begin with, or why it is none, never 3; whatever its sum and whatever follows it: the chain takes a wrong sum too.
+#[tactic(auto, using(wire::specs::Promise::promised), unfolding(crate::specs::Packet::frame_of))]
 pub fn frame(s: &[u8]) -> Result<Framed, Refusal>
     ensures { Promise number_by result (frame_of s.now) }
 {
@@ -49,6 +50,7 @@ pub fn frame(s: &[u8]) -> Result<Framed, Refusal>
 }
 
 // Whether the sum of a packet, which is all of these bytes, is right: the header isn't in it.
+#[tactic(auto, unfolding(crate::specs::Packet::is_intact))]
 pub fn is_intact(s: &[u8]) -> bool
     ensures { result ≡ is_intact s.now }
 {
@@ -89,8 +91,8 @@ fn put_packet_with(address: u8, head: u8, bytes: &[u8], out: &mut [u8])
     ensures { out.new ≡ packet_with address head bytes.now ++ drop (4 + length bytes.now) out.old }
 {
     let end = 3 + bytes.len();
-    let start = std::num::wrapping_add_u8(address, head);
-    let total = std::num::wrapping_add_u8(start, buffer::sum(bytes));
+    let start = address.wrapping_add(head);
+    let total = start.wrapping_add(buffer::sum(bytes));
     out[0] = HEADER;
     out[1] = address;
     out[2] = head;
@@ -99,6 +101,7 @@ fn put_packet_with(address: u8, head: u8, bytes: &[u8], out: &mut [u8])
 }
 
 // Builds a command packet at the start of `out`, whose rest stays. Any address byte is taken; 6 comes before 5.
+#[tactic(auto, using(wire::specs::Promise::lent), unfolding(crate::specs::Build::build_of))]
 pub fn build(address: u8, command: u8, bytes: &[u8], out: &mut [u8]) -> Result<usize, Refusal>
     ensures { Lending number_by result out.new (build_of address command bytes.now out.old) }
 {

@@ -23,13 +23,7 @@ fn own_mask(role: Role, held: u8) -> u8
 {
     match role {
         Role::Masks(mask) => mask,
-        Role::Plain => held,
-        Role::Places(_) => held,
-        Role::Paces(_) => held,
-        Role::Captures => held,
-        Role::Zeroes => held,
-        Role::Idles => held,
-        Role::Resets => held,
+        _ => held,
     }
 }
 
@@ -39,8 +33,7 @@ fn mask_of(message: Message, held: u8) -> u8
 {
     match message {
         Message::Intact(c) => own_mask(c.role(), held),
-        Message::Other => held,
-        Message::Spoilt => held,
+        Message::Other | Message::Spoilt => held,
     }
 }
 
@@ -49,8 +42,7 @@ fn status_byte(message: Message) -> u8
     ensures { result ≡ status_byte message }
 {
     match message {
-        Message::Intact(_) => 0,
-        Message::Other => 0,
+        Message::Intact(_) | Message::Other => 0,
         Message::Spoilt => 2,
     }
 }
@@ -94,8 +86,7 @@ fn drive_values(x: Shown) -> [u32; 8]
 fn values(x: Shown) -> [u32; 8]
     ensures { result ≡ values_of x }
 {
-    let kind = x.kind;
-    match kind {
+    match x.kind {
         Kind::Gate => gate_values(x),
         Kind::Drive => drive_values(x),
     }
@@ -105,10 +96,7 @@ fn values(x: Shown) -> [u32; 8]
 fn has_room(kind: Kind, mask: u8, room: usize) -> bool
     ensures { result ≡ has_room kind mask room }
 {
-    if status::MOST_REPLY <= room {
-        return true;
-    }
-    mask::size(kind, mask) <= room
+    status::MOST_REPLY <= room || mask::size(kind, mask) <= room
 }
 
 // A status packet with no item yet, whose sum is the status byte itself; where the sum stands.
@@ -146,8 +134,7 @@ fn put_items(x: Shown, mask: u8, out: &mut [u8], end: usize) -> usize
     requires { end + length (reply_items mask x) < length out.old }
     ensures { Grown (reply_items mask x) end out.old result out.new }
 {
-    let kind = x.kind;
-    let counts = status::counts(kind);
+    let counts = status::counts(x.kind);
     let values = values(x);
     let mut bits = mask;
     let mut at = end;
@@ -163,9 +150,8 @@ fn put_items(x: Shown, mask: u8, out: &mut [u8], end: usize) -> usize
 pub fn reply(n: Node, message: Message, out: &mut [u8]) -> Result<usize, Refusal>
     ensures { Lending number_by result out.new (written (reply_of message n) out.old) }
 {
-    let kind = n.kind;
     let mask = mask_of(message, n.mask_after(message));
-    if !has_room(kind, mask, out.len()) {
+    if !has_room(n.kind, mask, out.len()) {
         return Err(Refusal::Room);
     }
     let begun = begin(out, status_byte(message));

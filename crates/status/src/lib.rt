@@ -46,6 +46,7 @@ pub const T: usize = if GATE_TOTAL < DRIVE_TOTAL {
 pub const MOST_REPLY: usize = T + 2;
 
 // The byte counts of a kind's items, from bit 0 of the mask on. A byte each: all eight are handed over as one word.
+#[tactic(auto, unfolding(crate::specs::Status::counts))]
 pub fn counts(kind: Kind) -> [u8; 8]
     ensures { result ≡ counts kind }
 {
@@ -56,6 +57,7 @@ pub fn counts(kind: Kind) -> [u8; 8]
 }
 
 // One whole status packet with so many item bytes.
+#[tactic(auto, using(wire::specs::Promise::promised), unfolding(crate::specs::Status::status_read))]
 pub fn read(s: &[u8], items: usize) -> Result<u8, Refusal>
     ensures { Promise number_by result (status_read s.now items) }
 {
@@ -69,11 +71,10 @@ pub fn read(s: &[u8], items: usize) -> Result<u8, Refusal>
     if items < found {
         return Err(Refusal::Long);
     }
-    if buffer::ends_in_sum(s) {
-        Ok(s[0])
-    } else {
-        Err(Refusal::Sum)
+    if !buffer::ends_in_sum(s) {
+        return Err(Refusal::Sum);
     }
+    Ok(s[0])
 }
 
 // The item bytes of a status packet: all between its status byte and its sum.
@@ -99,22 +100,16 @@ pub enum Answer {
 }
 
 // A reply is good if it has 2 to T + 2 bytes and its sum is right; clear if bit 1 of its status byte is 0.
+#[tactic(auto, unfolding(crate::specs::Status::judge_of))]
 pub fn judge(s: &[u8]) -> Answer
     ensures { result ≡ judge_of s.now }
 {
-    if s.len() < 2 {
+    if s.len() < 2 || MOST_REPLY < s.len() || !buffer::ends_in_sum(s) {
         return Answer::Silent;
     }
-    if MOST_REPLY < s.len() {
-        return Answer::Silent;
-    }
-    if buffer::ends_in_sum(s) {
-        if s[0] / 2 % 2 == 0 {
-            Answer::Clear
-        } else {
-            Answer::Marked
-        }
+    if s[0] / 2 % 2 == 0 {
+        Answer::Clear
     } else {
-        Answer::Silent
+        Answer::Marked
     }
 }

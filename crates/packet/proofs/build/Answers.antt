@@ -1,11 +1,10 @@
--- 6 by the tests on data and command; then the packet, of `4 + n` bytes, has room or not.
+-- The packet, of `4 + n` bytes, has room or not.
 use Rattle.std.proofs.Common.{◌≡◌, ℕ, ◌+◌, ◌<◌, ◌≤◌, List, ◌++◌, length, drop, arith, le-ltb, Ok, Err}
 use Rattle.wire.specs.Numbers.{number_by}
-use Rattle.wire.specs.Promise.{Lending, lent}
+use Rattle.wire.specs.Promise.{Lending}
 use Rattle.packet.specs.Build.{packet_of, build_of}
 use Rattle.wire.specs.declared.refusal.Refusal.TheVariants.{Room}
 use Rattle.packet.proofs.Packets.{built_length}
-use Rattle.wire.proofs.Tests.{tests}
 use Rattle.buffer.proofs.Writing.{no_room, has_room_lem}
 use Rattle.packet.proofs.build.Goals as goal
 
@@ -17,14 +16,6 @@ module _ (a k : ℕ) (d out : List ℕ) (few : length d ≤ 15) (small : k ≤ 1
   fits : (o : List ℕ) → 4 + length d ≤ length out → o ≡ packet_of a k d ++ drop (4 + length d) out → Lending number_by (Ok (4 + length d)) o (build_of a k d out)
   unfolding build_of
   fits o h e = rw (le-ltb 15 (length d) few, le-ltb 15 k small) (has_room_lem (packet_of a k d) out (4 + length d) o (built_length a k d) h e)
-
-pub returns-then-n-gt15 : goal.returns-then-n-gt15
-unfolding build_of
-returns-then-n-gt15 c = lent (search tests)
-
-pub returns-then-command-gt15 : goal.returns-then-command-gt15
-unfolding build_of
-returns-then-command-gt15 c = lent (search tests)
 
 pub returns-then-out-n : goal.returns-then-out-n
 returns-then-out-n c = search short

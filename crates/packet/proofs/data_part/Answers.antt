@@ -21,12 +21,6 @@ whole s = rw add-sub_cancel_left
 pub returns-then-s-lt3 : goal.returns-then-s-lt3
 returns-then-s-lt3 c = search (none_left, none, rules)
 
-pub overflow_cast-sum_at : goal.overflow_cast-sum_at
-overflow_cast-sum_at c = omega (arith, c.shared_slice_known-1.given 2)
-
-pub overflow_add-sum_at : goal.overflow_add-sum_at
-overflow_add-sum_at c = omega (arith, c.shared_slice_known-1.given 2)
-
 pub returns-then-s-sum_at : goal.returns-then-s-sum_at
 returns-then-s-sum_at c = search (cut, rules)
 

@@ -1,10 +1,9 @@
 -- The frame decides, and then the sum of the bytes up to its end.
-use Rattle.std.proofs.Common.{◌≡◌, ℕ, Bool, true, false, List, length, take, sym, ◌∙◌, length-take-le, Result, Ok, Err}
+use Rattle.std.proofs.Common.{◌≡◌, ℕ, Bool, true, false, List, length, take, sym, ◌∙◌, length-take-le, Ok, Err}
 use Rattle.packet.specs.declared.Framed.{Framed}
 use Rattle.wire.specs.Numbers.{number_by}
 use Rattle.wire.specs.Promise.{Promise, promised}
-use Rattle.packet.specs.Packet.{frame_of, is_intact, read_of, whole}
-use Rattle.wire.specs.declared.address.Address.{Address}
+use Rattle.packet.specs.Packet.{frame_of, is_intact, read_of}
 use Rattle.wire.specs.declared.refusal.Refusal.{Refusal}
 use Rattle.wire.specs.declared.refusal.Refusal.TheVariants.{Sum}
 use Rattle.packet.proofs.Packets.{framing}

@@ -24,10 +24,7 @@ pub(crate) enum Pair {
 fn pair_by(high: u8, low: u8, s: &[u8]) -> Pair
     ensures { result ≡ pair_by high low s.now }
 {
-    if 15 < high {
-        return Pair::Bad;
-    }
-    if 15 < low {
+    if 15 < high || 15 < low {
         return Pair::Bad;
     }
     let value = high * 16 + low;
@@ -58,9 +55,9 @@ fn read_pairs(line: &[u8], out: &mut [u8]) -> Option<usize>
 {
     let mut at = 0;
     let mut count = 0;
+    // No iterator: that a space follows a pair says that one more must come, so the last pair is known by its own reading.
     loop {
-        let next = read_pair(rest(line, at));
-        match next {
+        match read_pair(rest(line, at)) {
             Pair::Bad => {
                 return None;
             }
@@ -86,9 +83,6 @@ pub fn read_bytes(line: &[u8], out: &mut [u8]) -> Option<usize>
         return Some(0);
     }
     let mut none = [0; 1];
-    let form = read_pairs(line, &mut none);
-    match form {
-        None => None,
-        Some(_) => read_pairs(line, out),
-    }
+    read_pairs(line, &mut none)?;
+    read_pairs(line, out)
 }

@@ -5,8 +5,8 @@ use Rattle.hexadecimal.proofs.pairs.read_bytes.Goals as goal
 pub returns-then-line-lt1 : goal.returns-then-line-lt1
 returns-then-line-lt1 c = search read_empty
 
-pub returns-in-None : goal.returns-in-None
-returns-in-None c = search read_bad
+pub returns-in_err-read_pairs : goal.returns-in_err-read_pairs
+returns-in_err-read_pairs c = rw c.from_residual.ensures (search (read_bad, c.in_err-read_pairs.was))
 
-pub returns-in-Some : goal.returns-in-Some
-returns-in-Some c = search read_good
+pub returns : goal.returns
+returns c = search (read_good, c.in_ok-read_pairs.was)

@@ -1,7 +1,7 @@
 -- A room and the buffer that has it.
 use Rattle.std.proofs.Common.{◌≡◌, ℕ, ◌≤◌, Bool, true, false, cond, leb, List, length, refl, arith, leb-true}
 use Rattle.std.proofs.lemmas.List.{length-replicate}
-use Rattle.fields.specs.Lending.{filled_to, room_field, room_of}
+use Rattle.fields.specs.Lending.{fields_filled, room_field, room_of}
 
 -- a room is within the most
 pub room_within : (s : List ℕ) (most r : ℕ) → r ≡ room_of s most → r ≤ most
@@ -11,6 +11,6 @@ room_within s most r = within (leb (room_field s most) most) refl where
   within false h e = omega arith
 
 -- so the largest buffer has it
-pub room_fits : (s b : List ℕ) (most r : ℕ) → b ≡ filled_to most → r ≡ room_of s most → r ≤ length b
-unfolding filled_to
+pub room_fits : (s b : List ℕ) (most r : ℕ) → b ≡ fields_filled most → r ≡ room_of s most → r ≤ length b
+unfolding fields_filled
 room_fits s b most r e f = rw (e, length-replicate {A = ℕ} most 0x55) (room_within s most r f)

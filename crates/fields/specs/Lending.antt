@@ -13,18 +13,18 @@ abbrev pub most_triple_room : ℕ
 most_triple_room = 0x18000
 
 -- "filled with 55 before the call"
-unfoldable pub filled_to : ℕ → List ℕ
-filled_to most = replicate most 0x55
+unfoldable pub fields_filled : ℕ → List ℕ
+fields_filled most = replicate most 0x55
 
 -- the largest buffers that lines lend
 abbrev pub filled_of : List ℕ
-filled_of = filled_to most_room
+filled_of = fields_filled most_room
 
 abbrev pub filled_word : List ℕ
-filled_word = filled_to most_word_room
+filled_word = fields_filled most_word_room
 
 abbrev pub filled_triple : List ℕ
-filled_triple = filled_to most_triple_room
+filled_triple = fields_filled most_triple_room
 
 -- a line begins with its room, which has as many bytes as the most has
 unfoldable pub room_field : List ℕ → ℕ → ℕ

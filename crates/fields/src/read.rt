@@ -1,7 +1,7 @@
 // Fields of a line's bytes. Every place may be asked for: past the end is a 0.
 ghost use Rattle.std.specs.Prelude.{◌≡◌, drop};
 ghost use Rattle.fields.specs.Field.{fields_byte, fields_word, triple_of, fields_long};
-ghost use Rattle.fields.specs.Lending.{filled_to, room_field, room_of, is_lending};
+ghost use Rattle.fields.specs.Lending.{fields_filled, room_field, room_of, is_lending};
 
 // The byte at a position.
 pub fn byte(s: &[u8], at: usize) -> u8
@@ -45,7 +45,7 @@ pub const MOST_TRIPLE_ROOM: usize = 0x18000;
 
 // A buffer that a line lends, filled with 55: the largest of its kind of line.
 pub fn filled<const N: usize>() -> [u8; N]
-    ensures { result ≡ filled_to N }
+    ensures { result ≡ fields_filled N }
 {
     [0x55; N]
 }

@@ -2,5 +2,5 @@
 use Rattle.std.specs.Prelude.{ℕ, List, replicate}
 
 -- so many bytes, each 0
-unfoldable pub room_of : ℕ → List ℕ
-room_of n = replicate n 0
+unfoldable pub reading_room : ℕ → List ℕ
+reading_room n = replicate n 0

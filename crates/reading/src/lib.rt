@@ -6,15 +6,15 @@
 ghost use Rattle.std.specs.Prelude.{◌≡◌, ◌<◌, IfOk, length, take};
 ghost use Rattle.std.specs.Io.{ReadsAtMost};
 ghost use Rattle.std.specs.Io.KnownBytes.{Consumes, IsAtEnd};
-ghost use Rattle.reading.specs.Room.{room_of};
+ghost use Rattle.reading.specs.Room.{reading_room};
 
 use std::io;
 use std::io::Read;
 
 // Room for so many bytes. A long array is made here alone: written out in a larger function it is more than a check can follow.
-#[tactic(auto, unfolding(crate::specs::Room::room_of))]
+#[tactic(auto, unfolding(crate::specs::Room::reading_room))]
 pub fn room<const N: usize>() -> [u8; N]
-    ensures value { result ≡ room_of N }
+    ensures value { result ≡ reading_room N }
     ensures size { N ≡ length result }
 {
     [0; N]

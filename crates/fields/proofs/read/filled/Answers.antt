@@ -1,7 +1,7 @@
 use Rattle.std.proofs.Common.{refl}
-use Rattle.fields.specs.Lending.{filled_to}
+use Rattle.fields.specs.Lending.{fields_filled}
 use Rattle.fields.proofs.read.filled.Goals as goal
 
 pub returns : goal.returns
-unfolding filled_to
+unfolding fields_filled
 returns g c = refl

@@ -1,3 +1,2 @@
 pub mod Laws
-mod Making
 pub mod Unique

@@ -32,13 +32,8 @@ fn message_by(reading: Option<Command>, to: Address) -> Message
     ensures { result ≡ message_by reading to }
 {
     match reading {
-        Some(c) => {
-            if is_taken(to, c) {
-                return Message::Intact(c);
-            }
-            Message::Other
-        }
-        None => Message::Other,
+        Some(c) if is_taken(to, c) => Message::Intact(c),
+        _ => Message::Other,
     }
 }
 
@@ -59,8 +54,7 @@ impl Message {
     {
         match self {
             Message::Intact(c) => !c.role().is_reset(),
-            Message::Other => true,
-            Message::Spoilt => true,
+            Message::Other | Message::Spoilt => true,
         }
     }
 }

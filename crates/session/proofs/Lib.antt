@@ -1,3 +1,2 @@
-mod Opening
 pub mod Sessions
 pub mod Unique

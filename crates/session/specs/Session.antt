@@ -1,6 +1,6 @@
 -- Document 01, "The host session": the session, which ones count as closed, and what is read off one.
-use Rattle.std.specs.Prelude.{ℕ, ◌+◌, ◌-◌, Bool, true, false, cond, not, ◌&&◌, ◌||◌, ltb, leb, ◌≡◌, length, get_or, Result, Ok, Err, Option, Some, None}
-use Rattle.wire.specs.Numbers.{done, number_of, most_nodes, number_by}
+use Rattle.std.specs.Prelude.{ℕ, ◌+◌, ◌-◌, Bool, true, false, cond, not, ◌&&◌, ◌||◌, ltb, leb, ◌≡◌, length, get_or, Result, Ok, Err, Option}
+use Rattle.wire.specs.Numbers.{most_nodes, number_by}
 use Rattle.wire.specs.declared.address.Individual.{Individual}
 use Rattle.wire.specs.declared.address.Address.{Address}
 use Rattle.wire.specs.declared.address.Address.TheVariants as address

@@ -58,12 +58,7 @@ pub fn off_chain(n: u8, to: Address) -> bool
     ensures { result ≡ off_chain n to }
 {
     match to {
-        Address::Individual(i) => {
-            if i.0 < 1 {
-                return true;
-            }
-            n < i.0
-        }
+        Address::Individual(i) => i.0 < 1 || n < i.0,
         Address::Group(_) => false,
     }
 }
@@ -74,54 +69,36 @@ fn is_stray(n: u8, x: Exchange) -> bool
 {
     match x {
         Exchange::Idle => false,
-        Exchange::Waiting {
-            at: _,
-            to,
-            command: _,
-        } => off_chain(n, to),
+        Exchange::Waiting { to, .. } => off_chain(n, to),
     }
 }
 
 // Within its bounds; a session handed in that is not counts as closed with no exchange open.
+#[tactic(auto, unfolding(crate::specs::Session::is_valid))]
 fn is_valid(s: Session) -> bool
     ensures { result ≡ is_valid s }
 {
-    if MOST_NODES < s.n as usize {
-        return false;
-    }
-    if s.n < s.walk {
-        return false;
-    }
-    let x = s.exchange;
-    !is_stray(s.n, x)
+    s.n as usize <= MOST_NODES && s.walk <= s.n && !is_stray(s.n, s.exchange)
 }
 
 // The entry of a node 1 to n, of any session: also a closed one shows its last known values.
+#[tactic(auto, unfolding(crate::specs::Session::look_of))]
 pub fn look(s: Session, node: Individual) -> Result<Entry, Refusal>
     ensures { Promise number_by result (look_of s node) }
 {
     let k = node.0;
-    if k < 1 {
+    if k < 1 || s.n < k || MOST_NODES < k as usize {
         return Err(Refusal::NoNode);
     }
-    if s.n < k {
-        return Err(Refusal::NoNode);
-    }
-    if MOST_NODES < k as usize {
-        return Err(Refusal::NoNode);
-    }
-    let at = (k - 1) as usize;
-    Ok(s.entries[at])
+    Ok(s.entries[(k - 1) as usize])
 }
 
 // Not started, or handed in past its bounds.
+#[tactic(auto, unfolding(crate::specs::Session::is_closed))]
 pub fn is_closed(s: Session) -> bool
     ensures { result ≡ is_closed s }
 {
-    if is_valid(s) {
-        return !s.started;
-    }
-    true
+    !is_valid(s) || !s.started
 }
 
 // The place that the walk gives to node k: its number, and the rest as at power-up.
@@ -137,13 +114,10 @@ pub fn given_place(k: u8) -> Place
 
 // Whether the walk's next node has its place in doubt, so that "ask" is due and "next" is not.
 // The first test keeps the index within the record: behind the last of the most nodes there is no next one.
+#[tactic(auto, unfolding(crate::specs::Session::is_ask_due))]
 pub fn is_ask_due(s: Session) -> bool
     ensures { result ≡ is_ask_due s }
 {
     let at = s.walk as usize;
-    if MOST_NODES <= at {
-        return false;
-    }
-    let e = s.entries[at];
-    !e.known.place
+    at < MOST_NODES && !s.entries[at].known.place
 }

@@ -1,3 +1,2 @@
-mod Exits
 pub mod Starting
 pub mod Unique

@@ -12,30 +12,27 @@ use session::{Exchange, Session, Step, refuse};
 use wire::{Kind, MOST_NODES, Refusal};
 
 // A session that is closed and has no nodes.
+#[tactic(auto, using(ledger::proofs::Ledgers::none_up))]
 pub fn fresh() -> Session
     ensures { result ≡ fresh_of }
 {
-    let entries = ledger::power_up(0, [Kind::Gate; MOST_NODES]);
     Session {
         started: false,
         n: 0,
         walk: 0,
         exchange: Exchange::Idle,
-        entries,
+        entries: ledger::power_up(0, [Kind::Gate; MOST_NODES]),
     }
 }
 
 // Starts a session of n nodes, at any time; an open exchange is dropped. The first n kinds are those of nodes 1 to n, the others are not looked at.
+#[tactic(auto, unfolding(crate::specs::Start::start_power_up))]
 pub fn power_up(s: Session, n: u8, kinds: [Kind; MOST_NODES]) -> Step
     ensures { Promise step_number result (start_power_up s n kinds) }
 {
-    if n < 1 {
+    if n < 1 || MOST_NODES < n as usize {
         return refuse(s, Refusal::Range);
     }
-    if MOST_NODES < n as usize {
-        return refuse(s, Refusal::Range);
-    }
-    let entries = ledger::power_up(n, kinds);
     Step {
         end: Ok(None),
         session: Session {
@@ -43,7 +40,7 @@ pub fn power_up(s: Session, n: u8, kinds: [Kind; MOST_NODES]) -> Step
             n,
             walk: 0,
             exchange: Exchange::Idle,
-            entries,
+            entries: ledger::power_up(n, kinds),
         },
     }
 }

@@ -1,5 +1,4 @@
 mod Refusing
-pub mod Transmitting
 pub mod Passing
 pub mod Sent
 pub mod Stands

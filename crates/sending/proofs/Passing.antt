@@ -13,15 +13,12 @@ use Rattle.session.specs.Session.{is_closed}
 use Rattle.session.proofs.Sessions.{Bounds, valid_says, closed_not}
 use Rattle.sending.specs.declared.Tests.{Tests}
 use Rattle.sending.specs.Sending.{does_wait, is_waiting, refusing, sequence, test_of}
+use Rattle.sending.proofs.Refusing.{stays_refused}
 
 -- each of some tests failed
 abbrev pub AllFailed : List (Bool × Refusal) → Type 0
 AllFailed [] = Unit {0}
 AllFailed (t ∷ ts) = (t.0 ≡ false) × AllFailed ts
-
-stays_refused : (ts : List (Bool × Refusal)) (why : Refusal) → refusing (Err why) ts ≡ Err why
-stays_refused [] why = refl
-stays_refused (t ∷ ts) why = stays_refused ts why
 
 pub all_failed_lem : (ts : List (Bool × Refusal)) → refusing (Ok tt) ts ≡ Ok tt → AllFailed ts
 all_failed_lem [] h = tt

@@ -1,7 +1,6 @@
 -- Document 01, "The host session" and "Numbers returned", with document 02, requests 6 and 7: what every call that sends tests first, and what sending does.
 use Rattle.std.specs.Prelude.{ℕ, Bool, true, false, cond, List, [], ◌∷◌, Result, Ok, Err, ⊤, Some}
 use Rattle.wire.specs.Promise.{Outcome}
-use Rattle.wire.specs.Numbers.{done, number_of, number_by}
 use Rattle.wire.specs.declared.address.Address.{Address}
 use Rattle.wire.specs.declared.refusal.Refusal.{Refusal}
 use Rattle.wire.specs.declared.refusal.Refusal.TheVariants.{Range, Busy, NotDue, NoNode, Led, Closed, Lacked, Divisor, Answerable}

@@ -16,25 +16,15 @@ use wire::{Address, Refusal};
 fn does_wait(x: Exchange) -> bool
     ensures { result ≡ does_wait x }
 {
-    match x {
-        Exchange::Idle => false,
-        Exchange::Waiting {
-            at: _,
-            to: _,
-            command: _,
-        } => true,
-    }
+    matches!(x, Exchange::Waiting { .. })
 }
 
 // Whether an exchange is open; a closed session has none.
+#[tactic(auto, unfolding(crate::specs::Sending::is_waiting))]
 fn is_waiting(s: Session) -> bool
     ensures { result ≡ is_waiting s }
 {
-    if is_closed(s) {
-        return false;
-    }
-    let x = s.exchange;
-    does_wait(x)
+    !is_closed(s) && does_wait(s.exchange)
 }
 
 // What a call finds wrong with what it was asked for, by the numbers that it is refused with; what a call doesn't ask is false.
@@ -80,29 +70,26 @@ pub fn test(s: Session, t: Tests) -> Result<(), Refusal>
 }
 
 // The session with a command on the line: Hard Reset closes it and opens no exchange, any other command waits.
+#[tactic(auto, unfolding(crate::specs::Sending::open_exchange))]
 fn open_exchange(s: Session, at: u8, to: Address, c: Command) -> Session
     ensures { result ≡ open_exchange s at to c }
 {
-    let entries = s.entries;
     if c.role().is_reset() {
         return Session {
             started: false,
-            n: s.n,
-            walk: s.walk,
             exchange: Exchange::Idle,
-            entries: ledger::forget(entries),
+            entries: ledger::forget(s.entries),
+            ..s
         };
     }
     Session {
-        started: s.started,
-        n: s.n,
-        walk: s.walk,
         exchange: Exchange::Waiting { at, to, command: c },
-        entries,
+        ..s
     }
 }
 
 // Sends a command at a divisor to the address `called`, for the node or group `to`; 6 and 5 as building gives them. The session is tested by the caller.
+#[tactic(auto, unfolding(crate::specs::Sending::transmit_of))]
 pub fn transmit(
     s: Session,
     at: u8,

@@ -5,7 +5,7 @@ use Rattle.wire.specs.Promise.{promised}
 use Rattle.wire.specs.declared.refusal.Refusal.{Refusal}
 use Rattle.wire.specs.declared.refusal.Refusal.TheVariants.{Short, Range, Busy, NotDue, NoNode, Led, Closed, Lacked, Divisor, Answerable}
 use Rattle.sending.specs.declared.Tests.{Tests}
-use Rattle.sending.specs.Sending.{refuse_if, refusing, sequence, test_of}
+use Rattle.sending.specs.Sending.{refuse_if, refusing, test_of}
 use Rattle.sending.proofs.Refusing.{stays_refused}
 use Rattle.sending.proofs.test.Goals as goal
 

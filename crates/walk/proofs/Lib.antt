@@ -1,4 +1,3 @@
-mod Walking
 pub mod Passing
 pub mod Sent
 pub mod Stands

@@ -19,10 +19,9 @@ use wire::{Address, Individual, Refusal};
 fn walk_tests(s: Session, at: u8, undue: bool) -> Tests
     ensures { result ≡ walk_tests s at undue }
 {
-    let entries = s.entries;
     Tests {
         unranged: false,
-        unlisted: ledger::is_off_list(entries, s.n, at),
+        unlisted: ledger::is_off_list(s.entries, s.n, at),
         stray: false,
         lacked: false,
         undue,
@@ -32,20 +31,23 @@ fn walk_tests(s: Session, at: u8, undue: bool) -> Tests
 }
 
 // 9 where the walk has ended, or "ask" is due instead.
+#[tactic(auto, unfolding(crate::specs::Walk::next_check))]
 fn next_check(s: Session, at: u8) -> Result<(), Refusal>
     ensures { Promise number_by result (next_check s at) }
 {
-    test(s, walk_tests(s, at, (s.n <= s.walk) | is_ask_due(s)))
+    test(s, walk_tests(s, at, s.n <= s.walk || is_ask_due(s)))
 }
 
 // 9 where the walk has ended, or nothing is unconfirmed.
+#[tactic(auto, unfolding(crate::specs::Walk::ask_check))]
 fn ask_check(s: Session, at: u8) -> Result<(), Refusal>
     ensures { Promise number_by result (ask_check s at) }
 {
-    test(s, walk_tests(s, at, (s.n <= s.walk) | !is_ask_due(s)))
+    test(s, walk_tests(s, at, s.n <= s.walk || !is_ask_due(s)))
 }
 
 // Set Address, at a divisor, to the address of power-up, 0x00, with the next address of 1, 2, .. n.
+#[tactic(auto, unfolding(crate::specs::Walk::next_of))]
 pub fn next(s: Session, at: u8, out: &mut [u8]) -> Step
     ensures { Lending step_number result out.new (next_of s at out.old) }
 {
@@ -67,6 +69,7 @@ pub fn next(s: Session, at: u8, out: &mut [u8]) -> Step
 }
 
 // Where the last Set Address is unconfirmed: a Nop to the address that it gave.
+#[tactic(auto, unfolding(crate::specs::Walk::ask_of))]
 pub fn ask(s: Session, at: u8, out: &mut [u8]) -> Step
     ensures { Lending step_number result out.new (ask_of s at out.old) }
 {

@@ -1,5 +1,3 @@
-mod Refusing
-mod Sending
 pub mod Passing
 pub mod Sent
 pub mod Stands

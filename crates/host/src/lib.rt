@@ -29,21 +29,21 @@ fn is_unranged(to: Address, c: Command) -> bool
     ensures { result ≡ is_unranged to c }
 {
     let role = c.role();
-    role.is_placing() | role.is_pacing() | !c.fits() | is_bad_group(to)
+    role.is_placing() || role.is_pacing() || !c.fits() || is_bad_group(to)
 }
 
 // 6, 18, 10, 17, 9.
+#[tactic(auto, unfolding(crate::specs::Calls::order_check))]
 fn order_check(s: Session, at: u8, to: Address, c: Command) -> Result<(), Refusal>
     ensures { Promise number_by result (order_check s at to c) }
 {
-    let entries = s.entries;
     test(
         s,
         Tests {
             unranged: is_unranged(to, c),
-            unlisted: ledger::is_off_list(entries, s.n, at),
+            unlisted: ledger::is_off_list(s.entries, s.n, at),
             stray: off_chain(s.n, to),
-            lacked: ledger::is_lacked(entries, s.n, to, c),
+            lacked: ledger::is_lacked(s.entries, s.n, to, c),
             undue: s.walk < s.n,
             led: false,
             answerable: false,
@@ -52,26 +52,29 @@ fn order_check(s: Session, at: u8, to: Address, c: Command) -> Result<(), Refusa
 }
 
 // 11: a leader wish, while another node leads that group or has its place in doubt.
+#[tactic(auto, unfolding(crate::specs::Calls::has_rival))]
 fn has_rival(s: Session, node: Individual, group: Group, leader: bool) -> bool
     ensures { result ≡ has_rival s node group leader }
 {
-    if leader {
-        let entries = s.entries;
-        return ledger::is_led(entries, s.n, node.0, group);
-    }
-    false
+    leader && ledger::is_led(s.entries, s.n, node.0, group)
 }
 
 // 6, 18, 10, 9, 11.
-fn regroup_check(s: Session, at: u8, node: Individual, group: Group, leader: bool) -> Result<(), Refusal>
+#[tactic(auto, unfolding(crate::specs::Calls::regroup_check))]
+fn regroup_check(
+    s: Session,
+    at: u8,
+    node: Individual,
+    group: Group,
+    leader: bool,
+) -> Result<(), Refusal>
     ensures { Promise number_by result (regroup_check s at node group leader) }
 {
-    let entries = s.entries;
     test(
         s,
         Tests {
             unranged: !group.in_range(),
-            unlisted: ledger::is_off_list(entries, s.n, at),
+            unlisted: ledger::is_off_list(s.entries, s.n, at),
             stray: off_chain(s.n, Address::Individual(node)),
             lacked: false,
             undue: s.walk < s.n,
@@ -82,27 +85,28 @@ fn regroup_check(s: Session, at: u8, node: Individual, group: Group, leader: boo
 }
 
 // 6, 18 for both divisors, 9, 19: a known member leads the group, or a place is in doubt. No node is 0, so it is nobody's rival that is looked for.
+#[tactic(auto, unfolding(crate::specs::Calls::baud_rate_check))]
 fn baud_rate_check(s: Session, at: u8, group: Group, divisor: u8) -> Result<(), Refusal>
     ensures { Promise number_by result (baud_rate_check s at group divisor) }
 {
-    let entries = s.entries;
-    let sent_at = ledger::is_off_list(entries, s.n, at);
-    let set = ledger::is_off_list(entries, s.n, divisor);
+    let sent_at = ledger::is_off_list(s.entries, s.n, at);
+    let set = ledger::is_off_list(s.entries, s.n, divisor);
     test(
         s,
         Tests {
             unranged: !group.in_range(),
-            unlisted: sent_at | set,
+            unlisted: sent_at || set,
             stray: false,
             lacked: false,
             undue: s.walk < s.n,
             led: false,
-            answerable: ledger::is_led(entries, s.n, 0, group),
+            answerable: ledger::is_led(s.entries, s.n, 0, group),
         },
     )
 }
 
 // A command of a ready session to a node or a group, sent at a divisor. Set Address and Set Baud Rate are refused with 6: they have calls of their own.
+#[tactic(auto, unfolding(crate::specs::Calls::order_of))]
 pub fn order(s: Session, at: u8, to: Address, c: Command, out: &mut [u8]) -> Step
     ensures { Lending step_number result out.new (order_of s at to c out.old) }
 {
@@ -113,6 +117,7 @@ pub fn order(s: Session, at: u8, to: Address, c: Command, out: &mut [u8]) -> Ste
 }
 
 // Set Address to a node of a ready session, with its own address, a group and a leader wish.
+#[tactic(auto, unfolding(crate::specs::Calls::regroup_of))]
 pub fn regroup(
     s: Session,
     at: u8,
@@ -138,6 +143,7 @@ pub fn regroup(
 }
 
 // Set Baud Rate to a group of a ready session, sent at one divisor and setting another. Nobody is to answer it: report silence, and then ask each node by a Nop at the new divisor.
+#[tactic(auto, unfolding(crate::specs::Calls::set_baud_rate_of))]
 pub fn set_baud_rate(s: Session, at: u8, group: Group, divisor: u8, out: &mut [u8]) -> Step
     ensures { Lending step_number result out.new (set_baud_rate_of s at group divisor out.old) }
 {

@@ -20,36 +20,25 @@ fn is_on_walk(s: Session, to: Address) -> bool
     ensures { result ≡ is_on_walk s to }
 {
     match to {
-        Address::Individual(i) => {
-            if s.walk < s.n {
-                return i.0 == s.walk + 1;
-            }
-            false
-        }
+        Address::Individual(i) => s.walk < s.n && i.0 == s.walk + 1,
         Address::Group(_) => false,
     }
 }
 
 // The walk's Set Address waits.
+#[tactic(auto, unfolding(crate::specs::Report::is_giving))]
 fn is_giving(s: Session, to: Address, c: Command) -> bool
     ensures { result ≡ is_giving s to c }
 {
-    if is_on_walk(s, to) {
-        return c.role().is_placing();
-    }
-    false
+    is_on_walk(s, to) && c.role().is_placing()
 }
 
 // The walk's "ask" waits.
+#[tactic(auto, unfolding(crate::specs::Report::is_asking))]
 fn is_asking(s: Session, to: Address, c: Command) -> bool
     ensures { result ≡ is_asking s to c }
 {
-    if is_on_walk(s, to) {
-        if c.role().is_nop() {
-            return is_ask_due(s);
-        }
-    }
-    false
+    is_on_walk(s, to) && c.role().is_nop() && is_ask_due(s)
 }
 
 // The session with no exchange open, at a step of the walk, with a record.
@@ -58,36 +47,35 @@ fn idle_at(s: Session, walk: u8, entries: [Entry; MOST_NODES]) -> Session
     ensures { result ≡ idle_at s walk entries }
 {
     Session {
-        started: s.started,
-        n: s.n,
         walk,
         exchange: Exchange::Idle,
         entries,
+        ..s
     }
 }
 
 // The session with the answer noted to its exchange, a command to an address.
+#[tactic(auto, unfolding(crate::specs::Report::noted_of))]
 fn noted(s: Session, to: Address, c: Command, answer: Answer) -> Session
     ensures { result ≡ noted_of s to c answer }
 {
-    let entries = s.entries;
     match answer {
-        Answer::Marked => idle_at(s, s.walk, entries),
+        Answer::Marked => idle_at(s, s.walk, s.entries),
         Answer::Silent => {
-            let doubted = ledger::settle(entries, s.n, to, c, Answer::Silent);
+            let doubted = ledger::settle(s.entries, s.n, to, c, Answer::Silent);
             idle_at(s, s.walk, doubted)
         }
         Answer::Clear => {
             if is_giving(s, to, c) {
-                let given = ledger::settle(entries, s.n, to, c, Answer::Clear);
+                let given = ledger::settle(s.entries, s.n, to, c, Answer::Clear);
                 return idle_at(s, s.walk + 1, given);
             }
             if is_asking(s, to, c) {
                 let asked = Command::SetAddress(given_place(s.walk + 1));
-                let given = ledger::settle(entries, s.n, to, asked, Answer::Clear);
+                let given = ledger::settle(s.entries, s.n, to, asked, Answer::Clear);
                 return idle_at(s, s.walk + 1, given);
             }
-            let noted = ledger::settle(entries, s.n, to, c, Answer::Clear);
+            let noted = ledger::settle(s.entries, s.n, to, c, Answer::Clear);
             idle_at(s, s.walk, noted)
         }
     }
@@ -107,44 +95,38 @@ fn is_telling(to: Address, c: Command) -> bool
 fn told(s: Session, at: u8, to: Address) -> Session
     ensures { result ≡ told_of s at to }
 {
-    let entries = s.entries;
-    let heard = ledger::settle(entries, s.n, to, Command::SetBaudRate(at), Answer::Clear);
+    let heard = ledger::settle(s.entries, s.n, to, Command::SetBaudRate(at), Answer::Clear);
     idle_at(s, s.walk, heard)
 }
 
 // The session once its exchange, a command sent at a divisor to an address, is answered.
+#[tactic(auto, unfolding(crate::specs::Report::conclude_of))]
 fn conclude(s: Session, at: u8, to: Address, c: Command, answer: Answer) -> Session
     ensures { result ≡ conclude_of s at to c answer }
 {
     let after = noted(s, to, c, answer);
-    if is_telling(to, c) {
-        return match answer {
-            Answer::Clear => told(after, at, to),
-            Answer::Marked => after,
-            Answer::Silent => after,
-        };
+    match answer {
+        Answer::Clear if is_telling(to, c) => told(after, at, to),
+        _ => after,
     }
-    after
 }
 
 // The end of the open exchange; 8 where there is none. A closed session has none.
+#[tactic(auto, unfolding(crate::specs::Report::finish_of))]
 fn finish(s: Session, answer: Answer) -> Step
     ensures { Promise step_number result (finish_of s answer) }
 {
-    if is_closed(s) {
-        return refuse(s, Refusal::Idle);
-    }
-    let x = s.exchange;
-    match x {
-        Exchange::Idle => refuse(s, Refusal::Idle),
-        Exchange::Waiting { at, to, command } => Step {
+    match s.exchange {
+        Exchange::Waiting { at, to, command } if !is_closed(s) => Step {
             end: Ok(None),
             session: conclude(s, at, to, command, answer),
         },
+        _ => refuse(s, Refusal::Idle),
     }
 }
 
 // Closes the open exchange by the bytes received.
+#[tactic(auto, unfolding(crate::specs::Report::report_of))]
 pub fn report(s: Session, bytes: &[u8]) -> Step
     ensures { Promise step_number result (report_of s bytes.now) }
 {

@@ -1,5 +1,4 @@
 pub mod Standing
-mod Sorting
 mod Nobody
 pub mod Twice
 pub mod Finding

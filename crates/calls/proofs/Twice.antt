@@ -2,7 +2,7 @@
 -- or each kind has one of them, and then no node may be reached, since 17 refuses neither. The sessions after them are alike.
 use Prim.Native.Nat.{ℕ}
 use Rattle.wire.specs.declared.refusal.Refusal.{Refusal}
-use Rattle.std.specs.Prelude.{Err, Some, None, Result, Ok, Option, ℕ}
+use Rattle.std.specs.Prelude.{Some, Result, Ok, Option, ℕ}
 use mathlib.Core.Bool.{Bool, true, false, true≢false, false≢true}
 use mathlib.Core.List.{List, [], append-nil}
 use mathlib.Core.Path.{◌≡◌, refl, sym, ap, subst, ◌∙◌}
@@ -12,7 +12,7 @@ use Rattle.wire.specs.Promise.{Outcome}
 use Rattle.wire.specs.declared.address.Address.{Address}
 use Rattle.wire.specs.declared.kind.Kind.{Kind}
 use Rattle.wire.specs.declared.kind.Kind.TheVariants.{Gate, Drive}
-use Rattle.packet.specs.Packet.{data_part, whole}
+use Rattle.packet.specs.Packet.{data_part}
 use Rattle.packet.proofs.Packets.{whole_parts}
 use Rattle.wire.proofs.Answered.{ok_is, some_is}
 use Rattle.command.specs.declared.Command.{Command}

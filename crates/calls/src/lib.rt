@@ -83,6 +83,7 @@ fn spoken_to(to: Address, reading: Option<Command>) -> Option<Spoken>
 
 // What the bytes between two gaps say to a kind of node, all of them, or that it is another command; or why they are no packet: 1, 2, 1, 4 as reading has them,
 // then 3 for bytes left over.
+#[tactic(auto, unfolding(crate::specs::Understanding::understand_of))]
 pub fn understand(kind: Kind, bytes: &[u8]) -> Result<Option<Spoken>, Refusal>
     ensures { Promise number_by result (understand_of kind bytes.now) }
 {
@@ -105,25 +106,18 @@ fn missed(s: Session) -> Sought
 }
 
 // Whether a call, made in this session at the divisor of power-up, gives these bytes. The longest packet has 19.
+#[tactic(auto, unfolding(crate::specs::Finding::try_call))]
 fn try_call(s: Session, call: Call, bytes: &[u8]) -> Sought
     ensures { result ≡ try_call s call bytes.now }
 {
     let mut out = [0; 19];
     let step = call.perform(s, Node::DIVISOR, &mut out);
     match step.end {
-        Ok(sent) => match sent {
-            Some(n) => {
-                if text::is_same(text::first(&out, n), bytes) {
-                    return Sought {
-                        source: Some(call),
-                        session: step.session,
-                    };
-                }
-                missed(s)
-            }
-            None => missed(s),
+        Ok(Some(n)) if text::is_same(text::first(&out, n), bytes) => Sought {
+            source: Some(call),
+            session: step.session,
         },
-        Err(_) => missed(s),
+        _ => missed(s),
     }
 }
 
@@ -142,27 +136,18 @@ fn late_call(to: Address, c: Command) -> Call
     ensures { result ≡ late_call to c }
 {
     match c.role() {
-        Role::Places(place) => {
-            let node = place.address;
-            let group = place.group;
-            Call::Regroup {
-                node,
-                group,
-                leader: place.leader,
-            }
-        }
-        Role::Plain => Call::Order { to, command: c },
+        Role::Places(place) => Call::Regroup {
+            node: place.address,
+            group: place.group,
+            leader: place.leader,
+        },
         // No call that is looked for sends a Set Baud Rate: as an order it is refused.
-        Role::Paces(_) => Call::Order { to, command: c },
-        Role::Masks(_) => Call::Order { to, command: c },
-        Role::Captures => Call::Order { to, command: c },
-        Role::Zeroes => Call::Order { to, command: c },
-        Role::Idles => Call::Order { to, command: c },
-        Role::Resets => Call::Order { to, command: c },
+        _ => Call::Order { to, command: c },
     }
 }
 
 // The first of two calls that gives these bytes.
+#[tactic(auto, unfolding(crate::specs::Finding::seek_of))]
 fn seek(s: Session, early: Call, late: Call, bytes: &[u8]) -> Sought
     ensures { result ≡ seek_of s early late bytes.now }
 {
@@ -174,6 +159,7 @@ fn seek(s: Session, early: Call, late: Call, bytes: &[u8]) -> Sought
 }
 
 // The call that sends what these bytes say to a kind of node.
+#[tactic(auto, unfolding(crate::specs::Finding::find_as))]
 fn find_as(kind: Kind, s: Session, bytes: &[u8]) -> Sought
     ensures { result ≡ find_as kind s bytes.now }
 {
@@ -184,13 +170,13 @@ fn find_as(kind: Kind, s: Session, bytes: &[u8]) -> Sought
             late_call(spoken.to, spoken.command),
             bytes,
         ),
-        Ok(None) => missed(s),
-        Err(_) => missed(s),
+        _ => missed(s),
     }
 }
 
 // The call that gives these bytes in this session: a host in it could have sent them, or could not. Where both kinds read a command of their own, the host refuses the one
 // that a node it may reach lacks.
+#[tactic(auto, unfolding(crate::specs::Finding::find_of))]
 pub fn find(s: Session, bytes: &[u8]) -> Sought
     ensures { result ≡ find_of s bytes.now }
 {

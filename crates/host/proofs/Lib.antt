@@ -1,3 +1,4 @@
+mod Sending
 pub mod Passing
 pub mod Sent
 pub mod Stands

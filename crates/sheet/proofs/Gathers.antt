@@ -9,7 +9,7 @@ use native.Mathlib.Nat.{zero-add, not-suc-le-zero}
 use lib.Dec.{eqb, ltb}
 use lib.ListN.{length, drop, get_or, set, length-drop, length-set}
 use lib.Seq.{drop-drop, sets, get_or-set_same, get_or-set_other}
-use borrow.Author.Tests.{le-ltb, eq-eqb, ne_eqb, ltb-false, eqb-true}
+use borrow.Author.Tests.{eq-eqb, ne_eqb, ltb-false, eqb-true}
 use Rattle.wire.proofs.Impossible.{impossible}
 use Rattle.hexadecimal.specs.Hex.{space, Content, bytes, malformed}
 use Rattle.hexadecimal.specs.Gathering.{Gathered, whole, none, gathered, read_pairs}
@@ -21,15 +21,6 @@ use Rattle.sheet.specs.declared.line.Numeral.TheVariants.{Last, More, Bad}
 use Rattle.sheet.proofs.Numerals.{numeral_step}
 
 -- ---- a numeral
-
-pub by_two : (s : List ℕ) (high low : ℕ) (r : Numeral) → high ≤ 15 → 2 ≤ length s → (get_or s 1 0 ≡ space → ⊥) → low ≡ either_digit (get_or s 1 0)
-    → r ≡ two_numeral high low s → r ≡ numeral_by high s
-unfolding numeral_by
-by_two s high low r h k n e f = rw (le-ltb 15 high h, le-ltb (length s) 2 k, ne_eqb (get_or s 1 0) space n, ← e) f
-
-pub by_one : (s : List ℕ) (high : ℕ) (r : Numeral) → 1 ≤ length s → high ≡ either_digit (get_or s 0 0) → r ≡ numeral_by high s → r ≡ read_numeral s
-unfolding read_numeral
-by_one s high r k e f = rw (le-ltb (length s) 1 k, ← e) f
 
 -- a numeral that isn't the last has at least a digit and a space
 record Going (s : List ℕ) (n : ℕ) : Type 0 where
@@ -124,17 +115,7 @@ second (x ∷ []) l h k = absurd (omega arith)
 second (x ∷ y ∷ d) l h k =
     sets_behind d (set (set l 0 x) 1 y) 2 1 (omega arith) ∙ get_or-set_same (set l 0 x) 1 y 0 (omega (arith, length-set l 0 x))
 
-module _ (n head v : ℕ) (e : (v ≡ head / 16) × (v ≤ 15)) where
-  pub count_right : n ≡ 2 + v → Some n ≡ counted_by n head
-  count_right h = rw (eq-eqb n (2 + head / 16) (omega (arith, e.0)))
-
-  pub count_wrong : (n ≡ 2 + v → ⊥) → None ≡ counted_by n head
-  count_wrong h = rw (ne_eqb n (2 + head / 16) (λ q. h (omega (arith, e.0))))
-
 module _ (d out m : List ℕ) (r : Option ℕ) (g : gathered r m ≡ read_numerals d out) where
-  pub counted_bad : r ≡ None → none ≡ read_counted d out
-  counted_bad f = rw (gathered_none (numeral_bytes (numerals_of d)) out (rw f at g))
-
   pub counted_so : (n v : ℕ) (z : Option ℕ) → r ≡ Some n → length out ≡ 17 → v ≡ get_or m 1 0 → z ≡ counted_by n v → gathered z m ≡ read_counted d out
   counted_so n v z f k u e =
       let x = gathered_whole (numeral_bytes (numerals_of d)) out n m (rw f at g) in

@@ -1,7 +1,6 @@
 -- A list that isn't exported is refused with 1, 2 or 4, and no other: as reading refuses the first packet that doesn't read.
 use Prim.Native.Nat.{ℕ}
 use Rattle.std.specs.Prelude.{Err}
-use Rattle.packet.specs.Packet.{whole}
 use mathlib.Core.List.{List}
 use mathlib.Core.Path.{◌≡◌, ap, ◌∙◌}
 use Rattle.wire.specs.declared.refusal.Refusal.{Refusal}

@@ -15,6 +15,7 @@ fn count_packets(packets: &[u8]) -> Result<usize, Refusal>
 {
     let mut at = 0;
     let mut count = 0;
+    // No iterator: this loop goes by `read` and that of `put_lines` by `frame`, which would be two iterators, for one loop each.
     while at < packets.len() {
         let framed = packet::read(rest(packets, at))?;
         count += 1;
@@ -41,6 +42,7 @@ fn put_lines(packets: &[u8], out: &mut [u8])
 {
     let mut at = 0;
     let mut to = 0;
+    // No iterator: see `count_packets`.
     while at < packets.len() {
         // By its frame: its sum was looked at when it was counted.
         let tail = rest(packets, at);

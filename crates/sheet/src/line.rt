@@ -23,19 +23,7 @@ pub(crate) enum Numeral {
 fn starts_hex(line: &[u8]) -> bool
     ensures { result ≡ starts_hex line.now }
 {
-    if line.len() < 4 {
-        return false;
-    }
-    if line[0] != b'H' {
-        return false;
-    }
-    if line[1] != b'E' {
-        return false;
-    }
-    if line[2] != b'X' {
-        return false;
-    }
-    line[3] == SPACE
+    line.starts_with(b"HEX ")
 }
 
 // The value of a hex digit of either case; 16 where b is none.
@@ -60,6 +48,7 @@ fn either_digit(b: u8) -> u8
 }
 
 // s starts with two digits of these values.
+#[tactic(auto, unfolding(crate::specs::Reading::two_numeral))]
 fn two_numeral(high: u8, low: u8, s: &[u8]) -> Numeral
     requires { high < 16 }
     ensures { result ≡ two_numeral high low s.now }
@@ -78,6 +67,7 @@ fn two_numeral(high: u8, low: u8, s: &[u8]) -> Numeral
 }
 
 // s starts with a digit of this value.
+#[tactic(auto, unfolding(crate::specs::Reading::numeral_by))]
 fn numeral_by(high: u8, s: &[u8]) -> Numeral
     ensures { result ≡ numeral_by high s.now }
 {
@@ -94,6 +84,7 @@ fn numeral_by(high: u8, s: &[u8]) -> Numeral
     two_numeral(high, low, s)
 }
 
+#[tactic(auto, unfolding(crate::specs::Reading::read_numeral))]
 fn read_numeral(s: &[u8]) -> Numeral
     ensures { result ≡ read_numeral s.now }
 {
@@ -110,9 +101,9 @@ fn read_numerals(s: &[u8], out: &mut [u8]) -> Option<usize>
 {
     let mut at = 0;
     let mut count = 0;
+    // No iterator: that a space follows a numeral says that one more must come, so the last numeral is known by its own reading.
     loop {
-        let next = read_numeral(rest(s, at));
-        match next {
+        match read_numeral(rest(s, at)) {
             Numeral::Bad => {
                 return None;
             }
@@ -151,10 +142,8 @@ fn counted_by(n: usize, head: u8) -> Option<usize>
 fn read_counted(s: &[u8], out: &mut [u8; MOST_LINE]) -> Option<usize>
     ensures { gathered result out.new ≡ read_counted s.now out.old }
 {
-    match read_numerals(s, out) {
-        None => None,
-        Some(n) => counted_by(n, out[1]),
-    }
+    let n = read_numerals(s, out)?;
+    counted_by(n, out[1])
 }
 
 // The bytes of a line go to the start of `out`.

@@ -1,12 +1,8 @@
-use mathlib.Core.Path.{refl}
 use borrow.Author.Rules.{rules}
 use Rattle.std.proofs.lemmas.Result.{err_from_is_err_and}
 use Rattle.packet.proofs.Ends.{by_read, end_fits, end_within, end_less, end_count}
 use Rattle.sheet.proofs.Exports.{count_refused, count_on, count_done}
 use Rattle.sheet.proofs.exporting.count_packets.Goals as goal
-
-pub loop-at-init : goal.loop-at-init
-loop-at-init c = (search rules, (search rules, refl))
 
 pub returns-in_err-framed : goal.returns-in_err-framed
 returns-in_err-framed c =

@@ -1,12 +1,8 @@
-use mathlib.Core.Path.{refl}
 use borrow.Author.Rules.{rules}
 use Rattle.sheet.proofs.Laying.{wrote_kept}
 use Rattle.packet.proofs.Ends.{by_frame, end_fits, end_within, end_less}
 use Rattle.sheet.proofs.Exports.{lines_never, line_some, line_room, lines_on, lines_done}
 use Rattle.sheet.proofs.exporting.put_lines.Goals as goal
-
-pub loop-at-init : goal.loop-at-init
-loop-at-init c = (search rules, (refl, record { room = search rules; laid = refl }))
 
 pub returns-in-Err : goal.returns-in-Err
 returns-in-Err c = search lines_never

@@ -1,14 +1,10 @@
 -- By the length of the sheet, then by what is found before anything is written.
-use borrow.Author.Rules.{rules}
 use Rattle.std.proofs.lemmas.Result.{err_from_is_err_and}
-use Rattle.sheet.proofs.Imports.{import_long, import_failed, import_room, import_done}
+use Rattle.sheet.proofs.Imports.{import_long, import_failed, import_done}
 use Rattle.sheet.proofs.importing.import.Goals as goal
 
 pub returns-then-sheet-gt-MOST : goal.returns-then-sheet-gt-MOST
 returns-then-sheet-gt-MOST c = search import_long
-
-pub put_packets-requires : goal.put_packets-requires
-put_packets-requires c = (search rules, search (import_room, c.in_ok-length.was))
 
 pub returns : goal.returns
 returns c = search (import_done, c.in_ok-length.was)

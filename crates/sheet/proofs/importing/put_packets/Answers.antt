@@ -4,7 +4,7 @@ use Rattle.text.specs.Each.{lines_left}
 use Rattle.sheet.specs.Sheet.{packets_in}
 use Rattle.sheet.specs.Reading.{sheet_packets}
 use Rattle.sheet.proofs.Laying.{Laying, wrote_kept}
-use Rattle.sheet.proofs.Imports.{line_kept, packets_never, packet_some, packet_room, packets_on, packets_done}
+use Rattle.sheet.proofs.Imports.{packets_never, packet_some, packet_room, packets_on, packets_done}
 use Rattle.sheet.proofs.importing.put_packets.Goals as goal
 
 pub loop-line-init : goal.loop-line-init
@@ -15,9 +15,6 @@ loop-line-init c =
 
 pub returns-in-None-read_line : goal.returns-in-None-read_line
 returns-in-None-read_line c = packets_never _ _ _ _ _ _ _ _ _ c.in-Some.ensures.steps c.read_line.ensures c.loop-line.invariant.2 c.in-None-read_line.is
-
-pub slice_bounds-first-end : goal.slice_bounds-first-end
-slice_bounds-first-end c = search (line_kept, rules)
 
 pub put_packet-to-requires : goal.put_packet-to-requires
 put_packet-to-requires c =

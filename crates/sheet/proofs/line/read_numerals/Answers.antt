@@ -1,11 +1,6 @@
-use mathlib.Core.Path.{refl}
-use borrow.Author.Rules.{rules}
 use Rattle.hexadecimal.proofs.Storing.{store_long}
 use Rattle.sheet.proofs.Gathers.{numerals_bad, numerals_last, numerals_more, more_fits, more_few, more_less}
 use Rattle.sheet.proofs.line.read_numerals.Goals as goal
-
-pub loop-b-init : goal.loop-b-init
-loop-b-init c = (search rules, (search rules, (refl, refl)))
 
 pub returns-in-Bad : goal.returns-in-Bad
 returns-in-Bad c = search numerals_bad

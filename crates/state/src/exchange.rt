@@ -8,6 +8,7 @@ use session::Exchange;
 use text::rest;
 
 // How many bytes the EXCHANGE at the start of s has.
+#[tactic(auto, unfolding(crate::specs::Exchange::exchange_length))]
 pub(crate) fn exchange_length(s: &[u8]) -> usize
     ensures { result ≡ exchange_length s.now }
 {
@@ -18,6 +19,7 @@ pub(crate) fn exchange_length(s: &[u8]) -> usize
 }
 
 // Whether s is an EXCHANGE.
+#[tactic(auto, unfolding(crate::specs::Exchange::is_exchange))]
 pub(crate) fn is_exchange(s: &[u8]) -> bool
     ensures { result ≡ is_exchange s.now }
 {
@@ -29,6 +31,7 @@ pub(crate) fn is_exchange(s: &[u8]) -> bool
 }
 
 // EXCHANGE.
+#[tactic(auto, unfolding(crate::specs::Exchange::read_exchange))]
 pub(crate) fn read_exchange(s: &[u8]) -> Exchange
     ensures { result ≡ read_exchange s.now }
 {

@@ -18,21 +18,17 @@ use session::Session;
 use text::{first, rest};
 
 // Whether s is a STATE.
+#[tactic(auto, unfolding(crate::specs::State::is_state))]
 pub fn is_state(s: &[u8]) -> bool
     ensures { result ≡ is_state s.now }
 {
-    if 1 < byte(s, 0) {
-        return false;
-    }
     let behind = rest(s, 3);
     let length = exchange_length(behind);
-    if is_exchange(first(behind, length)) {
-        return are_entries(rest(behind, length));
-    }
-    false
+    byte(s, 0) < 2 && is_exchange(first(behind, length)) && are_entries(rest(behind, length))
 }
 
 // The session of a STATE.
+#[tactic(auto, unfolding(crate::specs::State::read_state))]
 pub fn read_state(s: &[u8]) -> Session
     ensures { result ≡ read_state s.now }
 {
@@ -53,11 +49,10 @@ pub fn read_state(s: &[u8]) -> Session
 }
 
 // With STATE more.
+#[tactic(auto, unfolding(crate::specs::State::put_state))]
 pub fn put_state(a: Answer, s: Session) -> Answer
     ensures { result ≡ put_state a s }
 {
     let a = a.put_flag(s.started).put(s.n).put(s.walk);
-    let x = s.exchange;
-    let entries = s.entries;
-    put_entries(put_exchange(a, x), entries)
+    put_entries(put_exchange(a, s.exchange), s.entries)
 }

@@ -16,6 +16,7 @@ pub(crate) fn data_count(s: &[u8]) -> u8
 }
 
 // A command as its family has it. Of a drive's own no range is looked at: that is the call's to do.
+#[tactic(auto, unfolding(crate::specs::Order::read_family))]
 fn read_family(family: u8, command: u8, bytes: &[u8]) -> Option<Command>
     ensures { result ≡ read_family family command bytes.now }
 {
@@ -27,16 +28,11 @@ fn read_family(family: u8, command: u8, bytes: &[u8]) -> Option<Command>
 }
 
 // The command of s, where it is an order.
+#[tactic(auto, unfolding(crate::specs::Order::read_order))]
 fn read_order(s: &[u8]) -> Option<Command>
     ensures { result ≡ read_order s.now }
 {
-    if s.len() < 4 {
-        return None;
-    }
-    if s.len() != 4 + data_count(s) as usize {
-        return None;
-    }
-    if 1 < byte(s, 0) {
+    if s.len() < 4 || s.len() != 4 + data_count(s) as usize || 1 < byte(s, 0) {
         return None;
     }
     read_family(byte(s, 2), byte(s, 3) % 16, rest(s, 4))
@@ -47,7 +43,7 @@ pub fn is_order(s: &[u8]) -> bool
     ensures { result ≡ is_order s.now }
 {
     match read_order(s) {
-        Some(c) => !c.role().is_pacing() | (byte(s, 0) == 1),
+        Some(c) => !c.role().is_pacing() || byte(s, 0) == 1,
         None => false,
     }
 }
@@ -63,6 +59,7 @@ pub fn read_command(s: &[u8]) -> Command
 }
 
 // Whom it is for: a node (kind 00) or a group (kind 01).
+#[tactic(auto, unfolding(crate::specs::Order::read_target))]
 pub fn read_target(s: &[u8]) -> Address
     ensures { result ≡ read_target s.now }
 {
@@ -87,13 +84,11 @@ fn target_kind(to: Address) -> u8
 fn family(c: Command) -> u8
     ensures { result ≡ family_of c }
 {
-    if command::has(Kind::Gate, c) {
-        return 0;
-    }
-    1
+    if command::has(Kind::Gate, c) { 0 } else { 1 }
 }
 
 // With an order more: the command byte is a packet's third, and its data bytes follow. The packet's address is no part of what is shown.
+#[tactic(auto, unfolding(crate::specs::Order::put_order))]
 pub(crate) fn put_order(a: Answer, to: Address, c: Command) -> Answer
     ensures { result ≡ put_order a to c }
 {

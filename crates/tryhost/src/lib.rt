@@ -27,6 +27,7 @@ pub struct Tried {
 }
 
 // Both in one: a literal of structs so large is dear to check, so it stands here alone.
+#[tactic(auto, unfolding(crate::specs::Trying::with_session))]
 pub fn with_session(answer: Answer, session: Session) -> Tried
     ensures { result ≡ with_session answer session }
 {
@@ -34,33 +35,29 @@ pub fn with_session(answer: Answer, session: Session) -> Tried
 }
 
 // Whether s is an ORDER of a ready session: every command but Set Address and Set Baud Rate, which have lines of their own.
+#[tactic(auto, unfolding(crate::specs::Form::is_ready_order))]
 fn is_ready_order(s: &[u8]) -> bool
     ensures { result ≡ is_ready_order s.now }
 {
-    if is_order(s) {
-        let role = read_command(s).role();
-        return !(role.is_placing() | role.is_pacing());
-    }
-    false
+    let role = read_command(s).role();
+    is_order(s) && !role.is_placing() && !role.is_pacing()
 }
 
 // `k group leader`.
+#[tactic(auto, unfolding(crate::specs::Form::is_regroup))]
 fn is_regroup(s: &[u8]) -> bool
     ensures { result ≡ is_regroup s.now }
 {
-    if s.len() != 3 {
-        return false;
-    }
-    byte(s, 2) < 2
+    s.len() == 3 && byte(s, 2) < 2
 }
 
 // What stands behind the room and the divisor of a call that sends; of Set Baud Rate `group new`.
+#[tactic(auto, unfolding(crate::specs::Form::is_formed))]
 fn is_formed(kind: u8, s: &[u8]) -> bool
     ensures { result ≡ is_formed kind s.now }
 {
     match kind {
-        0x31 => s.len() < 1,
-        0x32 => s.len() < 1,
+        0x31 | 0x32 => s.len() < 1,
         0x33 => is_ready_order(s),
         0x34 => is_regroup(s),
         0x39 => s.len() == 2,
@@ -69,26 +66,23 @@ fn is_formed(kind: u8, s: &[u8]) -> bool
 }
 
 // `room divisor ..`: whether a line is a call that sends, of its form.
+#[tactic(auto, unfolding(crate::specs::Form::is_sending))]
 fn is_sending(kind: u8, args: &[u8]) -> bool
     ensures { result ≡ is_sending kind args.now }
 {
-    if is_lending(args, 2, MOST_ROOM) {
-        return is_formed(kind, rest(args, 2));
-    }
-    false
+    is_lending(args, 2, MOST_ROOM) && is_formed(kind, rest(args, 2))
 }
 
 // `n KIND*n`: as many kinds as n says, whether or not a chain may have so many nodes.
+#[tactic(auto, unfolding(crate::specs::Form::is_power_up))]
 fn is_power_up(s: &[u8]) -> bool
     ensures { result ≡ is_power_up s.now }
 {
-    if s.len() != 1 + byte(s, 0) as usize {
-        return false;
-    }
-    are_kinds(rest(s, 1))
+    s.len() == 1 + byte(s, 0) as usize && are_kinds(rest(s, 1))
 }
 
 // Whether a line is a call that lends nothing, of its form.
+#[tactic(auto, unfolding(crate::specs::Form::is_call))]
 fn is_call(kind: u8, args: &[u8]) -> bool
     ensures { result ≡ is_call kind args.now }
 {
@@ -102,6 +96,7 @@ fn is_call(kind: u8, args: &[u8]) -> bool
 }
 
 // What a call makes: its number and the lent buffer.
+#[tactic(auto, unfolding(crate::specs::Trying::tried_by))]
 fn tried_by(step: Step, lent: &[u8]) -> Tried
     ensures { result ≡ tried_by step lent.now }
 {
@@ -128,6 +123,7 @@ fn set_baud_rate(s: Session, at: u8, args: &[u8], lent: &mut [u8]) -> Step
 }
 
 // Makes a call that sends, at its divisor and by what stands behind that.
+#[tactic(auto, unfolding(crate::specs::Trying::send_of))]
 fn send(s: Session, kind: u8, at: u8, args: &[u8], lent: &mut [u8]) -> Step
     ensures { Lending step_number result lent.new (send_of s kind at args.now lent.old) }
 {
@@ -141,6 +137,7 @@ fn send(s: Session, kind: u8, at: u8, args: &[u8], lent: &mut [u8]) -> Step
 }
 
 // Makes it, and shows the lent buffer.
+#[tactic(auto, unfolding(crate::specs::Trying::send_lent))]
 fn send_lent(s: Session, kind: u8, at: u8, args: &[u8], lent: &mut [u8]) -> Tried
     ensures { result ≡ send_lent s kind at args.now lent.old }
 {
@@ -149,6 +146,7 @@ fn send_lent(s: Session, kind: u8, at: u8, args: &[u8], lent: &mut [u8]) -> Trie
 }
 
 // Makes it with the room that its line lends.
+#[tactic(auto, unfolding(crate::specs::Trying::lend_of))]
 fn lend(s: Session, kind: u8, args: &[u8]) -> Tried
     ensures { result ≡ lend_of s kind args.now }
 {
@@ -177,6 +175,7 @@ fn handed_in(args: &[u8]) -> Step
 }
 
 // Makes a call that lends nothing.
+#[tactic(auto, unfolding(crate::specs::Trying::call_of))]
 fn call(s: Session, kind: u8, args: &[u8]) -> Step
     ensures { Promise step_number result (call_of s kind args.now) }
 {
@@ -189,6 +188,7 @@ fn call(s: Session, kind: u8, args: &[u8]) -> Step
 }
 
 // Nothing: `00 STATE`.
+#[tactic(auto, unfolding(crate::specs::Trying::show_of))]
 fn show(s: Session, args: &[u8]) -> Answer
     ensures { result ≡ show_of s args.now }
 {
@@ -199,6 +199,7 @@ fn show(s: Session, args: &[u8]) -> Answer
 }
 
 // What a line that is no call is answered.
+#[tactic(auto, unfolding(crate::specs::Trying::answer_to))]
 fn answer_to(s: Session, kind: u8, args: &[u8]) -> Answer
     ensures { result ≡ answer_to s kind args.now }
 {
@@ -209,6 +210,7 @@ fn answer_to(s: Session, kind: u8, args: &[u8]) -> Answer
 }
 
 // What a line of the host's calls makes, by its first byte and those behind it.
+#[tactic(auto, unfolding(crate::specs::Trying::attempt_of))]
 pub fn attempt(s: Session, kind: u8, args: &[u8]) -> Tried
     ensures { result ≡ attempt_of s kind args.now }
 {

@@ -14,6 +14,7 @@ use text::rest;
 use wire::{Kind, number};
 
 // Builds a packet in what a line lends, and shows all of that.
+#[tactic(auto, unfolding(crate::specs::Trial::build_into))]
 fn build_into(args: &[u8], lent: &mut [u8]) -> Answer
     ensures { result ≡ build_into args.now lent.old }
 {
@@ -22,6 +23,7 @@ fn build_into(args: &[u8], lent: &mut [u8]) -> Answer
 }
 
 // `room address command data..`: `NN buffer`.
+#[tactic(auto, unfolding(crate::specs::Trial::trypacket_build))]
 pub fn build(args: &[u8]) -> Answer
     ensures { result ≡ trypacket_build args.now }
 {
@@ -62,14 +64,12 @@ fn read_under(kind: Kind, mask: u8, s: &[u8]) -> Answer
 }
 
 // `KIND mask bytes..`: `00 status items..`, else `NN`.
+#[tactic(auto, unfolding(crate::specs::Trial::read_status))]
 pub fn read_status(args: &[u8]) -> Answer
     ensures { result ≡ read_status args.now }
 {
     let kind = byte(args, 0);
-    if args.len() < 2 {
-        return malformed();
-    }
-    if !is_kind(kind) {
+    if args.len() < 2 || !is_kind(kind) {
         return malformed();
     }
     read_under(read_kind(kind), byte(args, 1), rest(args, 2))

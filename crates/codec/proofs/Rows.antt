@@ -1,4 +1,4 @@
--- (Option Command) goes by rows, and each row is a command's number and count: what is read has them, and comes from no other bytes.
+-- Reading goes by rows, and each row is a command's number and count: what is read has them, and comes from no other bytes.
 use Prim.Native.Nat.{ℕ, ◌+◌, ◌%◌, ◌<◌, ◌≤◌}
 use Rattle.std.specs.Prelude.{Option, Some, None}
 use mathlib.Core.Bool.{Bool, true, false, cond}

@@ -137,22 +137,21 @@ fn own_data(c: Command) -> [u8; 14]
 {
     match c {
         Command::SetAddress(p) => four_data(p.address.0, group_byte(p), 0, 0),
-        Command::DefineStatus(mask) => four_data(mask, 0, 0, 0),
-        Command::ReadStatus(mask) => four_data(mask, 0, 0, 0),
+        Command::DefineStatus(mask) | Command::ReadStatus(mask) => four_data(mask, 0, 0, 0),
         Command::SetPwm(w) => four_data(w.first, w.second, 0, 0),
-        Command::SynchOutput => [0; 14],
         Command::SetOutputs(w) => word_data(w, 0, 0),
         Command::SetSynchOutput(h) => word_data(h.outputs, h.pwm.first, h.pwm.second),
         Command::SetTimerMode(mode) => four_data(mode, 0, 0, 0),
         Command::SetBaudRate(divisor) => four_data(divisor, 0, 0, 0),
-        Command::SynchInput => [0; 14],
-        Command::Nop => [0; 14],
-        Command::HardReset => [0; 14],
-        Command::ResetPosition => [0; 14],
         Command::LoadTrajectory(m) => load_data(m),
-        Command::StartMotion => [0; 14],
         Command::SetGain(g) => gain_data(g),
         Command::StopMotor(s) => stop_data(s),
+        Command::SynchOutput
+        | Command::SynchInput
+        | Command::Nop
+        | Command::HardReset
+        | Command::ResetPosition
+        | Command::StartMotion => [0; 14],
     }
 }
 

@@ -17,6 +17,7 @@ const SHEET: usize = 3 * MOST_PACKETS;
 fn first_fault(packets: &[u8]) -> usize {
     let mut at = 0;
     let mut passed = 0;
+    // By position, since a packet says where it ends: an iterator would be made for this loop alone.
     while at < packets.len() {
         let Ok(framed) = packet::read(text::rest(packets, at)) else {
             return passed + 1;

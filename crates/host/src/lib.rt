@@ -111,6 +111,7 @@ pub fn order(s: Session, at: u8, to: Address, c: Command, out: &mut [u8]) -> Ste
     ensures { Lending step_number result out.new (order_of s at to c out.old) }
 {
     match order_check(s, at, to, c) {
+        // A step, and no Result: a refusal hands the session back, which `?` can't.
         Err(why) => refuse(s, why),
         Ok(()) => transmit(s, at, to, to, c, out),
     }
@@ -129,6 +130,7 @@ pub fn regroup(
     ensures { Lending step_number result out.new (regroup_of s at node group leader out.old) }
 {
     match regroup_check(s, at, node, group, leader) {
+        // A step, and no Result: a refusal hands the session back, which `?` can't.
         Err(why) => refuse(s, why),
         Ok(()) => {
             let to = Address::Individual(node);
@@ -148,6 +150,7 @@ pub fn set_baud_rate(s: Session, at: u8, group: Group, divisor: u8, out: &mut [u
     ensures { Lending step_number result out.new (set_baud_rate_of s at group divisor out.old) }
 {
     match baud_rate_check(s, at, group, divisor) {
+        // A step, and no Result: a refusal hands the session back, which `?` can't.
         Err(why) => refuse(s, why),
         Ok(()) => {
             let to = Address::Group(group);

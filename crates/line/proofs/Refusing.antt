@@ -1,4 +1,4 @@
--- Err power-ups, calls and reports leave the session as it was.
+-- Refused power-ups, calls and reports leave the session as it was.
 use Prim.Native.Nat.{ℕ}
 use Rattle.std.specs.Prelude.{Err}
 use mathlib.Core.List.{List}

@@ -1,4 +1,4 @@
--- Define (Result ℕ Refusal) in the manual of either kind: the bits of a mask, and a status packet read under a mask.
+-- Define Status in the manual of either kind: the bits of a mask, and a status packet read under a mask.
 use Rattle.std.specs.Prelude.{ℕ, suc, ◌+◌, ◌/◌, ◌%◌, ◌^◌, Bool, cond, List, [], ◌∷◌, eqb, Result}
 use Rattle.wire.specs.declared.refusal.Refusal.{Refusal}
 use Rattle.wire.specs.declared.kind.Kind.{Kind}

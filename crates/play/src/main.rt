@@ -65,6 +65,7 @@ fn put_script(script: &mut [u8], count: &[u8], packets: &[u8]) -> usize
 {
     buffer::put(script, 0, count);
     let mut at = 0;
+    // By position, which is where the packet's line goes as well.
     while at < packets.len() {
         at = put_next(script, count, packets, at);
     }

@@ -29,12 +29,12 @@ items_from = 1
 unfoldable pub items_part : List ℕ → List ℕ
 items_part s = take (length s - 2) (drop items_from s)
 
--- Define (Result ℕ Refusal) in the LS-773 manual, the byte counts: bit 0 the inputs, bits 1 to 3 the three analog values, bit 4 the counter,
+-- Define Status in the LS-773 manual, the byte counts: bit 0 the inputs, bits 1 to 3 the three analog values, bit 4 the counter,
 -- bit 5 device ID and version, bits 6 and 7 the captured inputs and counter
 abbrev pub gate_counts : List ℕ
 gate_counts = 2 ∷ 1 ∷ 1 ∷ 1 ∷ 4 ∷ 2 ∷ 2 ∷ 4 ∷ []
 
--- Define (Result ℕ Refusal) in the LS-173AP manual, the byte counts: bit 0 the position, bit 1 the A/D value, bit 2 the velocity, bit 3 the auxiliary status,
+-- Define Status in the LS-173AP manual, the byte counts: bit 0 the position, bit 1 the A/D value, bit 2 the velocity, bit 3 the auxiliary status,
 -- bit 4 the home position, bit 5 device ID and version, bit 6 the position error, bit 7 "don't care": no item
 abbrev pub drive_counts : List ℕ
 drive_counts = 4 ∷ 1 ∷ 2 ∷ 1 ∷ 4 ∷ 2 ∷ 2 ∷ 0 ∷ []

@@ -1,4 +1,4 @@
--- (Option ℕ) numbers of one or two digits: 0 to 9 are the ASCII codes 48 to 57.
+-- Decimal numbers of one or two digits: 0 to 9 are the ASCII codes 48 to 57.
 use Rattle.std.specs.Prelude.{ℕ, ◌+◌, ◌-◌, ◌*◌, ◌/◌, ◌%◌, cond, List, [], ◌∷◌, ltb, eqb, length, get_or, Option, Some, None}
 use Rattle.wire.specs.Numbers.{done, number_of}
 use Rattle.wire.specs.declared.refusal.Refusal.TheVariants.{Range}

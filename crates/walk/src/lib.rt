@@ -52,6 +52,7 @@ pub fn next(s: Session, at: u8, out: &mut [u8]) -> Step
     ensures { Lending step_number result out.new (next_of s at out.old) }
 {
     match next_check(s, at) {
+        // A step, and no Result: a refusal hands the session back, which `?` can't.
         Err(why) => refuse(s, why),
         Ok(()) => {
             let k = s.walk + 1;
@@ -74,6 +75,7 @@ pub fn ask(s: Session, at: u8, out: &mut [u8]) -> Step
     ensures { Lending step_number result out.new (ask_of s at out.old) }
 {
     match ask_check(s, at) {
+        // A step, and no Result: a refusal hands the session back, which `?` can't.
         Err(why) => refuse(s, why),
         Ok(()) => {
             let to = Address::Individual(Individual(s.walk + 1));

@@ -47,11 +47,7 @@ fn put_next(script: &mut [u8], count: &[u8], packets: &[u8], at: usize) -> usize
     let tail = text::rest(packets, at);
     match packet::frame(tail) {
         Ok(framed) => {
-            put_line(
-                script,
-                count.len() + 3 * at,
-                text::first(tail, framed.end),
-            );
+            put_line(script, count.len() + 3 * at, text::first(tail, framed.end));
             at + framed.end
         }
         // It never comes to this: what was imported are packets.

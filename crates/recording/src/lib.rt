@@ -83,11 +83,7 @@ fn count_check(end: End) -> Result<(), Refusal>
 
 // 6 for the node count, then 15, then 16.
 // n and kinds stay two parameters, here and below: power-up takes them so, and a struct of both would only be taken apart again.
-pub fn check(
-    n: u8,
-    kinds: [Kind; MOST_NODES],
-    taken: Recording,
-) -> Result<(), Refusal>
+pub fn check(n: u8, kinds: [Kind; MOST_NODES], taken: Recording) -> Result<(), Refusal>
     ensures { Promise number_by result (of_lines (recording_check n kinds) taken.entry) }
 {
     let up = start::power_up(start::fresh(), n, kinds);
@@ -153,10 +149,7 @@ fn take_end(s: Session, at: Cursor) -> Moved
 
 // The step at a stage: what the next packet does. That packet's own bytes are `capture::packet_at` the cursor of the stage that is handed in; at `End` there is none.
 // A walk that is over stays as it is.
-pub fn advance(
-    taken: Recording,
-    stage: Stage,
-) -> Moved
+pub fn advance(taken: Recording, stage: Stage) -> Moved
     ensures { result ≡ of_lines advance_of taken.entry stage }
 {
     let at = stage.at;
@@ -187,11 +180,7 @@ fn begin_at(checked: Result<(), Refusal>, over: bool, session: Session) -> Begun
 }
 
 // The first stage of a walk, or a refusal with one that is over.
-pub fn begin(
-    n: u8,
-    kinds: [Kind; MOST_NODES],
-    taken: Recording,
-) -> Begun
+pub fn begin(n: u8, kinds: [Kind; MOST_NODES], taken: Recording) -> Begun
     ensures { Promise begun_number result (of_lines (begin_of n kinds) taken.entry) }
 {
     match check(n, kinds, taken) {
@@ -203,10 +192,7 @@ pub fn begin(
 // ---- the whole walk
 
 // Goes on from a session to the end.
-fn follow(
-    taken: Recording,
-    session: Session,
-) -> Replayed
+fn follow(taken: Recording, session: Session) -> Replayed
     requires { (length taken.command.times.now ≡ length taken.command.bytes.now) × (length taken.reply.times.now ≡ length taken.reply.bytes.now) }
     ensures { result ≡ follow_of session (of_lines left_at taken.entry outset) }
 {
@@ -240,11 +226,7 @@ fn follow(
 }
 
 // The whole walk: how it ended, and the host's record at its end.
-pub fn replay(
-    n: u8,
-    kinds: [Kind; MOST_NODES],
-    taken: Recording,
-) -> Replayed
+pub fn replay(n: u8, kinds: [Kind; MOST_NODES], taken: Recording) -> Replayed
     ensures { Promise replayed_number result (of_lines (replay_of n kinds) taken.entry) }
 {
     match check(n, kinds, taken) {

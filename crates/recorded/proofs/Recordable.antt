@@ -1,7 +1,7 @@
 -- What a recorder captures of a course can be laid with gaps as they are asked for, since no packet is empty.
 use Prim.Native.Nat.{ℕ, ◌≤◌}
 use Rattle.wire.specs.declared.refusal.Refusal.{Refusal}
-use Rattle.std.specs.Prelude.{Result, Ok, Err, Option, Some, None, ℕ}
+use Rattle.std.specs.Prelude.{Result, Ok, Err, Some, None, ℕ}
 use Rattle.wire.specs.Numbers.{number_by}
 use native.Mathlib.Omega.{arith}
 use mathlib.Core.List.{List, [], ◌∷◌, ◌++◌}

@@ -28,7 +28,7 @@ use Rattle.calls.proofs.Standing.{call_went, call_not_done, sent_not_free}
 use Rattle.capture.specs.Steps.{outset, left_at}
 use Rattle.capture.specs.Traces.{Traced}
 use Rattle.capture.specs.Checks.{check_of}
-use Rattle.std.specs.Prelude.{Ok, Result, Err, Option, Some, None, ℕ}
+use Rattle.std.specs.Prelude.{Ok, Result, Err, Some, None, ℕ}
 use Rattle.capture.proofs.Laying.{laid_packets, laid_good}
 use Rattle.recording.specs.Recording.{recording_check, power_of, quiet_of, replay_of}
 use Rattle.recording.specs.declared.Ending.TheVariants.{Ended}

@@ -1,5 +1,5 @@
 -- What a recorder captures of demand 3's course of events since the last power-up: "the recording begins at power-up".
-use Rattle.std.specs.Prelude.{ℕ, false, List, [], ◌∷◌, ◌++◌, ◌≡◌, length, take, Result, Ok, Err, Option, Some, None}
+use Rattle.std.specs.Prelude.{ℕ, false, List, [], ◌∷◌, ◌++◌, ◌≡◌, length, take, Result, Ok, Err, Some, None}
 use Rattle.session.specs.Session.{End}
 use Rattle.wire.specs.declared.refusal.Refusal.{Refusal}
 use Rattle.std.proofs.Math.Option.{Option, none, some}

@@ -26,20 +26,19 @@ fn reply_length(answer: Result<Delivery, Refusal>) -> u8
 }
 
 // `NN len buffer NODE*n`.
+#[tactic(auto, unfolding(crate::specs::Delivering::put_delivered))]
 fn put_delivered(d: Delivered, lent: &[u8], count: usize) -> Answer
     ensures { result ≡ put_delivered d lent.now count }
 {
-    let answer = d.answer;
-    let table = d.table;
     let a = nothing()
-        .put(Delivery::number(answer))
-        .put(reply_length(answer))
+        .put(Delivery::number(d.answer))
+        .put(reply_length(d.answer))
         .put_all(lent);
-    let nodes = table.nodes;
-    put_nodes(a, nodes, count)
+    put_nodes(a, d.table.nodes, count)
 }
 
 // A packet behind so many node records, sent at a divisor.
+#[tactic(auto, unfolding(crate::specs::Delivering::deliver_to))]
 fn deliver_to(at: u8, records: &[u8], count: usize, lent: &mut [u8]) -> Answer
     ensures { result ≡ deliver_to at records.now count lent.old }
 {
@@ -59,15 +58,13 @@ fn deliver_lent(args: &[u8], records: &[u8], count: usize) -> Answer
 }
 
 // `room divisor n NODE*n packet..`: `NN len buffer NODE*n`.
+#[tactic(auto, unfolding(crate::specs::Delivering::trychain_deliver))]
 pub fn deliver(args: &[u8]) -> Answer
     ensures { result ≡ trychain_deliver args.now }
 {
     let count = byte(args, 2) as usize;
     let records = rest(args, 3);
-    if !is_lending(args, 3, MOST_ROOM) {
-        return malformed();
-    }
-    if !are_nodes(records, count) {
+    if !is_lending(args, 3, MOST_ROOM) || !are_nodes(records, count) {
         return malformed();
     }
     deliver_lent(args, records, count)

@@ -12,4 +12,4 @@ pub loop-line-preserved : goal.loop-line-preserved
 loop-line-preserved g c = lines_on _ _ _ c.in-Some.ensures.steps _ _ _ c.in_ok-s.ensures c.loop-line.invariant
 
 pub returns : goal.returns
-returns g c = lines_done _ _ _ _ c.in-None.ensures.steps.0 c.fresh-s.ensures c.loop-line.invariant
+returns g c = lines_done c.args.input.now _ _ _ c.in-None.ensures.steps.0 c.fresh-s.ensures c.loop-line.invariant

@@ -1,4 +1,5 @@
 -- What the definitions mean: a line is of its form exactly if it is what some bytes are written as.
+use Rattle.std.specs.Prelude.{Some, None}
 use Prim.Native.Nat.{ℕ, ◌+◌, ◌-◌, ◌*◌, ◌/◌, ◌%◌, ◌≤◌, ◌<◌}
 use mathlib.Core.Bool.{Bool, true, false, cond}
 use mathlib.Core.List.{List, [], ◌∷◌, ◌++◌}
@@ -12,7 +13,7 @@ use Rattle.wire.proofs.Impossible.{impossible}
 use Rattle.buffer.specs.Change.{AllBytes}
 use Rattle.hexadecimal.specs.Digits.{digit_of, character_of}
 use Rattle.hexadecimal.specs.Hex.{space, hex_pair, hex_rest, hex_text, Content, bytes, malformed, pair_by, read_pair, before, on_pair, packet_in, bytes_in}
-use Rattle.hexadecimal.specs.declared.pairs.Pair.TheVariants.{Last, More, Bad}
+use Rattle.hexadecimal.specs.declared.pairs.Pair.TheVariants.{Last, More}
 
 -- ---- digits
 
@@ -113,7 +114,7 @@ packet_written (a ∷ []) d e = impossible cc
 packet_written (a ∷ b ∷ []) d e = go (ltb 15 (digit_of a)) (ltb 15 (digit_of b)) refl refl e
   where
     go : (t u : Bool) → ltb 15 (digit_of a) ≡ t → ltb 15 (digit_of b) ≡ u
-        → on_pair (cond t Bad (cond u Bad (Last (digit_of a * 16 + digit_of b)))) malformed ≡ bytes d → Form (a ∷ b ∷ []) d
+        → on_pair (cond t None (cond u None (Some (Last (digit_of a * 16 + digit_of b))))) malformed ≡ bytes d → Form (a ∷ b ∷ []) d
     go true u x y e = impossible cc
     go false true x y e = impossible cc
     go false false x y e =
@@ -136,7 +137,7 @@ packet_written (a ∷ b ∷ c ∷ s) d e =
 
     go : (t u v w : Bool) → ltb 15 (digit_of a) ≡ t → ltb 15 (digit_of b) ≡ u → ltb (length (a ∷ b ∷ c ∷ s)) 3 ≡ v → eqb c space ≡ w
         → ((m : List ℕ) → packet_in s ≡ bytes m → Form s m)
-        → on_pair (cond t Bad (cond u Bad (cond v (Last (digit_of a * 16 + digit_of b)) (cond w (More (digit_of a * 16 + digit_of b)) Bad)))) (packet_in s) ≡ bytes d
+        → on_pair (cond t None (cond u None (cond v (Some (Last (digit_of a * 16 + digit_of b))) (cond w (Some (More (digit_of a * 16 + digit_of b))) None)))) (packet_in s) ≡ bytes d
         → Form (a ∷ b ∷ c ∷ s) d
     go true u v w x y i j ih e = impossible cc
     go false true v w x y i j ih e = impossible cc

@@ -17,9 +17,9 @@ use Rattle.hexadecimal.specs.Hex.{space, Content, bytes, malformed, pair_by, rea
 use Rattle.hexadecimal.specs.Gathering.{Gathered, whole, none, gathered, read_pairs}
 use Rattle.hexadecimal.proofs.Storing.{laid_before}
 use Rattle.hexadecimal.specs.declared.pairs.Pair.{Pair}
-use Rattle.hexadecimal.specs.declared.pairs.Pair.TheVariants.{Last, More, Bad}
+use Rattle.hexadecimal.specs.declared.pairs.Pair.TheVariants.{Last, More}
 
-pub pair_by_lem : (s : List ℕ) (h l : ℕ) (r : Pair) → 2 ≤ length s → h ≡ digit_of (get_or s 0 0) → l ≡ digit_of (get_or s 1 0) → r ≡ pair_by h l s → r ≡ read_pair s
+pub pair_by_lem : (s : List ℕ) (h l : ℕ) (r : Option Pair) → 2 ≤ length s → h ≡ digit_of (get_or s 0 0) → l ≡ digit_of (get_or s 1 0) → r ≡ pair_by h l s → r ≡ read_pair s
 unfolding read_pair
 pair_by_lem s h l r k e f g = rw (le-ltb (length s) 2 k, ← e, ← f) g
 
@@ -32,31 +32,31 @@ packet_step (a ∷ []) = refl
 packet_step (a ∷ b ∷ []) = refl
 packet_step (a ∷ b ∷ c ∷ s) = refl
 
-module _ (line : List ℕ) (at i : ℕ) (r out : List ℕ) (p : Pair) (w : Gathered) (e : r ≡ drop at line) (f : p ≡ read_pair r)
+module _ (line : List ℕ) (at i : ℕ) (r out : List ℕ) (p : Option Pair) (w : Gathered) (e : r ≡ drop at line) (f : p ≡ read_pair r)
     (inv : read_pairs (packet_in (drop at line)) i out ≡ w) where
-  pub pairs_bad : p ≡ Bad → none ≡ w
+  pub pairs_bad : p ≡ None → none ≡ w
   pairs_bad g = rw (packet_step (drop at line), ← e, ← f, g) at inv
 
-  pub pairs_last : (v : ℕ) (m : List ℕ) → p ≡ Last v → m ≡ set out i v → whole (i + 1) m ≡ w
-  pairs_last v m g k = rw k (rw (packet_step (drop at line), ← e, ← f, g) at inv)
+  pub pairs_last : (q : Pair) (v : ℕ) (m : List ℕ) → p ≡ Some q → q ≡ Last v → m ≡ set out i v → whole (i + 1) m ≡ w
+  pairs_last q v m d g k = rw k (rw (packet_step (drop at line), ← e, ← f, d, g) at inv)
 
-  pub pairs_more : (v : ℕ) (m : List ℕ) → p ≡ More v → m ≡ set out i v → read_pairs (packet_in (drop (at + 3) line)) (i + 1) m ≡ w
-  pairs_more v m g k =
+  pub pairs_more : (q : Pair) (v : ℕ) (m : List ℕ) → p ≡ Some q → q ≡ More v → m ≡ set out i v → read_pairs (packet_in (drop (at + 3) line)) (i + 1) m ≡ w
+  pairs_more q v m d g k =
       rw k (sym (laid_before v i out (packet_in (drop (at + 3) line)))
-      ∙ (rw (packet_step (drop at line), drop-drop 3 at line, ← e, ← f, g) at inv))
+      ∙ (rw (packet_step (drop at line), drop-drop 3 at line, ← e, ← f, d, g) at inv))
 
 -- after a pair that isn't the last the line goes on
-abbrev is_more : Pair → Bool
-is_more (More v) = true
-is_more (Last v) = false
-is_more Bad = false
+abbrev is_more : Option Pair → Bool
+is_more (Some (More v)) = true
+is_more (Some (Last v)) = false
+is_more None = false
 
 more_by : (h l : ℕ) (s : List ℕ) → is_more (pair_by h l s) ≡ true → 3 ≤ length s
 unfolding pair_by
 more_by h l s e = go (ltb 15 h) (ltb 15 l) (ltb (length s) 3) refl e
   where
     go : (t u v : Bool) → ltb (length s) 3 ≡ v
-        → is_more (cond t Bad (cond u Bad (cond v (Last (h * 16 + l)) (cond (eqb (get_or s 2 0) space) (More (h * 16 + l)) Bad)))) ≡ true → 3 ≤ length s
+        → is_more (cond t None (cond u None (cond v (Some (Last (h * 16 + l))) (cond (eqb (get_or s 2 0) space) (Some (More (h * 16 + l))) None)))) ≡ true → 3 ≤ length s
     go t u false k e = ltb-false (length s) 3 k
     go true u true k e = absurd (false≢true e)
     go false true true k e = absurd (false≢true e)
@@ -66,13 +66,13 @@ more_long : (s : List ℕ) → is_more (read_pair s) ≡ true → 3 ≤ length s
 unfolding read_pair
 more_long s e = go (ltb (length s) 2) e
   where
-    go : (t : Bool) → is_more (cond t Bad (pair_by (digit_of (get_or s 0 0)) (digit_of (get_or s 1 0)) s)) ≡ true → 3 ≤ length s
+    go : (t : Bool) → is_more (cond t None (pair_by (digit_of (get_or s 0 0)) (digit_of (get_or s 1 0)) s)) ≡ true → 3 ≤ length s
     go true e = absurd (false≢true e)
     go false e = more_by _ _ s e
 
-pub more_fits : (line : List ℕ) (at v : ℕ) (r : List ℕ) (p : Pair) → r ≡ drop at line → p ≡ read_pair r → p ≡ More v → at + 3 ≤ length line
-more_fits line at v r p e f g =
-    let k : 3 ≤ length (drop at line) = more_long (drop at line) (rw (← e, ← f, g)) in
+pub more_fits : (line : List ℕ) (at v : ℕ) (r : List ℕ) (p : Option Pair) (q : Pair) → r ≡ drop at line → p ≡ read_pair r → p ≡ Some q → q ≡ More v → at + 3 ≤ length line
+more_fits line at v r p q e f d g =
+    let k : 3 ≤ length (drop at line) = more_long (drop at line) (rw (← e, ← f, d, g)) in
     omega (arith, length-drop at line)
 
 -- ---- the whole line

@@ -6,7 +6,7 @@ use Rattle.wire.specs.declared.refusal.Refusal.TheVariants.{Range}
 use Rattle.text.specs.Lines.{newline}
 use Rattle.hexadecimal.specs.Digits.{digit_of, character_of}
 use Rattle.hexadecimal.specs.declared.pairs.Pair.{Pair}
-use Rattle.hexadecimal.specs.declared.pairs.Pair.TheVariants.{Last, More, Bad}
+use Rattle.hexadecimal.specs.declared.pairs.Pair.TheVariants.{Last, More}
 
 abbrev pub space : ℕ
 space = 32
@@ -39,25 +39,25 @@ pub data Content : Type 0 where
   malformed : Content
 
 -- two digits of these values, then the line's end or a space
-unfoldable pub pair_by : ℕ → ℕ → List ℕ → Pair
+unfoldable pub pair_by : ℕ → ℕ → List ℕ → Option Pair
 pair_by high low s =
-    cond (ltb 15 high) Bad
-    (cond (ltb 15 low) Bad
-    (cond (ltb (length s) 3) (Last (high * 16 + low))
-    (cond (eqb (get_or s 2 0) space) (More (high * 16 + low)) Bad)))
+    cond (ltb 15 high) None
+    (cond (ltb 15 low) None
+    (cond (ltb (length s) 3) (Some (Last (high * 16 + low)))
+    (cond (eqb (get_or s 2 0) space) (Some (More (high * 16 + low))) None)))
 
-unfoldable pub read_pair : List ℕ → Pair
-read_pair s = cond (ltb (length s) 2) Bad (pair_by (digit_of (get_or s 0 0)) (digit_of (get_or s 1 0)) s)
+unfoldable pub read_pair : List ℕ → Option Pair
+read_pair s = cond (ltb (length s) 2) None (pair_by (digit_of (get_or s 0 0)) (digit_of (get_or s 1 0)) s)
 
 -- b in front of what the rest of the line says
 abbrev pub before : ℕ → Content → Content
 before b (bytes d) = bytes (b ∷ d)
 before b malformed = malformed
 
-abbrev pub on_pair : Pair → Content → Content
-on_pair (Last b) more = bytes (b ∷ [])
-on_pair (More b) more = before b more
-on_pair Bad more = malformed
+abbrev pub on_pair : Option Pair → Content → Content
+on_pair (Some (Last b)) more = bytes (b ∷ [])
+on_pair (Some (More b)) more = before b more
+on_pair None more = malformed
 
 -- the bytes of a line that isn't empty
 abbrev pub packet_in : List ℕ → Content

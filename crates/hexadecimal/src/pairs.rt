@@ -16,33 +16,32 @@ pub const SPACE: u8 = 32;
 pub(crate) enum Pair {
     Last(u8),
     More(u8),
-    Bad,
 }
 
 // s starts with two digits of these values.
 #[tactic(auto, unfolding(crate::specs::Hex::pair_by))]
-fn pair_by(high: u8, low: u8, s: &[u8]) -> Pair
+fn pair_by(high: u8, low: u8, s: &[u8]) -> Option<Pair>
     ensures { result ≡ pair_by high low s.now }
 {
     if 15 < high || 15 < low {
-        return Pair::Bad;
+        return None;
     }
     let value = high * 16 + low;
     if s.len() < 3 {
-        return Pair::Last(value);
+        return Some(Pair::Last(value));
     }
     if s[2] != SPACE {
-        return Pair::Bad;
+        return None;
     }
-    Pair::More(value)
+    Some(Pair::More(value))
 }
 
 #[tactic(auto, using(crate::proofs::Pairing::pair_by_lem), unfolding(crate::specs::Hex::read_pair))]
-fn read_pair(s: &[u8]) -> Pair
+fn read_pair(s: &[u8]) -> Option<Pair>
     ensures { result ≡ read_pair s.now }
 {
     if s.len() < 2 {
-        return Pair::Bad;
+        return None;
     }
     let high = digit(s[0]);
     let low = digit(s[1]);
@@ -57,10 +56,7 @@ fn read_pairs(line: &[u8], out: &mut [u8]) -> Option<usize>
     let mut count = 0;
     // No iterator: that a space follows a pair says that one more must come, so the last pair is known by its own reading.
     loop {
-        match read_pair(rest(line, at)) {
-            Pair::Bad => {
-                return None;
-            }
+        match read_pair(rest(line, at))? {
             Pair::Last(b) => {
                 store(out, count, b);
                 return Some(count + 1);

@@ -17,7 +17,7 @@ use Rattle.hexadecimal.proofs.Storing.{laid_before}
 use Rattle.sheet.specs.Line.{starts_hex, either_digit, numerals_of, numeral_bytes, right_count, line_in}
 use Rattle.sheet.specs.Reading.{two_numeral, numeral_by, read_numeral, read_numerals, counted_by, read_counted, read_line}
 use Rattle.sheet.specs.declared.line.Numeral.{Numeral}
-use Rattle.sheet.specs.declared.line.Numeral.TheVariants.{Last, More, Bad}
+use Rattle.sheet.specs.declared.line.Numeral.TheVariants.{Last, More}
 use Rattle.sheet.proofs.Numerals.{numeral_step}
 
 -- ---- a numeral
@@ -27,53 +27,53 @@ record Going (s : List ℕ) (n : ℕ) : Type 0 where
   pub on : 2 ≤ n
   pub within : n ≤ length s
 
-going_two : (high low v n : ℕ) (s : List ℕ) → two_numeral high low s ≡ More v n → Going s n
+going_two : (high low v n : ℕ) (s : List ℕ) → two_numeral high low s ≡ Some (More v n) → Going s n
 unfolding two_numeral
 going_two high low v n s e = go (ltb 15 low) (ltb (length s) 3) (eqb (get_or s 2 0) space) refl e
   where
-    go : (t u w : Bool) → ltb (length s) 3 ≡ u → cond t Bad (cond u (Last (high * 16 + low)) (cond w (More (high * 16 + low) 3) Bad)) ≡ More v n → Going s n
+    go : (t u w : Bool) → ltb (length s) 3 ≡ u → cond t None (cond u (Some (Last (high * 16 + low))) (cond w (Some (More (high * 16 + low) 3)) None)) ≡ Some (More v n) → Going s n
     go true u w k e = impossible cc
     go false true w k e = impossible cc
     go false false true k e = let z : n ≡ 3 = cc in let m : 3 ≤ length s = ltb-false (length s) 3 k in record { on = omega arith; within = omega arith }
     go false false false k e = impossible cc
 
-going_by : (high v n : ℕ) (s : List ℕ) → numeral_by high s ≡ More v n → Going s n
+going_by : (high v n : ℕ) (s : List ℕ) → numeral_by high s ≡ Some (More v n) → Going s n
 unfolding numeral_by
 going_by high v n s e = go (ltb 15 high) (ltb (length s) 2) (eqb (get_or s 1 0) space) refl e
   where
     go : (t u w : Bool) → ltb (length s) 2 ≡ u
-        → cond t Bad (cond u (Last high) (cond w (More high 2) (two_numeral high (either_digit (get_or s 1 0)) s))) ≡ More v n → Going s n
+        → cond t None (cond u (Some (Last high)) (cond w (Some (More high 2)) (two_numeral high (either_digit (get_or s 1 0)) s))) ≡ Some (More v n) → Going s n
     go true u w k e = impossible cc
     go false true w k e = impossible cc
     go false false true k e = let z : n ≡ 2 = cc in let m : 2 ≤ length s = ltb-false (length s) 2 k in record { on = omega arith; within = omega arith }
     go false false false k e = going_two high (either_digit (get_or s 1 0)) v n s e
 
-going : (s : List ℕ) (v n : ℕ) → read_numeral s ≡ More v n → Going s n
+going : (s : List ℕ) (v n : ℕ) → read_numeral s ≡ Some (More v n) → Going s n
 unfolding read_numeral
 going s v n e = go (ltb (length s) 1) e
   where
-    go : (t : Bool) → cond t Bad (numeral_by (either_digit (get_or s 0 0)) s) ≡ More v n → Going s n
+    go : (t : Bool) → cond t None (numeral_by (either_digit (get_or s 0 0)) s) ≡ Some (More v n) → Going s n
     go true e = impossible cc
     go false e = going_by (either_digit (get_or s 0 0)) v n s e
 
 -- ---- the loop: what is gathered from here on is what was to be gathered
 
-module _ (line : List ℕ) (at i : ℕ) (r out : List ℕ) (p : Numeral) (w : Gathered) (e : r ≡ drop at line) (f : p ≡ read_numeral r)
+module _ (line : List ℕ) (at i : ℕ) (r out : List ℕ) (p : Option Numeral) (w : Gathered) (e : r ≡ drop at line) (f : p ≡ read_numeral r)
     (inv : read_pairs (numeral_bytes (numerals_of (drop at line))) i out ≡ w) where
-  pub numerals_bad : p ≡ Bad → none ≡ w
+  pub numerals_bad : p ≡ None → none ≡ w
   numerals_bad g = rw (numeral_step (drop at line), ← e, ← f, g) at inv
 
-  pub numerals_last : (v : ℕ) (m : List ℕ) → p ≡ Last v → m ≡ set out i v → whole (i + 1) m ≡ w
-  numerals_last v m g k = rw k (rw (numeral_step (drop at line), ← e, ← f, g) at inv)
+  pub numerals_last : (q : Numeral) (v : ℕ) (m : List ℕ) → p ≡ Some q → q ≡ Last v → m ≡ set out i v → whole (i + 1) m ≡ w
+  numerals_last q v m d g k = rw k (rw (numeral_step (drop at line), ← e, ← f, d, g) at inv)
 
-  pub numerals_more : (v n : ℕ) (m : List ℕ) → p ≡ More v n → m ≡ set out i v → read_pairs (numeral_bytes (numerals_of (drop (at + n) line))) (i + 1) m ≡ w
-  numerals_more v n m g k =
+  pub numerals_more : (q : Numeral) (v n : ℕ) (m : List ℕ) → p ≡ Some q → q ≡ More v n → m ≡ set out i v → read_pairs (numeral_bytes (numerals_of (drop (at + n) line))) (i + 1) m ≡ w
+  numerals_more q v n m d g k =
       rw k (sym (laid_before v i out (numeral_bytes (numerals_of (drop (at + n) line))))
-      ∙ (rw (numeral_step (drop at line), ← e, ← f, g, e, drop-drop n at line) at inv))
+      ∙ (rw (numeral_step (drop at line), ← e, ← f, d, g, e, drop-drop n at line) at inv))
 
-module _ (line : List ℕ) (at v n : ℕ) (r : List ℕ) (p : Numeral) (e : r ≡ drop at line) (f : p ≡ read_numeral r) (g : p ≡ More v n) where
+module _ (line : List ℕ) (at v n : ℕ) (r : List ℕ) (p : Option Numeral) (q : Numeral) (e : r ≡ drop at line) (f : p ≡ read_numeral r) (d : p ≡ Some q) (g : q ≡ More v n) where
   goes : Going (drop at line) n
-  goes = going (drop at line) v n (rw (← e) (sym f ∙ g))
+  goes = going (drop at line) v n (rw (← e, ← g) (sym f ∙ d))
 
   pub more_fits : at ≤ length line → at + n ≤ length line
   more_fits h = omega (arith, goes.within, length-drop at line)

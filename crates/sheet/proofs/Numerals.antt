@@ -1,4 +1,5 @@
 -- Text read numeral by numeral says what the numerals between its spaces say.
+use Rattle.std.specs.Prelude.{Option, Some, None}
 use Prim.Native.Nat.{ℕ, ◌+◌, ◌*◌, ◌≤◌, ◌<◌}
 use mathlib.Core.Bool.{Bool, true, false, cond, false≢true}
 use mathlib.Core.List.{List, [], ◌∷◌}
@@ -14,19 +15,19 @@ use Rattle.hexadecimal.specs.Hex.{space, Content, bytes, malformed, before}
 use Rattle.sheet.specs.Line.{either_digit, numerals_of, numeral_bytes}
 use Rattle.sheet.specs.Reading.{two_numeral, numeral_by, read_numeral}
 use Rattle.sheet.specs.declared.line.Numeral.{Numeral}
-use Rattle.sheet.specs.declared.line.Numeral.TheVariants.{Last, More, Bad}
+use Rattle.sheet.specs.declared.line.Numeral.TheVariants.{Last, More}
 
 -- what a numeral makes of what the text behind it says
-abbrev pub on_numeral : Numeral → Content → Content
-on_numeral (Last b) rest = bytes (b ∷ [])
-on_numeral (More b n) rest = before b rest
-on_numeral Bad rest = malformed
+abbrev pub on_numeral : Option Numeral → Content → Content
+on_numeral (Some (Last b)) rest = bytes (b ∷ [])
+on_numeral (Some (More b n)) rest = before b rest
+on_numeral None rest = malformed
 
 -- how many characters it takes, with its space
-abbrev pub taken : Numeral → ℕ
-taken (Last b) = 0
-taken (More b n) = n
-taken Bad = 0
+abbrev pub taken : Option Numeral → ℕ
+taken (Some (Last b)) = 0
+taken (Some (More b n)) = n
+taken None = 0
 
 -- ---- what no numeral begins with, or goes on with
 
@@ -66,7 +67,7 @@ two_says a b ws h k =
 
 -- ---- the text by its first numeral
 
-abbrev Says : List ℕ → Numeral → Type 0
+abbrev Says : List ℕ → Option Numeral → Type 0
 Says s n = numeral_bytes (numerals_of s) ≡ on_numeral n (numeral_bytes (numerals_of (drop (taken n) s)))
 
 two_step : (a b : ℕ) (s : List ℕ) → either_digit a ≤ 15 → (b ≡ space → ⊥) → Says (a ∷ b ∷ s) (two_numeral (either_digit a) (either_digit b) (a ∷ b ∷ s))
@@ -80,12 +81,12 @@ two_step a b s h n = by_digit (ltb 15 (either_digit b)) refl s
     eb = ne_eqb b space n
 
     by_third : (c : ℕ) (t : List ℕ) (u : Bool) → eqb c space ≡ u → either_digit b ≤ 15
-        → Says (a ∷ b ∷ c ∷ t) (cond u (More (either_digit a * 16 + either_digit b) 3) Bad)
+        → Says (a ∷ b ∷ c ∷ t) (cond u (Some (More (either_digit a * 16 + either_digit b) 3)) None)
     by_third c t true e k = rw (ea, eb, e) (two_says a b (numerals_of t) h k)
     by_third c t false e k = rw (ea, eb, e) (not_three a b c (numerals_of t))
 
     by_digit : (t : Bool) → ltb 15 (either_digit b) ≡ t → (s : List ℕ)
-        → Says (a ∷ b ∷ s) (cond t Bad (cond (ltb (length (a ∷ b ∷ s)) 3) (Last (either_digit a * 16 + either_digit b)) (cond (eqb (get_or (a ∷ b ∷ s) 2 0) space) (More (either_digit a * 16 + either_digit b) 3) Bad)))
+        → Says (a ∷ b ∷ s) (cond t None (cond (ltb (length (a ∷ b ∷ s)) 3) (Some (Last (either_digit a * 16 + either_digit b))) (cond (eqb (get_or (a ∷ b ∷ s) 2 0) space) (Some (More (either_digit a * 16 + either_digit b) 3)) None)))
     by_digit true e s = rw (ea, eb) (not_second a b (numerals_of s) (ltb-true 15 (either_digit b) e))
     by_digit false e [] = rw (ea, eb) (two_says a b [] h (ltb-false 15 (either_digit b) e))
     by_digit false e (c ∷ t) =
@@ -99,12 +100,12 @@ one_step a s n = by_digit (ltb 15 (either_digit a)) refl s
     ea = ne_eqb a space n
 
     by_second : (b : ℕ) (t : List ℕ) (u : Bool) → eqb b space ≡ u → either_digit a ≤ 15
-        → Says (a ∷ b ∷ t) (cond u (More (either_digit a) 2) (two_numeral (either_digit a) (either_digit b) (a ∷ b ∷ t)))
+        → Says (a ∷ b ∷ t) (cond u (Some (More (either_digit a) 2)) (two_numeral (either_digit a) (either_digit b) (a ∷ b ∷ t)))
     by_second b t true e k = rw (ea, e) (one_says a (numerals_of t) k)
     by_second b t false e k = two_step a b t k (λ z. false≢true (sym e ∙ eq-eqb b space z))
 
     by_digit : (t : Bool) → ltb 15 (either_digit a) ≡ t → (s : List ℕ)
-        → Says (a ∷ s) (cond t Bad (cond (ltb (length (a ∷ s)) 2) (Last (either_digit a)) (cond (eqb (get_or (a ∷ s) 1 0) space) (More (either_digit a) 2) (two_numeral (either_digit a) (either_digit (get_or (a ∷ s) 1 0)) (a ∷ s)))))
+        → Says (a ∷ s) (cond t None (cond (ltb (length (a ∷ s)) 2) (Some (Last (either_digit a))) (cond (eqb (get_or (a ∷ s) 1 0) space) (Some (More (either_digit a) 2)) (two_numeral (either_digit a) (either_digit (get_or (a ∷ s) 1 0)) (a ∷ s)))))
     by_digit true e s = rw ea (not_first a (numerals_of s) (ltb-true 15 (either_digit a) e))
     by_digit false e [] = rw ea (one_says a [] (ltb-false 15 (either_digit a) e))
     by_digit false e (b ∷ t) =

@@ -4,7 +4,7 @@ use Rattle.packet.specs.declared.Framed.{Framed}
 use Rattle.wire.specs.Promise.{Outcome}
 use Rattle.wire.specs.declared.refusal.Refusal.{Refusal}
 use Rattle.buffer.specs.Buffer.{refused, written}
-use Rattle.packet.specs.Packet.{read_of, whole}
+use Rattle.packet.specs.Packet.{read_of}
 use Rattle.hexadecimal.specs.Hex.{hex_line}
 use Rattle.sheet.specs.Line.{hex_word}
 use Rattle.sheet.specs.Sheet.{Made, made, fault}

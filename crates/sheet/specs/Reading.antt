@@ -7,7 +7,7 @@ use Rattle.text.specs.Lines.{lines_of}
 use Rattle.hexadecimal.specs.Hex.{space}
 use Rattle.hexadecimal.specs.Gathering.{Gathered, read_pairs}
 use Rattle.sheet.specs.declared.line.Numeral.{Numeral}
-use Rattle.sheet.specs.declared.line.Numeral.TheVariants.{Last, More, Bad}
+use Rattle.sheet.specs.declared.line.Numeral.TheVariants.{Last, More}
 use Rattle.sheet.specs.declared.importing.ImportError.{ImportError}
 use Rattle.sheet.specs.declared.importing.ImportError.TheVariants as wrong
 use Rattle.sheet.specs.Line.{either_digit, numerals_of, numeral_bytes, right_count, line_in}
@@ -17,23 +17,23 @@ use Rattle.sheet.specs.Packets.{Found, over, packet, misread, packets_of, sheet_
 -- ---- a line
 
 -- two digits of these values, then the line's end or a space
-unfoldable pub two_numeral : ℕ → ℕ → List ℕ → Numeral
+unfoldable pub two_numeral : ℕ → ℕ → List ℕ → Option Numeral
 two_numeral high low s =
-    cond (ltb 15 low) Bad
-    (cond (ltb (length s) 3) (Last (high * 16 + low))
-    (cond (eqb (get_or s 2 0) space) (More (high * 16 + low) 3) Bad))
+    cond (ltb 15 low) None
+    (cond (ltb (length s) 3) (Some (Last (high * 16 + low)))
+    (cond (eqb (get_or s 2 0) space) (Some (More (high * 16 + low) 3)) None))
 
 -- a digit of this value, then the line's end, a space or a second digit
-unfoldable pub numeral_by : ℕ → List ℕ → Numeral
+unfoldable pub numeral_by : ℕ → List ℕ → Option Numeral
 numeral_by high s =
-    cond (ltb 15 high) Bad
-    (cond (ltb (length s) 2) (Last high)
-    (cond (eqb (get_or s 1 0) space) (More high 2)
+    cond (ltb 15 high) None
+    (cond (ltb (length s) 2) (Some (Last high))
+    (cond (eqb (get_or s 1 0) space) (Some (More high 2))
     (two_numeral high (either_digit (get_or s 1 0)) s)))
 
 -- the numeral that some text starts with
-unfoldable pub read_numeral : List ℕ → Numeral
-read_numeral s = cond (ltb (length s) 1) Bad (numeral_by (either_digit (get_or s 0 0)) s)
+unfoldable pub read_numeral : List ℕ → Option Numeral
+read_numeral s = cond (ltb (length s) 1) None (numeral_by (either_digit (get_or s 0 0)) s)
 
 -- the bytes of numerals, of as many as they count, and of a line, gathered in a buffer
 abbrev pub read_numerals : List ℕ → List ℕ → Gathered

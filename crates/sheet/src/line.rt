@@ -16,7 +16,6 @@ pub(crate) const MOST_LINE: usize = 17;
 pub(crate) enum Numeral {
     Last(u8),
     More(u8, u8),
-    Bad,
 }
 
 // Whether a line begins with the word and a space.
@@ -49,47 +48,47 @@ fn either_digit(b: u8) -> u8
 
 // s starts with two digits of these values.
 #[tactic(auto, unfolding(crate::specs::Reading::two_numeral))]
-fn two_numeral(high: u8, low: u8, s: &[u8]) -> Numeral
+fn two_numeral(high: u8, low: u8, s: &[u8]) -> Option<Numeral>
     requires { high < 16 }
     ensures { result ≡ two_numeral high low s.now }
 {
     if 15 < low {
-        return Numeral::Bad;
+        return None;
     }
     let value = high * 16 + low;
     if s.len() < 3 {
-        return Numeral::Last(value);
+        return Some(Numeral::Last(value));
     }
     if s[2] != SPACE {
-        return Numeral::Bad;
+        return None;
     }
-    Numeral::More(value, 3)
+    Some(Numeral::More(value, 3))
 }
 
 // s starts with a digit of this value.
 #[tactic(auto, unfolding(crate::specs::Reading::numeral_by))]
-fn numeral_by(high: u8, s: &[u8]) -> Numeral
+fn numeral_by(high: u8, s: &[u8]) -> Option<Numeral>
     ensures { result ≡ numeral_by high s.now }
 {
     if 15 < high {
-        return Numeral::Bad;
+        return None;
     }
     if s.len() < 2 {
-        return Numeral::Last(high);
+        return Some(Numeral::Last(high));
     }
     if s[1] == SPACE {
-        return Numeral::More(high, 2);
+        return Some(Numeral::More(high, 2));
     }
     let low = either_digit(s[1]);
     two_numeral(high, low, s)
 }
 
 #[tactic(auto, unfolding(crate::specs::Reading::read_numeral))]
-fn read_numeral(s: &[u8]) -> Numeral
+fn read_numeral(s: &[u8]) -> Option<Numeral>
     ensures { result ≡ read_numeral s.now }
 {
     if s.len() < 1 {
-        return Numeral::Bad;
+        return None;
     }
     let high = either_digit(s[0]);
     numeral_by(high, s)
@@ -103,10 +102,7 @@ fn read_numerals(s: &[u8], out: &mut [u8]) -> Option<usize>
     let mut count = 0;
     // No iterator: that a space follows a numeral says that one more must come, so the last numeral is known by its own reading.
     loop {
-        match read_numeral(rest(s, at)) {
-            Numeral::Bad => {
-                return None;
-            }
+        match read_numeral(rest(s, at))? {
             Numeral::Last(b) => {
                 store(out, count, b);
                 return Some(count + 1);

@@ -23,7 +23,7 @@ pub fn triple(s: &[u8], at: usize) -> usize
     ensures { result ≡ triple_of s.now at }
 {
     let three = text::rest(s, at);
-    usize::from(word(three, 0)) + usize::from(byte(three, 2)) * 65536
+    u32::from_le_bytes([byte(three, 0), byte(three, 1), byte(three, 2), 0]) as usize
 }
 
 // Four bytes.
@@ -31,7 +31,7 @@ pub fn long(s: &[u8], at: usize) -> u32
     ensures { result ≡ fields_long s.now at }
 {
     let four = text::rest(s, at);
-    u32::from(word(four, 0)) + u32::from(word(four, 2)) * 65536
+    u32::from_le_bytes([byte(four, 0), byte(four, 1), byte(four, 2), byte(four, 3)])
 }
 
 // The most that a line may lend.

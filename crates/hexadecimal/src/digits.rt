@@ -2,7 +2,7 @@
 ghost use Rattle.std.specs.Prelude.{◌≡◌, ◌<◌};
 ghost use Rattle.hexadecimal.specs.Digits.{digit_of, character_of};
 
-// The value of a capital hexadecimal digit; 16 where b is none.
+// The value of a capital hexadecimal digit; 16 where b is none: `either_digit` of a sheet, which is told by the same definition, is a sum for speed (docs/PERFORMANCE.md).
 #[tactic(auto, unfolding(crate::specs::Digits::digit_of))]
 pub(crate) fn digit(b: u8) -> u8
     ensures { result ≡ digit_of b }

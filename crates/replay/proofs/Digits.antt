@@ -14,11 +14,11 @@ use Rattle.text.specs.Digits.{value_of}
 use Rattle.replay.specs.Times.{read_digits, read_time}
 
 -- what the library's test of a digit says of its value
-digit_value_lem : (b : ℕ) → IsInRange 48 57 b → value_of b ≡ b - 48
+digit_value_lem : (b : ℕ) → IsInRange 48 57 b → value_of b ≡ Some (b - 48)
 unfolding value_of
 digit_value_lem b h = rw (le-ltb b 48 h.0, lt-ltb b 58 (omega (arith, h.1)))
 
-other_value_lem : (b : ℕ) → IsOutOfRange 48 57 b → value_of b ≡ 10
+other_value_lem : (b : ℕ) → IsOutOfRange 48 57 b → value_of b ≡ None
 unfolding value_of
 other_value_lem b (inl h) = rw (lt-ltb b 48 h)
 other_value_lem b (inr h) = rw (le-ltb b 48 (omega arith), le-ltb b 58 (omega arith))
@@ -31,18 +31,15 @@ module _ (s : List ℕ) (i v : ℕ) (t : Option ℕ) (e : read_digits v (drop i 
       sym f ∙ e
 
   module _ (a : IsInRange 48 57 (get_or s i 0)) where
-    small : get_or s i 0 - 48 ≤ 9
-    small = omega (arith, a.1)
-
     pub digits_late : 4294967295 < v * 10 + (get_or s i 0 - 48) → None ≡ t
     digits_late b =
-        let f : read_digits v (drop i s) ≡ None = rw (drop-cons s i 0 h, digit_value_lem (get_or s i 0) a, le-ltb 9 (get_or s i 0 - 48) small, lt-ltb 4294967295 (v * 10 + (get_or s i 0 - 48)) b) in
+        let f : read_digits v (drop i s) ≡ None = rw (drop-cons s i 0 h, digit_value_lem (get_or s i 0) a, lt-ltb 4294967295 (v * 10 + (get_or s i 0 - 48)) b) in
         sym f ∙ e
 
     pub digits_on : v * 10 + (get_or s i 0 - 48) ≤ 4294967295 → read_digits (v * 10 + (get_or s i 0 - 48)) (drop (i + 1) s) ≡ t
     digits_on b =
         let f : read_digits v (drop i s) ≡ read_digits (v * 10 + (get_or s i 0 - 48)) (drop (i + 1) s) =
-        rw (add-one i, drop-cons s i 0 h, digit_value_lem (get_or s i 0) a, le-ltb 9 (get_or s i 0 - 48) small, le-ltb 4294967295 (v * 10 + (get_or s i 0 - 48)) b) in
+        rw (add-one i, drop-cons s i 0 h, digit_value_lem (get_or s i 0) a, le-ltb 4294967295 (v * 10 + (get_or s i 0 - 48)) b) in
         sym f ∙ e
 
 pub digits_end : (s : List ℕ) (i v : ℕ) (t : Option ℕ) → read_digits v (drop i s) ≡ t → length s ≤ i → Some v ≡ t

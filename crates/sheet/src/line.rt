@@ -26,7 +26,7 @@ fn starts_hex(line: &[u8]) -> bool
 }
 
 // The value of a hex digit of either case; 16 where b is none.
-// A digit of any kind fails these tests alike: which kind comes next can't be guessed, and a wrong guess costs a processor more than all of them.
+// A digit of any kind fails these tests alike: which kind comes next can't be guessed, and a wrong guess costs a processor more than all of them (docs/PERFORMANCE.md).
 fn either_digit(b: u8) -> u8
     ensures { result ≡ either_digit b }
 {

@@ -3,26 +3,24 @@ use Rattle.std.specs.Prelude.{ℕ, ◌+◌, ◌-◌, ◌*◌, ◌/◌, ◌%◌, 
 use Rattle.wire.specs.Numbers.{done, number_of}
 use Rattle.wire.specs.declared.refusal.Refusal.TheVariants.{Range}
 
--- the value of a decimal digit; 10 for all else
-unfoldable pub value_of : ℕ → ℕ
-value_of b = cond (ltb b 48) 10 (cond (ltb b 58) (b - 48) 10)
+-- the value of a decimal digit, if it is one
+unfoldable pub value_of : ℕ → Option ℕ
+value_of b = cond (ltb b 48) None (cond (ltb b 58) (Some (b - 48)) None)
 
 -- a number below 100 in decimal
 unfoldable pub decimal_of : ℕ → List ℕ
 decimal_of n = cond (ltb n 10) ((48 + n) ∷ []) ((48 + n / 10) ∷ (48 + n % 10) ∷ [])
 
--- one digit of this value
-unfoldable pub one_digit : ℕ → Option ℕ
-one_digit a = cond (ltb 9 a) None (Some a)
-
 -- two digits of these values, "without a leading zero"
-unfoldable pub two_digits : ℕ → ℕ → Option ℕ
-two_digits a b = cond (ltb a 1) None (cond (ltb 9 a) None (cond (ltb 9 b) None (Some (a * 10 + b))))
+abbrev pub two_digits : Option ℕ → Option ℕ → Option ℕ
+two_digits (Some a) (Some b) = cond (ltb a 1) None (Some (a * 10 + b))
+two_digits (Some a) None = None
+two_digits None b = None
 
 -- the decimal number that some text is
 unfoldable pub read_decimal : List ℕ → Option ℕ
 read_decimal s =
-    cond (eqb (length s) 1) (one_digit (value_of (get_or s 0 0)))
+    cond (eqb (length s) 1) (value_of (get_or s 0 0))
     (cond (eqb (length s) 2) (two_digits (value_of (get_or s 0 0)) (value_of (get_or s 1 0))) None)
 
 -- the number of what reading finds: 6, "bench line not of its form"

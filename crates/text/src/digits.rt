@@ -1,45 +1,30 @@
 // Decimal numbers of one or two digits.
 ghost use Rattle.std.specs.Prelude.{◌≡◌};
 ghost use Rattle.wire.specs.Promise.{Promise};
-ghost use Rattle.text.specs.Digits.{value_of, one_digit, two_digits, read_decimal, decimal_number};
+ghost use Rattle.text.specs.Digits.{value_of, two_digits, read_decimal, decimal_number};
 
-// The value of a decimal digit; 10 where b is none.
+// The value of a decimal digit.
 #[tactic(auto, unfolding(crate::specs::Digits::value_of))]
-fn value(b: u8) -> u8
+fn value(b: u8) -> Option<u8>
     ensures { result ≡ value_of b }
 {
     if b.is_ascii_digit() {
-        return b - b'0';
+        Some(b - b'0')
+    } else {
+        None
     }
-    10
 }
 
-// A number of one digit, by that digit's value.
-#[tactic(auto, unfolding(crate::specs::Digits::one_digit))]
-fn one_digit(a: u8) -> Option<u8>
-    ensures { result ≡ one_digit a }
-{
-    if 9 < a {
-        return None;
-    }
-    Some(a)
-}
-
-// A number of two digits, by their values: the first isn't 0.
-#[tactic(auto, unfolding(crate::specs::Digits::two_digits))]
+// A number of two digits: the first isn't 0.
 fn two_digits(a: u8, b: u8) -> Option<u8>
-    ensures { result ≡ two_digits a b }
+    ensures { result ≡ two_digits (value_of a) (value_of b) }
 {
-    if a < 1 {
+    let tens = value(a)?;
+    let ones = value(b)?;
+    if tens < 1 {
         return None;
     }
-    if 9 < a {
-        return None;
-    }
-    if 9 < b {
-        return None;
-    }
-    Some(a * 10 + b)
+    Some(tens * 10 + ones)
 }
 
 // A decimal number of one or two digits, without a leading zero.
@@ -48,10 +33,10 @@ pub fn read_decimal(s: &[u8]) -> Option<u8>
     ensures { Promise decimal_number result (read_decimal s.now) }
 {
     if s.len() == 1 {
-        return one_digit(value(s[0]));
+        return value(s[0]);
     }
     if s.len() == 2 {
-        return two_digits(value(s[0]), value(s[1]));
+        return two_digits(s[0], s[1]);
     }
     None
 }

@@ -44,6 +44,7 @@ fn end_byte(ending: Ending) -> u8
 fn put_head_bytes(out: &mut [u8], end: u8, count: usize) -> usize
     ensures { WroteEach (head_bytes end count) 0 out.old result out.new }
 {
+    // By remainders: a cast to u16 asks that the number fits, and nothing here needs to know that it does.
     let low = (count % 256) as u8;
     let high = (count / 256 % 256) as u8;
     put_bytes(out, 0, &[wire::DONE, end, low, high])

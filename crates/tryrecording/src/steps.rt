@@ -32,6 +32,7 @@ fn put_step_bytes(out: &mut [u8], at: usize, line: u8, start: usize, long: usize
     requires { at ≤ 0x8000 }
     ensures { WroteEach (step_bytes line start long) at out.old result out.new }
 {
+    // By remainders: a cast to u16 asks that the number fits, and nothing here needs to know that it does.
     let start_low = (start % 256) as u8;
     let start_high = (start / 256 % 256) as u8;
     let long_low = (long % 256) as u8;

@@ -13,7 +13,7 @@ const FIXED: usize = 6;
 fn fits(times: u16, len: u8, tail: usize, most: usize) -> bool
     ensures { result ≡ nat_le (times * len + tail) most }
 {
-    // By `as`, and not by `usize::from`: behind its call the proof has no word of the product.
+    // By `as`, and not by the library's `from`: behind its call the proof has no word of the product.
     let copies = times as usize * len as usize;
     copies <= most && tail <= most - copies
 }

@@ -12,7 +12,7 @@ use crate::plain_sheet::Refused;
 /// The number of a collision, which no refusal has.
 const COLLISION: u8 = 13;
 
-/// Room for an answer of two to four cases, which carry a number or a refusal.
+/// Room for an answer of two or three cases, which carry a number or a refusal.
 #[repr(C)]
 struct Said {
     case: u8,
@@ -26,6 +26,31 @@ struct Delivered {
     case: u8,
     refusal: u8,
     delivery: Said,
+}
+
+/// What importing comes to: how many bytes there are, or in their place which
+/// error, and of a refusal which; then the line that is at fault.
+#[repr(C)]
+struct Imported {
+    case: u8,
+    bytes: usize,
+    line: usize,
+}
+
+/// A slice within a struct: where it starts and how long it is.
+#[repr(C)]
+struct Slice<T> {
+    start: *const T,
+    length: usize,
+}
+
+/// A recording as the proved code takes it: of each line the bytes and times.
+#[repr(C)]
+struct Taken {
+    command_bytes: Slice<u8>,
+    command_times: Slice<u32>,
+    reply_bytes: Slice<u8>,
+    reply_times: Slice<u32>,
 }
 
 /// How a walk through a recording ended, and the session then; with room to
@@ -75,7 +100,7 @@ extern "C" {
         reply_length: usize,
     );
     fn ours_import(
-        said: *mut Said,
+        imported: *mut Imported,
         sheet: *const u8,
         sheet_length: usize,
         out: *mut u8,
@@ -92,15 +117,17 @@ extern "C" {
         walked: *mut Walked,
         nodes: u8,
         kinds: *const [Kind; ENTRIES],
-        command: *const u8,
-        command_length: usize,
-        command_times: *const u32,
-        command_times_length: usize,
-        reply: *const u8,
-        reply_length: usize,
-        reply_times: *const u32,
-        reply_times_length: usize,
+        taken: *const Taken,
     );
+}
+
+impl<T> Slice<T> {
+    fn of(slice: &[T]) -> Slice<T> {
+        Slice {
+            start: slice.as_ptr(),
+            length: slice.len(),
+        }
+    }
 }
 
 impl Said {
@@ -190,23 +217,28 @@ pub fn rehearse(input: &[u8], output: &mut [u8]) -> Result<usize, u8> {
 
 /// `sheet::import`: how many bytes of packets, or the refusal.
 pub fn import(sheet: &[u8], out: &mut [u8]) -> Result<usize, Refused> {
-    let mut said = Said::NOTHING;
+    let mut imported = Imported {
+        case: 0,
+        bytes: 0,
+        line: 0,
+    };
     // SAFETY: as above.
     unsafe {
         ours_import(
-            &mut said,
+            &mut imported,
             sheet.as_ptr(),
             sheet.len(),
             out.as_mut_ptr(),
             out.len(),
         )
     };
-    match said.case {
-        0 => Ok(said.number),
-        1 => Err(Refused::with(said.refused())),
+    let [error, refusal, ..] = imported.bytes.to_le_bytes();
+    match (imported.case, error) {
+        (0, _) => Ok(imported.bytes),
+        (_, 0) => Err(Refused::with(number_of(refusal))),
         _ => Err(Refused {
             number: 14,
-            line: said.number,
+            line: imported.line,
         }),
     }
 }
@@ -233,27 +265,19 @@ pub fn export(packets: &[u8], out: &mut [u8]) -> Result<usize, Refused> {
 /// `recording::replay`.
 pub fn replay(nodes: u8, kinds: &[Kind; ENTRIES], commands: Capture, replies: Capture) -> Replayed {
     let mut walked = Walked::NOTHING;
-    // SAFETY: as above.
-    unsafe {
-        ours_replay(
-            &mut walked,
-            nodes,
-            kinds,
-            commands.bytes.as_ptr(),
-            commands.bytes.len(),
-            commands.times.as_ptr(),
-            commands.times.len(),
-            replies.bytes.as_ptr(),
-            replies.bytes.len(),
-            replies.times.as_ptr(),
-            replies.times.len(),
-        )
+    let taken = Taken {
+        command_bytes: Slice::of(commands.bytes),
+        command_times: Slice::of(commands.times),
+        reply_bytes: Slice::of(replies.bytes),
+        reply_times: Slice::of(replies.times),
     };
+    // SAFETY: as above.
+    unsafe { ours_replay(&mut walked, nodes, kinds, &taken) };
     let session = walked.session;
     Replayed {
         ending: match walked.said {
-            [0, _] => Ending::Ended,
-            [1, _] => Ending::Foreign,
+            [0, 0] => Ending::Ended,
+            [0, _] => Ending::Foreign,
             [_, refusal] => Ending::Refused(number_of(refusal)),
         },
         open: session.started,

@@ -16,16 +16,16 @@ use wire::Refusal;
 
 // What was captured on one line: bytes, and the time of each. Any two slices will do; `check` says whether they fit.
 #[derive(Clone, Copy)]
-pub struct Capture<'a> {
-    pub bytes: &'a [u8],
-    pub times: &'a [u32],
+pub struct Capture<'b, 't> {
+    pub bytes: &'b [u8],
+    pub times: &'t [u32],
 }
 
 // The captures of both lines.
 #[derive(Clone, Copy)]
-pub struct Recording<'a> {
-    pub command: Capture<'a>,
-    pub reply: Capture<'a>,
+pub struct Recording<'b, 't> {
+    pub command: Capture<'b, 't>,
+    pub reply: Capture<'b, 't>,
 }
 
 // How far a walk has come in each capture.
@@ -162,7 +162,7 @@ fn cut(s: &[u8], from: usize, end: usize) -> &[u8]
 }
 
 // The packet of the step at a cursor, its own bytes: a part of the command capture or of the reply capture.
-pub fn packet_at<'a>(taken: Recording<'a>, at: Cursor) -> &'a [u8]
+pub fn packet_at<'b>(taken: Recording<'b, '_>, at: Cursor) -> &'b [u8]
     ensures { Part (capture_by (of_times due_of taken.entry at) taken.entry.command.bytes taken.entry.reply.bytes) (start_by (of_times due_of taken.entry at) at) (of_lines packet_at taken.entry at) result }
 {
     let command = taken.command;

@@ -175,7 +175,7 @@ pub(crate) fn gather<'a>(
     line: Line,
     bytes: &'a mut [u8],
     times: &'a mut [u32],
-) -> Capture<'a> {
+) -> Capture<'a, 'a> {
     let mut count = 0;
     for words in runs.split_inclusive(|b| *b == NEWLINE) {
         if let Some(run) = read_run(text::first_line(words)) {

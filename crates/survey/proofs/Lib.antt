@@ -10,4 +10,5 @@ pub mod Flags
 pub mod Joining
 pub mod Refusals
 pub mod Lengths
+pub mod Surveying
 pub mod Unique

@@ -1,5 +1,5 @@
 -- The nodes of a set are gone through one by one, the first first: what is left to do after each.
-use Rattle.std.proofs.Common.{◌≡◌, ℕ, zero, suc, ◌-◌, ◌/◌, ◌%◌, ◌^◌, ◌<◌, ◌≤◌, Bool, true, false, cond, eqb, List, [], ◌∷◌, length, get_or, set, Some, None, w32, sym, refl, ap, ◌∙◌, ap₂, le_of_suc-le-suc, not-suc-le-zero, arith, eqb-true, pow_pos}
+use Rattle.std.proofs.Common.{◌≡◌, ℕ, zero, suc, ◌-◌, ◌/◌, ◌%◌, ◌^◌, ◌<◌, ◌≤◌, Bool, true, false, cond, eqb, ltb, List, [], ◌∷◌, length, get_or, set, Option, Some, None, w32, sym, refl, ap, ◌∙◌, ap₂, le_of_suc-le-suc, not-suc-le-zero, arith, eqb-true, ltb-false, ltb-true, pow_pos}
 use lib.Count.{count_trailing_zeros, under}
 use Rattle.std.proofs.lemmas.Nat.Bits.{bit_at-trailing_zeros}
 use Rattle.wire.proofs.Impossible.{impossible}
@@ -81,3 +81,54 @@ module _ (h : Messages) where
 -- ---- a set that has a first gets smaller
 pub fewer : (s i : ℕ) → first_of s ≡ Some i → without_first s < s
 fewer s i e = let f = first_is s i e in let p : 0 < 2 ^ lowest_of s = pow_pos (lowest_of s) in omega (arith, f.1, p)
+
+-- ---- the same by numbers, as a walk that counts has it: 32, which no set reaches, where there is no first
+abbrev pub numbered : Option ℕ → ℕ
+numbered None = 32
+numbered (Some i) = i
+
+-- a set spans no further than its digits, and than the table
+abbrev pub span_of : ℕ → ℕ
+span_of n = cond (ltb 32 n) 32 n
+
+span_both : (n : ℕ) (t : Bool) → ltb 32 n ≡ t → (cond t 32 n ≤ 32) × (cond t 32 n ≤ n)
+span_both n true e = (omega arith, omega (arith, ltb-true 32 n e))
+span_both n false e = (omega (arith, ltb-false 32 n e), omega arith)
+
+pub below_span : (i n : ℕ) → i < span_of n → (i < 32) × (i < n)
+below_span i n l =
+    let r = span_both n (ltb 32 n) refl in
+    (omega (arith, l, r.0), omega (arith, l, r.1))
+
+-- what lies past the span, and below 32, lies past the table
+past_span : (i n : ℕ) (t : Bool) → ltb 32 n ≡ t → cond t 32 n ≤ i → i < 32 → n ≤ i
+past_span i n true e p l = omega (arith, p, l)
+past_span i n false e p l = p
+
+module _ (h : Messages) (s : ℕ) (ws : List Node) where
+  pub visit_next : (d : Node) → numbered (first_of s) < 32 → numbered (first_of s) < length ws
+      → act_all h (without_first s) (set ws (numbered (first_of s)) (take_for h (get_or ws (numbered (first_of s)) d))) ≡ act_all h s ws
+  visit_next d = go (first_of s) refl
+    where
+      go : (o : Option ℕ) → first_of s ≡ o → numbered o < 32 → numbered o < length ws → act_all h (without_first s) (set ws (numbered o) (take_for h (get_or ws (numbered o) d))) ≡ act_all h s ws
+      go None e p q = absurd (omega (arith, p))
+      go (Some i) e p q =
+          let f = first_is s i e in
+          rw f.0 (next_in h 32 s ws d (rw f.0 at p) (rw f.0 at q))
+
+  pub visit_end : span_of (length ws) ≤ numbered (first_of s) → s < 2 ^ 32 → act_all h s ws ≡ ws
+  visit_end = go (first_of s) refl
+    where
+      go : (o : Option ℕ) → first_of s ≡ o → span_of (length ws) ≤ numbered o → s < 2 ^ 32 → act_all h s ws ≡ ws
+      go None e p l = visit_empty h s ws e
+      go (Some i) e p l =
+          let f = first_is s i e in
+          let b : i < 32 = rw f.0 (bit_at-trailing_zeros w32 s f.1 l).0 in
+          visit_past h s i ws e (past_span i (length ws) (ltb 32 (length ws)) refl p b)
+
+pub fewer_below : (s : ℕ) → numbered (first_of s) < 32 → without_first s < s
+fewer_below s = go (first_of s) refl
+  where
+    go : (o : Option ℕ) → first_of s ≡ o → numbered o < 32 → without_first s < s
+    go None e p = absurd (omega (arith, p))
+    go (Some i) e p = fewer s i e

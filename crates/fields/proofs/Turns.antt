@@ -6,8 +6,8 @@ use mathlib.Core.Path.{◌≡◌, refl, sym, ap, ◌∙◌}
 use native.Mathlib.Nat.{not-suc-le-zero, le_of_suc-le-suc, add_assoc, add-zero}
 use native.Mathlib.Numerals.{add-one}
 use native.Mathlib.Omega.{arith}
-use lib.ListN.{length, set, take, drop}
-use lib.Seq.{drop-drop}
+use lib.ListN.{length, get_or, set, take, drop, drop_of_length-le}
+use lib.Seq.{drop-cons, drop-drop}
 use borrow.Author.Tests.{not-true, not-false}
 use Rattle.std.specs.List.{fold}
 use Rattle.fields.specs.Record.{records_from, records_length, all_are, put_each}
@@ -79,7 +79,17 @@ module _ {A : Type 0} (long : List ℕ → ℕ) (read : List ℕ → A) where
   pub all_read : (n : ℕ) (s : List ℕ) (l : List A) (i at : ℕ) → Reading n s l i at → n ≤ i → length l ≤ i → l ≡ map read (records_from long n s)
   all_read n s l i at h le inside = sym (whole l i inside) ∙ rw (none long i n at s le) at h
 
--- putting all of an array is a fold over it
+-- putting all of an array: what is put, and then what the rest will give, is the answer
+module _ {A B : Type 0} (put : A → B → A) where
+  pub one_put : (l : List B) (a b w : A) (i : ℕ) (d : B) → put_each put a (drop i l) ≡ w → i < length l → b ≡ put a (get_or l i d) → put_each put b (drop (i + 1) l) ≡ w
+  unfolding put_each
+  one_put l a b w i d h lt e = rw (e, add-one i) (rw (drop-cons l i d lt) at h)
+
+  pub all_put : (l : List B) (a w : A) (i : ℕ) → put_each put a (drop i l) ≡ w → length l ≤ i → a ≡ w
+  unfolding put_each
+  all_put l a w i h le = rw (drop_of_length-le l {i = i} le) at h
+
+-- and a fold over it
 pub each_folded : {A B : Type 0} (put : A → B → A) (a : A) (l : List B) → fold put a l ≡ put_each put a l
 unfolding put_each
 each_folded put a [] = refl

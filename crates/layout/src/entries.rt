@@ -221,5 +221,10 @@ fn put_entry(a: Answer, e: Entry) -> Answer
 pub fn put_entries(a: Answer, entries: [Entry; ENTRIES]) -> Answer
     ensures { result ≡ put_entries a entries }
 {
-    entries.iter().fold(a, |all, e| put_entry(all, *e))
+    // By `for`, as in `Answer::put_all`.
+    let mut all = a;
+    for e in &entries {
+        all = put_entry(all, *e);
+    }
+    all
 }

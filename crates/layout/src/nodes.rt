@@ -228,5 +228,10 @@ fn put_node(a: Answer, n: Node) -> Answer
 pub fn put_nodes(a: Answer, nodes: [Node; MOST_LENT], count: usize) -> Answer
     ensures { result ≡ put_nodes a nodes count }
 {
-    nodes.iter().take(count).fold(a, |all, n| put_node(all, *n))
+    // By `for`, as in `Answer::put_all`.
+    let mut all = a;
+    for n in &nodes[..count.min(MOST_LENT)] {
+        all = put_node(all, *n);
+    }
+    all
 }

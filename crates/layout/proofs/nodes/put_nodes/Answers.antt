@@ -1,13 +1,22 @@
--- The fold over the first of the nodes.
-use Rattle.std.proofs.Common.{rules, tests, take, ◌∙◌}
-use Rattle.std.proofs.lemmas.Iterator.{YieldsList-from_slice, YieldsList-from_take}
-use Rattle.std.proofs.lemmas.Iterator.Consumers.{fold_from_yields_List}
-use Rattle.fields.proofs.Turns.{each_folded}
+-- Node by node.
+use Rattle.std.proofs.Common.{◌≡◌, ℕ, List, length, take, rules, ap, ◌∙◌}
+use Rattle.std.proofs.lemmas.List.{take_min}
+use Prim.Native.Nat.{min}
+use Rattle.fields.specs.Record.{put_each}
+use Rattle.fields.proofs.Turns.{one_put, all_put}
+use Rattle.node.specs.declared.state.Node.{Node}
 use Rattle.layout.specs.Nodes.{put_node, put_nodes}
 use Rattle.layout.proofs.nodes.put_nodes.Goals as goal
+
+-- a count past the array shows all of it
+shown : (m n : ℕ) (l : List Node) → length l ≡ 33 → m ≡ min n 33 → take m l ≡ take n l
+shown m n l h e = let t : take (min n 33) l ≡ take n l = rw h at (take_min n l) in rw e t
+
+pub loop-n-preserved : goal.loop-n-preserved
+loop-n-preserved c = search (one_put, rules)
 
 pub returns : goal.returns
 unfolding put_nodes
 returns c =
-    fold_from_yields_List _ put_node _ _ c.fold.ensures.ran (YieldsList-from_take c.args.count (YieldsList-from_slice c.args.nodes cc) cc) (λ a x b q k. search (rules, tests))
-    ∙ each_folded put_node c.args.a (take c.args.count c.args.nodes)
+    all_put put_node (take c.min.result c.args.nodes) _ _ _ c.loop-n.invariant c.loop-n-test.false
+    ∙ ap (put_each put_node c.args.a) (shown c.min.result c.args.count c.args.nodes (search rules) c.min.ensures)

@@ -14,11 +14,12 @@ use Rattle.wire.specs.declared.address.Address.{Address}
 use Rattle.wire.specs.declared.kind.Kind.{Kind}
 use Rattle.wire.specs.declared.kind.Kind.TheVariants.{Gate}
 use Rattle.command.specs.declared.Command.{Command}
+use Rattle.command.specs.declared.Command.TheVariants.{HardReset}
 use Rattle.status.specs.declared.Answer.{Answer}
 use Rattle.entry.specs.declared.Entry.{Entry}
 use Rattle.entry.specs.declared.Reach.{Reach}
-use Rattle.entry.specs.Entry.{entry_power_up, note_of}
-use Rattle.ledger.specs.Ledger.{all_gates, telling, ledger_power_up, ledger_least, reach_of, each_from, settling, settle_of, any_from}
+use Rattle.entry.specs.Entry.{entry_power_up, note_of, doubt_of}
+use Rattle.ledger.specs.Ledger.{all_gates, telling, ledger_power_up, ledger_least, reach_of, each_from, settling, settle_of, forget_of, any_from}
 
 capped : (t : Bool) (n : ℕ) → ltb 31 n ≡ t → cond t 31 n ≤ 31
 capped true n h = omega arith
@@ -85,6 +86,24 @@ pub settle_end : (a : Answer) (to : Address) (c : Command) (n i : ℕ) (es l : L
     → l ≡ each_from (settling a to c) 1 i es → l ≡ settle_of a to c n es
 unfolding settle_of
 settle_end a to c n i es l p q = q ∙ ap (λ (m : ℕ). each_from (settling a to c) 1 m es) p
+
+-- a rule that is the same for all nodes, over all of them
+pub each_map : (f : Entry → Entry) (j : ℕ) (es : List Entry) → each_from (λ k. f) j (length es) es ≡ map f es
+unfolding each_from
+each_map f j [] = refl
+each_map f j (e ∷ es) = ap (λ (t : List Entry). f e ∷ t) (each_map f (suc j) es)
+
+-- a turn of `forget`, and its end: all that a node holds goes into doubt, whichever it is
+abbrev pub forgetting : ℕ → Entry → Entry
+forgetting k e = doubt_of HardReset e
+
+pub forget_turn : (i : ℕ) (es l : List Entry) (e d : Entry) → l ≡ each_from forgetting 1 i es → e ≡ doubt_of HardReset (get_or l i d) → i < length es
+    → set l i e ≡ each_from forgetting 1 (i + 1) es
+forget_turn i es l e d p f h = rw (f, p) (one_more forgetting i es d h)
+
+pub forget_end : (i : ℕ) (es l : List Entry) → i ≡ length es → l ≡ each_from forgetting 1 i es → l ≡ forget_of es
+unfolding forget_of
+forget_end i es l p q = q ∙ ap (λ (m : ℕ). each_from forgetting 1 m es) p ∙ each_map (doubt_of HardReset) 1 es
 
 -- a search: where it starts; one is found; a turn; none is found
 pub any_start : (f : ℕ → Entry → Bool) (m end : ℕ) (es : List Entry) → end ≡ m → any_from f (0 + 1) (end - 0) (drop 0 es) ≡ any_from f 1 m es

@@ -90,7 +90,12 @@ pub fn settle(
 pub fn forget(entries: [Entry; MOST_NODES]) -> [Entry; MOST_NODES]
     ensures { result ≡ forget_of entries }
 {
-    entries.map(|e| e.doubt(Command::HardReset))
+    // By index, as `settle`: an array's `map` keeps both arrays, and more, in the frame of whoever sends.
+    let mut all = entries;
+    for i in 0..MOST_NODES {
+        all[i] = all[i].doubt(Command::HardReset);
+    }
+    all
 }
 
 // Whether one of nodes 1 to n passes a test of its number and its entry.

@@ -59,23 +59,25 @@ fn idle_at(s: Session, walk: u8, entries: [Entry; MOST_NODES]) -> Session
 fn noted(s: Session, to: Address, c: Command, answer: Answer) -> Session
     ensures { result ≡ noted_of s to c answer }
 {
+    // Taken out once: read from the session at each call, it has a place in the frame for each.
+    let entries = s.entries;
     match answer {
-        Answer::Marked => idle_at(s, s.walk, s.entries),
+        Answer::Marked => idle_at(s, s.walk, entries),
         Answer::Silent => {
-            let doubted = ledger::settle(s.entries, s.n, to, c, Answer::Silent);
+            let doubted = ledger::settle(entries, s.n, to, c, Answer::Silent);
             idle_at(s, s.walk, doubted)
         }
         Answer::Clear => {
             if is_giving(s, to, c) {
-                let given = ledger::settle(s.entries, s.n, to, c, Answer::Clear);
+                let given = ledger::settle(entries, s.n, to, c, Answer::Clear);
                 return idle_at(s, s.walk + 1, given);
             }
             if is_asking(s, to, c) {
                 let asked = Command::SetAddress(given_place(s.walk + 1));
-                let given = ledger::settle(s.entries, s.n, to, asked, Answer::Clear);
+                let given = ledger::settle(entries, s.n, to, asked, Answer::Clear);
                 return idle_at(s, s.walk + 1, given);
             }
-            let noted = ledger::settle(s.entries, s.n, to, c, Answer::Clear);
+            let noted = ledger::settle(entries, s.n, to, c, Answer::Clear);
             idle_at(s, s.walk, noted)
         }
     }
@@ -95,7 +97,8 @@ fn is_telling(to: Address, c: Command) -> bool
 fn told(s: Session, at: u8, to: Address) -> Session
     ensures { result ≡ told_of s at to }
 {
-    let heard = ledger::settle(s.entries, s.n, to, Command::SetBaudRate(at), Answer::Clear);
+    let entries = s.entries;
+    let heard = ledger::settle(entries, s.n, to, Command::SetBaudRate(at), Answer::Clear);
     idle_at(s, s.walk, heard)
 }
 

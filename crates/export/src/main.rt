@@ -1,6 +1,8 @@
 // The program `export`: packets back to back on standard input, their sheet on standard output; or why not, in a line on standard error.
 #![tactic(auto)]
 
+ghost use Rattle.std.specs.Prelude.{◌≡◌, length};
+
 use std::io;
 use wire::Refusal;
 
@@ -10,8 +12,21 @@ const MOST_PACKETS: usize = 65536;
 // One byte more, which tells that they are more.
 const PACKETS: usize = MOST_PACKETS + 1;
 
+// A function, so that a contract says how long it is; so are the rooms below.
+fn packets_room() -> [u8; PACKETS]
+    ensures { 65537 ≡ length result }
+{
+    reading::room()
+}
+
 // Room for their sheet: a line has three characters for each byte of its packet, less two (sheet/proofs/Lengths).
 const SHEET: usize = 3 * MOST_PACKETS;
+
+fn sheet_room() -> [u8; SHEET]
+    ensures { 196608 ≡ length result }
+{
+    reading::room()
+}
 
 // The number of the first packet that doesn't read, from 1.
 fn first_fault(packets: &[u8]) -> usize {
@@ -41,8 +56,8 @@ fn say_fault(rt: &impl Eprint, packets: &[u8], why: Refusal) -> io::Result<()> {
 }
 
 fn main(rt: HostRuntime) -> io::Result<()> {
-    let mut input = reading::room::<PACKETS>();
-    let mut sheet = reading::room::<SHEET>();
+    let mut input = packets_room();
+    let mut sheet = sheet_room();
     let n = reading::read_full(&mut rt.stdin(), &mut input)?;
     if MOST_PACKETS < n {
         return rt.eprintln("more than 64 KiB of packets");

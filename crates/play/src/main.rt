@@ -2,7 +2,7 @@
 // or why not, in a line on standard error.
 #![tactic(auto)]
 
-ghost use Rattle.std.specs.Prelude.{◌≤◌, ◌<◌, length};
+ghost use Rattle.std.specs.Prelude.{◌≡◌, ◌≤◌, ◌<◌, length};
 
 use sheet::ImportError;
 use std::io;
@@ -11,17 +11,42 @@ use wire::MOST_NODES;
 // The bench's longest input.
 const MOST_SCRIPT: usize = 65536;
 
+// A function, so that a contract says how long it is; so are the rooms below.
+fn script_room() -> [u8; MOST_SCRIPT]
+    ensures { 65536 ≡ length result }
+{
+    reading::room()
+}
+
 // The most bytes of packets that it has room for: a line has three characters for each byte, and the count's line has at most three.
 const MOST_BYTES: usize = (MOST_SCRIPT - 3) / 3;
 
 // Room for the count's line, the longest sheet, and one byte more, which tells that it is longer.
 const INPUT: usize = 3 + sheet::MOST + 1;
 
+fn input_room() -> [u8; INPUT]
+    ensures { 65540 ≡ length result }
+{
+    reading::room()
+}
+
 // Room for the packets of any sheet: a packet is no longer than its line (sheet/proofs/Lengths).
 const PACKETS: usize = sheet::MOST;
 
+fn packets_room() -> [u8; PACKETS]
+    ensures { 65536 ≡ length result }
+{
+    reading::room()
+}
+
 // Room for the bench's longest output (script/proofs/Bound).
 const OUTPUT: usize = 655360;
+
+fn output_room() -> [u8; OUTPUT]
+    ensures { 655360 ≡ length result }
+{
+    reading::room()
+}
 
 // Whether a line is a node count as the bench takes it.
 fn is_count(line: &[u8]) -> bool {
@@ -73,8 +98,8 @@ fn rehearse(rt: &(impl Print + Eprint), count: &[u8], packets: &[u8]) -> io::Res
     if MOST_BYTES < packets.len() {
         return rt.eprintln("more than 64 KiB in the bench's form");
     }
-    let mut script = reading::room::<MOST_SCRIPT>();
-    let mut output = reading::room::<OUTPUT>();
+    let mut script = script_room();
+    let mut output = output_room();
     let end = put_script(&mut script, count, packets);
     match script::rehearse(text::first(&script, end), &mut output) {
         Ok(n) => rt.write_all(text::first(&output, n)),
@@ -85,7 +110,7 @@ fn rehearse(rt: &(impl Print + Eprint), count: &[u8], packets: &[u8]) -> io::Res
 
 // Plays a sheet, with the count's line.
 fn play(rt: &(impl Print + Eprint), count: &[u8], sheet: &[u8]) -> io::Result<()> {
-    let mut packets = reading::room::<PACKETS>();
+    let mut packets = packets_room();
     match sheet::import(sheet, &mut packets) {
         Ok(n) => rehearse(rt, count, text::first(&packets, n)),
         Err(ImportError::Line(line)) => eprintln!(rt; "line {line}: not a HEX line"),
@@ -95,7 +120,7 @@ fn play(rt: &(impl Print + Eprint), count: &[u8], sheet: &[u8]) -> io::Result<()
 }
 
 fn main(rt: HostRuntime) -> io::Result<()> {
-    let mut room = reading::room::<INPUT>();
+    let mut room = input_room();
     let n = reading::read_full(&mut rt.stdin(), &mut room)?;
     let input = &room[..n];
     let line = text::first_line(input);

@@ -24,6 +24,13 @@ const MOST: usize = 65536;
 // One byte more, which tells that it is longer.
 const INPUT: usize = MOST + 1;
 
+// A function, so that a contract says how long it is.
+fn input_room() -> [u8; INPUT]
+    ensures { 65537 ≡ length result }
+{
+    reading::room()
+}
+
 // The most bytes that it has on a line: each has two digits and a space before them.
 const MOST_BYTES: usize = MOST / 3;
 
@@ -57,7 +64,7 @@ fn check_and_walk(rt: &(impl Print + Eprint), nodes: Nodes, text: &[u8]) -> io::
 }
 
 fn main(rt: HostRuntime) -> io::Result<()> {
-    let mut room = reading::room::<INPUT>();
+    let mut room = input_room();
     let size = reading::read_full(&mut rt.stdin(), &mut room)?;
     if MOST < size {
         return eprintln!(&rt; "the recording is longer than 64 KiB");

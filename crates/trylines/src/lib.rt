@@ -30,10 +30,29 @@ const BYTES: usize = 21846;
 // Room for the line of the longest answer.
 const LINE: usize = 3 * fields::MOST_BYTES;
 
+// A function, so that a contract says how long it is; so are the rooms below.
+fn line_room() -> [u8; LINE]
+    ensures { 6633 ≡ length result }
+{
+    reading::room()
+}
+
 // Room for the answer to a recording, which is longer than all others, and for its line.
 const RECORDING: usize = tryrecording::MOST_BYTES;
 
+fn recording_room() -> [u8; RECORDING]
+    ensures { 11817 ≡ length result }
+{
+    reading::room()
+}
+
 const RECORDING_LINE: usize = 3 * RECORDING;
+
+fn recording_line_room() -> [u8; RECORDING_LINE]
+    ensures { 35451 ≡ length result }
+{
+    reading::room()
+}
 
 // Writes bytes as a line, which `line` has room for.
 fn show_bytes(rt: &impl Print, bytes: &[u8], line: &mut [u8]) -> io::Result<()> {
@@ -46,14 +65,14 @@ fn show_bytes(rt: &impl Print, bytes: &[u8], line: &mut [u8]) -> io::Result<()> 
 // Writes an answer as a line.
 fn show(rt: &impl Print, a: Answer) -> io::Result<()> {
     let bytes = a.bytes;
-    let mut line = reading::room::<LINE>();
+    let mut line = line_room();
     show_bytes(rt, text::first(&bytes, a.length), &mut line)
 }
 
 // Tries a recording, and writes its answer.
 fn try_recording(rt: &impl Print, args: &[u8]) -> io::Result<()> {
-    let mut bytes = reading::room::<RECORDING>();
-    let mut line = reading::room::<RECORDING_LINE>();
+    let mut bytes = recording_room();
+    let mut line = recording_line_room();
     let n = tryrecording::replay(args, &mut bytes);
     show_bytes(rt, text::first(&bytes, n), &mut line)
 }

@@ -25,11 +25,11 @@ fn show(
     lent: &[u8; 5],
 ) -> io::Result<()> {
     let Case { what, a, b } = case;
-    print!(rt; "{what} {a:02X} {b:02X}:{number:02X} {length:02X}")?;
-    for byte in lent {
-        print!(rt; " {byte:02X}")?;
-    }
-    rt.println("")
+    let [v, w, x, y, z] = lent;
+    // One line, one write.
+    println!(rt;
+        "{what} {a:02X} {b:02X}:{number:02X} {length:02X} {v:02X} {w:02X} {x:02X} {y:02X} {z:02X}"
+    )
 }
 
 // A session made by hand: it counts as closed if n is above 31 or the walk past n.

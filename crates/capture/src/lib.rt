@@ -100,7 +100,11 @@ pub fn check(taken: Recording) -> Result<(), Refusal>
     if !(is_even(taken.command) & is_even(taken.reply)) {
         return Err(Refusal::Uneven);
     }
-    if !(is_rising(taken.command.times) & is_rising(taken.reply.times)) {
+    // One after the other: the replies' times are gone through only where the commands' rise.
+    if !is_rising(taken.command.times) {
+        return Err(Refusal::Backward);
+    }
+    if !is_rising(taken.reply.times) {
         return Err(Refusal::Backward);
     }
     Ok(())
